@@ -1,0 +1,2 @@
+-- What the contract of `md5_c_digest` cites.
+pub mod Output
