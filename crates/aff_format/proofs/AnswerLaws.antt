@@ -1,0 +1,50 @@
+-- Laws of answers and of checks in order. Assumes nothing.
+use mathlib.Core.Path.{_≡_, refl}
+use mathlib.Core.Bool.{Bool, true, false}
+use mathlib.Core.List.{List, [], _∷_, _++_}
+use Prim.Native.Nat.{ℕ}
+use native.Mathlib.Omega.{arith}
+use Rattle.aff_format.specs.declared.refusal.Told.{Told}
+use Rattle.aff_format.specs.Answer.{Answer, accepted, refused, Check, check, unless, firstWrong, Clear}
+
+-- No answer is both accepted and refused.
+pub not-both : {A X : Type 0} {a : A} {r : Told} → refused r ≡ accepted a → X
+not-both e = let z : _≡_ {A = ℕ} 0 1 = cc in absurd (omega arith)
+
+-- An accepted call: nothing was wrong, and the value is the call's.
+pub passed : {A : Type 0} (checks : List Check) (a : A) {b : A} → firstWrong checks a ≡ accepted b → Clear checks
+passed [] a e = tt
+passed (check true r ∷ checks) a e = not-both e
+passed (check false r ∷ checks) a e = (refl, passed checks a e)
+
+pub passed-value : {A : Type 0} (checks : List Check) (a : A) {b : A} → firstWrong checks a ≡ accepted b → a ≡ b
+passed-value [] a e = cc
+passed-value (check true r ∷ checks) a e = not-both e
+passed-value (check false r ∷ checks) a e = passed-value checks a e
+
+-- And back: where nothing is wrong, the call is accepted.
+pub clear-accepts : {A : Type 0} (checks : List Check) (a : A) → Clear checks → firstWrong checks a ≡ accepted a
+clear-accepts [] a h = refl
+clear-accepts (check wrong r ∷ checks) a h = rw (h .0) (clear-accepts checks a (h .1))
+
+-- The first check that finds something wrong is the one that is told.
+pub first-told : {A : Type 0} (before : List Check) (r : Told) (checks : List Check) (a : A) → Clear before
+    → firstWrong (before ++ (check true r ∷ checks)) a ≡ refused r
+first-told [] r checks a h = refl
+first-told (check wrong q ∷ before) r checks a h = rw (h .0) (first-told before r checks a (h .1))
+
+-- A refusal is that of a check that finds something wrong, and no check before it does.
+pub data FirstIs : List Check → Told → Type 0 where
+  here : {r : Told} {checks : List Check} → FirstIs (check true r ∷ checks) r
+  later : {q r : Told} {checks : List Check} → FirstIs checks r → FirstIs (check false q ∷ checks) r
+
+pub refused-by : {A : Type 0} (checks : List Check) (a : A) {r : Told} → firstWrong checks a ≡ refused r → FirstIs checks r
+refused-by [] a e = let z : _≡_ {A = ℕ} 0 1 = cc in absurd (omega arith)
+refused-by (check true q ∷ checks) a {r} e = let p : q ≡ r = cc in rw p here
+refused-by (check false q ∷ checks) a e = later (refused-by checks a e)
+
+-- The checks do not look at the value.
+pub same-refusal : {A B : Type 0} (checks : List Check) (a : A) (b : B) {r : Told} → firstWrong checks a ≡ refused r → firstWrong checks b ≡ refused r
+same-refusal [] a b e = let z : _≡_ {A = ℕ} 0 1 = cc in absurd (omega arith)
+same-refusal (check true q ∷ checks) a b e = cc
+same-refusal (check false q ∷ checks) a b e = same-refusal checks a b e

@@ -1,0 +1,36 @@
+-- What a call hands back: document 01, 'Numbers handed back'.
+use mathlib.Core.Path.{_≡_}
+use mathlib.Core.Bool.{Bool, true, false}
+use mathlib.Core.List.{List, [], _∷_}
+use Prim.Native.Nat.{ℕ}
+use Rattle.aff_format.specs.declared.refusal.Told.{Told}
+
+-- A refusal that tells its number, and one that tells a place. (The place in a name that 10 tells besides is 0 before request C-18.)
+abbrev pub refusal : ℕ → Told
+refusal n = record { number = n; place = 0; second = 0 }
+
+abbrev pub refusalAt : ℕ → ℕ → Told
+refusalAt n p = record { number = n; place = p; second = 0 }
+
+-- An accepted call's value, or a refusal.
+pub data Answer (A : Type 0) : Type 0 where
+  accepted : A → Answer A
+  refused : Told → Answer A
+
+-- A check: whether something is wrong, and what is then told.
+pub data Check : Type 0 where
+  check : Bool → Told → Check
+
+abbrev pub unless : {A : Type 0} → Bool → Told → Answer A → Answer A
+unless true r next = refused r
+unless false r next = next
+
+-- Document 01, 'Order': the first check that finds something wrong refuses; where none does, the call's value.
+abbrev pub firstWrong : {A : Type 0} → List Check → A → Answer A
+firstWrong [] v = accepted v
+firstWrong (check wrong r ∷ checks) v = unless wrong r (firstWrong checks v)
+
+-- None of the checks finds anything wrong.
+abbrev pub Clear : List Check → Type 0
+Clear [] = Unit {0}
+Clear (check wrong r ∷ checks) = (wrong ≡ false) × Clear checks

@@ -1,0 +1,57 @@
+-- The subkey rule of an edition: document 01, 'Layout of a file'.
+use mathlib.Core.Bool.{Bool, true, false, cond, _&&_, _||_}
+use mathlib.Core.List.{List, [], _∷_}
+use Prim.Native.Nat.{ℕ, _+_}
+use lib.Dec.{eqb, leb}
+use Rattle.aff_format.specs.declared.edition.Edition.{Edition}
+use Rattle.aff_format.specs.declared.edition.Edition.the-variants.{One, Two}
+use Rattle.aff_format.specs.declared.subkey.Grammar.{Grammar}
+use Rattle.aff_format.specs.declared.subkey.Grammar.the-variants.{Sound, BreaksAt}
+
+-- A-Z, a-z.
+abbrev pub isLetter : ℕ → Bool
+isLetter x = (leb 65 x && leb x 90) || (leb 97 x && leb x 122)
+
+-- 0-9.
+abbrev pub isDigit : ℕ → Bool
+isDigit x = leb 48 x && leb x 57
+
+-- A letter, `_` or `:`.
+unfoldable pub narrowFirst : ℕ → Bool
+narrowFirst x = isLetter x || (eqb x 95 || eqb x 58)
+
+-- A byte that may begin one, a digit, `.` or `-`.
+unfoldable pub narrowNext : ℕ → Bool
+narrowNext x = narrowFirst x || (isDigit x || (eqb x 46 || eqb x 45))
+
+-- Whether a byte may begin a subkey, and whether it may stand behind its first byte.
+abbrev pub mayBegin : Edition → ℕ → Bool
+mayBegin One x = narrowFirst x
+mayBegin Two x = narrowFirst x
+
+abbrev pub mayFollow : Edition → ℕ → Bool
+mayFollow One x = narrowNext x
+mayFollow Two x = narrowNext x
+
+-- The bytes behind the first, from place at on: the first that breaks the rule.
+unfoldable pub restOfSubkey : Edition → ℕ → List ℕ → Grammar
+restOfSubkey e at [] = Sound
+restOfSubkey e at (x ∷ l) = cond (mayFollow e x) (restOfSubkey e (at + 1) l) (BreaksAt at)
+
+-- A subkey that begins at place at: the place of the first byte that breaks the rule, or, where it is empty, at.
+unfoldable pub subkeyFrom : Edition → ℕ → List ℕ → Grammar
+subkeyFrom e at [] = BreaksAt at
+subkeyFrom e at (x ∷ l) = cond (mayBegin e x) (restOfSubkey e (at + 1) l) (BreaksAt at)
+
+abbrev pub isSound : Grammar → Bool
+isSound Sound = true
+isSound (BreaksAt place) = false
+
+-- Whether l is a subkey.
+abbrev pub isSubkey : Edition → List ℕ → Bool
+isSubkey e l = isSound (subkeyFrom e 0 l)
+
+-- What is found in a run that begins at place at, from what is found in it alone.
+abbrev pub shifted : ℕ → Grammar → Grammar
+shifted at Sound = Sound
+shifted at (BreaksAt place) = BreaksAt (at + place)

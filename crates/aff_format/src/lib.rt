@@ -1,0 +1,29 @@
+// The vocabulary of the AFF format: what opening, reading and writing share, and nothing that knows of a record or a lent area.
+pub mod section; // the three sections
+pub mod edition; // the layout of each edition
+pub mod kind; // the types of a node
+pub mod refusal; // the numbers handed back
+pub mod limits; // the sizes that the library takes
+pub mod verdict; // the answer of a call without a value
+pub mod lowest; // the lowest number of which something holds
+pub mod bytes; // runs of bytes compared
+pub mod number; // numbers in a file
+pub mod element; // one element of a node's data
+pub mod subkey; // the rule for a subkey
+pub mod path; // the grammar of a path
+pub mod entry; // tree entries
+
+pub use edition::Edition;
+pub use edition::FoundEdition;
+pub use element::Element;
+pub use element::ElementAnswer;
+pub use entry::Entry;
+pub use entry::FoundEntry;
+pub use kind::FoundKind;
+pub use kind::Kind;
+pub use lowest::Lowest;
+pub use refusal::Refusal;
+pub use refusal::Told;
+pub use section::Section;
+pub use subkey::Grammar;
+pub use verdict::Verdict;

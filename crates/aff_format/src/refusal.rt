@@ -1,0 +1,146 @@
+// The numbers handed back: document 01, 'Numbers handed back'.
+use crate::section::Section;
+ghost use mathlib.Core.Path.{_≡_};
+ghost use Rattle.aff_format.specs.Answer.{refusal, refusalAt};
+ghost use Rattle.aff_format.specs.Refusal.{toldRefusal, numberOf, placeOf, secondOf};
+
+// A case for each row of the table, with what it tells.
+pub enum Refusal {
+    // A lent area or the 12 bytes has another length, or the image is too long.
+    LentLength,
+    // The image is shorter than its edition's header.
+    ShortImage,
+    // The signature text is none of an edition.
+    UnknownText,
+    // The other 12 signature bytes differ from those lent.
+    WrongForm,
+    // The header sum is wrong.
+    WrongHeaderSum,
+    // A section ends past the image.
+    SectionOutside(Section),
+    // The sum of a section is wrong.
+    WrongSectionSum(Section),
+    // The symbol table is not ended by zero, has too many strings, another count, or a string twice.
+    BadSymbolTable,
+    // An entry is cut short, of no type or one too many; 0: the count differs.
+    BadTreeTable(usize),
+    // A node's parent or string does not exist, or its string is no subkey; the place in the string.
+    BadLink(usize, usize),
+    // A node's climb does not reach the root.
+    EndlessClimb(usize),
+    // A lower sibling of a node has its name.
+    RepeatedName(usize),
+    // A node's data are not inside the data section.
+    DataOutside(usize),
+    // A path or subkey is malformed; the place in it.
+    Malformed(usize),
+    // There is no such key or node number.
+    Absent,
+    // The element index is not below the count.
+    IndexTooLarge,
+    // The child exists already.
+    ChildExists,
+    // A put to the root or to a node that has data.
+    DataTaken,
+    // The type is not 2 to 5, or the length no multiple of the element.
+    WrongData,
+    // One node or string too many, or text past its area.
+    TooMany,
+    // The room is below the least, the finished size passes it, or the output is too short.
+    NoRoom,
+    // The writer is closed or stopped.
+    NotOpen,
+    // The allowance is smaller than the stores needed; the stores made.
+    AllowanceSpent(usize),
+    // The record does not belong to what is lent.
+    WrongRecord,
+}
+
+// A refusal as it is told: its number, its place, and the place in the name that 10 tells besides.
+pub struct Told {
+    pub number: u32,
+    pub place: usize,
+    pub second: usize,
+}
+
+fn alone(number: u32) -> Told
+    ensures { λ r. ⌜ r ≡ refusal number ⌝ }
+{
+    Told {
+        number,
+        place: 0,
+        second: 0,
+    }
+}
+
+fn with_place(number: u32, place: usize) -> Told
+    ensures { λ r. ⌜ r ≡ refusalAt number place ⌝ }
+{
+    Told {
+        number,
+        place,
+        second: 0,
+    }
+}
+
+impl Refusal {
+    // The row of the table.
+    pub fn told(self) -> Told
+        ensures { λ r. ⌜ r ≡ toldRefusal self ⌝ }
+    {
+        match self {
+            Refusal::LentLength => alone(1),
+            Refusal::ShortImage => alone(2),
+            Refusal::UnknownText => alone(3),
+            Refusal::WrongForm => alone(4),
+            Refusal::WrongHeaderSum => alone(5),
+            Refusal::SectionOutside(section) => with_place(6, section.number()),
+            Refusal::WrongSectionSum(section) => with_place(7, section.number()),
+            Refusal::BadSymbolTable => alone(8),
+            Refusal::BadTreeTable(entry) => with_place(9, entry),
+            Refusal::BadLink(node, in_name) => Told {
+                number: 10,
+                place: node,
+                second: in_name,
+            },
+            Refusal::EndlessClimb(node) => with_place(11, node),
+            Refusal::RepeatedName(node) => with_place(12, node),
+            Refusal::DataOutside(node) => with_place(13, node),
+            Refusal::Malformed(place) => with_place(14, place),
+            Refusal::Absent => alone(15),
+            Refusal::IndexTooLarge => alone(16),
+            Refusal::ChildExists => alone(17),
+            Refusal::DataTaken => alone(18),
+            Refusal::WrongData => alone(19),
+            Refusal::TooMany => alone(20),
+            Refusal::NoRoom => alone(21),
+            Refusal::NotOpen => alone(22),
+            Refusal::AllowanceSpent(made) => with_place(23, made),
+            Refusal::WrongRecord => alone(24),
+        }
+    }
+
+    // Column 'No.'.
+    pub fn number(self) -> u32
+        ensures { λ r. ⌜ r ≡ numberOf self ⌝ }
+    {
+        let told = self.told();
+        told.number
+    }
+
+    // Column 'Place told'.
+    pub fn place(self) -> usize
+        ensures { λ r. ⌜ r ≡ placeOf self ⌝ }
+    {
+        let told = self.told();
+        told.place
+    }
+
+    // The place in the name that 10 tells besides its node.
+    pub fn second_place(self) -> usize
+        ensures { λ r. ⌜ r ≡ secondOf self ⌝ }
+    {
+        let told = self.told();
+        told.second
+    }
+}
