@@ -48,3 +48,16 @@ pub same-refusal : {A B : Type 0} (checks : List Check) (a : A) (b : B) {r : Tol
 same-refusal [] a b e = let z : _≡_ {A = ℕ} 0 1 = cc in absurd (omega arith)
 same-refusal (check true q ∷ checks) a b e = cc
 same-refusal (check false q ∷ checks) a b e = same-refusal checks a b e
+
+-- Checks and more checks behind them: a refusal of the first stands; where they pass, the others decide.
+pub refused-before : {A B : Type 0} (before after : List Check) (a : A) (b : B) {t : Told} → firstWrong before a ≡ refused t
+    → firstWrong (before ++ after) b ≡ refused t
+refused-before [] after a b e = let z : _≡_ {A = ℕ} 0 1 = cc in absurd (omega arith)
+refused-before (check true q ∷ before) after a b e = cc
+refused-before (check false q ∷ before) after a b e = refused-before before after a b e
+
+pub passed-before : {A B : Type 0} (before after : List Check) (a : A) (b : B) {c : A} → firstWrong before a ≡ accepted c
+    → firstWrong (before ++ after) b ≡ firstWrong after b
+passed-before [] after a b e = refl
+passed-before (check true q ∷ before) after a b e = not-both e
+passed-before (check false q ∷ before) after a b e = passed-before before after a b e

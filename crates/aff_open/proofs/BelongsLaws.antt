@@ -1,0 +1,261 @@
+-- 24 as a test and as document 01's clauses: each says what the other says. And what a call that passes 24 knows of strings, entries and
+-- climbs. Assumes nothing.
+use mathlib.Core.Path.{_≡_, refl, sym, ap, _∙_}
+use mathlib.Core.Bool.{Bool, true, false, not, _&&_, false≢true, and-eq-true-iff, and-assoc, and-false}
+use mathlib.Core.List.{List}
+use Prim.Native.Nat.{ℕ, zero, suc, _+_, _-_, _≤_, _<_}
+use native.Mathlib.Omega.{arith}
+use lib.Dec.{eqb, leb}
+use lib.ListN.{length, getD, drop, length-drop}
+use borrow.Author.Tests.{eqb-true, leb-true, eq-eqb, le-leb, not-false}
+use Rattle.aff_format.specs.Edition.{editionOf}
+use Rattle.aff_format.specs.Kind.{entrySize}
+use Rattle.aff_format.specs.Limits.{imageLimit, stringLimit, nodeLimit}
+use Rattle.aff_format.specs.Lowest.{lowestFrom}
+use Rattle.aff_format.specs.Tree.{reachesBy}
+use Rattle.aff_format.specs.declared.edition.Edition.{Edition}
+use Rattle.aff_format.specs.declared.edition.FoundEdition.{FoundEdition}
+use Rattle.aff_format.specs.declared.edition.FoundEdition.the-variants.{Known, Unknown}
+use Rattle.aff_format.specs.declared.entry.FoundEntry.the-variants.{Whole}
+use Rattle.aff_format.specs.declared.lowest.Lowest.{Lowest}
+use Rattle.aff_format.specs.declared.lowest.Lowest.the-variants.{Nothing, At}
+use Rattle.aff_format.proofs.EntryLaws.{entry-inside}
+use Rattle.aff_format.proofs.KindLaws.{entry-size-bounds}
+use Rattle.aff_format.proofs.LowestLaws.{none-holds, holds-none, lowest-same}
+use Rattle.aff_open.specs.Belongs.{belongs, Belongs, sizesBelong, spanInside, sectionsInside, stringLost, nodeLost, noneLost, climbsBelong, nodesBelong, tablesBelong, ParentsCopied}
+use Rattle.aff_open.specs.Climb.{Linked, parentAt}
+use Rattle.aff_open.specs.Nodes.{isAt, climbEndless}
+use Rattle.aff_open.specs.Reader.{noReader}
+use Rattle.aff_open.specs.Recorded.{foundEntry, recordedEntry, recordedString}
+use Rattle.aff_open.specs.Sections.{isKnown}
+use Rattle.aff_open.specs.declared.reader.Span.{Span}
+use Rattle.aff_open.specs.declared.reader.Reader.{Reader}
+use Rattle.aff_open.proofs.LostLaws.{Kept, stringEnd, string-kept, kept-string, name-until, name-zero, entry-kept, kept-entry, recorded-found}
+use Rattle.aff_open.proofs.ParentLaws.{reaches-same}
+
+-- ---- Tests in a row.
+
+both : (a b : Bool) → (a && b) ≡ true → (a ≡ true) × (b ≡ true)
+both a b = and-eq-true-iff a b .0
+
+all-seven : (a b c d e f g : Bool) → (a && (b && (c && (d && (e && (f && g)))))) ≡ true
+    → (a ≡ true) × (b ≡ true) × (c ≡ true) × (d ≡ true) × (e ≡ true) × (f ≡ true) × (g ≡ true)
+all-seven a b c d e f g h =
+    let p = both a (b && (c && (d && (e && (f && g))))) h in
+    let q = both b (c && (d && (e && (f && g)))) (p .1) in
+    let r = both c (d && (e && (f && g))) (q .1) in
+    let s = both d (e && (f && g)) (r .1) in
+    let t = both e (f && g) (s .1) in
+    let u = both f g (t .1) in
+    (p .0, q .0, r .0, s .0, t .0, u .0, u .1)
+
+none-lost : (l : Lowest) → not (isAt l) ≡ true → l ≡ Nothing
+none-lost Nothing h = refl
+none-lost (At k) h = absurd (false≢true h)
+
+known : (f : FoundEdition) → isKnown f ≡ true → (e : Edition) × (f ≡ Known e)
+known (Known e) h = (e, refl)
+known Unknown h = absurd (false≢true h)
+
+module _ (image : List ℕ) (reader : Reader) (strings entries : List ℕ) where
+  -- The test in the order of the passes.
+  pub belongs-parts : belongs image reader strings entries
+      ≡ (sizesBelong image reader strings entries && (sectionsInside image reader && tablesBelong image reader strings entries))
+  unfolding belongs sectionsInside nodesBelong tablesBelong
+  belongs-parts = simp and-assoc
+
+  pub sizes-decide : sizesBelong image reader strings entries ≡ false → belongs image reader strings entries ≡ false
+  sizes-decide h = belongs-parts ∙ rw h
+
+  pub sections-decide : sectionsInside image reader ≡ false → belongs image reader strings entries ≡ false
+  sections-decide h = belongs-parts ∙ rw (h, and-false)
+
+  pub tables-decide : sizesBelong image reader strings entries ≡ true → sectionsInside image reader ≡ true
+      → belongs image reader strings entries ≡ tablesBelong image reader strings entries
+  tables-decide h g = belongs-parts ∙ rw (h, g)
+
+  pub edition-decides : length image ≡ reader .length → reader .length ≤ imageLimit → length strings ≡ stringLimit → length entries ≡ nodeLimit
+      → reader .strings ≤ stringLimit → reader .nodes ≤ nodeLimit → sizesBelong image reader strings entries ≡ isKnown (editionOf (reader .edition))
+  unfolding sizesBelong
+  edition-decides a b c d e f =
+      rw (
+        eq-eqb (length image) (reader .length) a,
+        le-leb (reader .length) imageLimit b,
+        eq-eqb (length strings) stringLimit c,
+        eq-eqb (length entries) nodeLimit d,
+        le-leb (reader .strings) stringLimit e,
+        le-leb (reader .nodes) nodeLimit f,
+      )
+
+  pub sizes-hold : sizesBelong image reader strings entries ≡ true
+      → (length image ≡ reader .length) × (reader .length ≤ imageLimit) × (length strings ≡ stringLimit) × (length entries ≡ nodeLimit)
+      × (reader .strings ≤ stringLimit) × (reader .nodes ≤ nodeLimit) × (isKnown (editionOf (reader .edition)) ≡ true)
+  unfolding sizesBelong
+  sizes-hold h =
+      let p = all-seven (eqb (length image) (reader .length)) (leb (reader .length) imageLimit) (eqb (length strings) stringLimit)
+      (eqb (length entries) nodeLimit) (leb (reader .strings) stringLimit) (leb (reader .nodes) nodeLimit) (isKnown (editionOf (reader .edition))) h in
+      (eqb-true _ _ (p .0), leb-true _ _ (p .1), eqb-true _ _ (p .2), eqb-true _ _ (p .3), leb-true _ _ (p .4), leb-true _ _ (p .5), p .6)
+
+pub sections-hold : (image : List ℕ) (reader : Reader) → sectionsInside image reader ≡ true
+    → (reader .symbols .offset + reader .symbols .size ≤ length image)
+    × (reader .tree .offset + reader .tree .size ≤ length image)
+    × (reader .«data» .offset + reader .«data» .size ≤ length image)
+unfolding sectionsInside spanInside
+sections-hold image reader h =
+    let p = both (spanInside image (reader .symbols)) (spanInside image (reader .tree) && spanInside image (reader .«data»)) h in
+    let q = both (spanInside image (reader .tree)) (spanInside image (reader .«data»)) (p .1) in
+    (leb-true _ _ (p .0), leb-true _ _ (q .0), leb-true _ _ (q .1))
+
+-- ---- Strings and nodes, where the lowest that is lost is none.
+
+pub strings-kept : (image : List ℕ) (symbols : Span) (strings : List ℕ) (count : ℕ) → lowestFrom (stringLost image symbols strings) count 0 ≡ Nothing
+    → (i : ℕ) → i < count → (symbols .offset ≤ getD strings i 0) × (stringEnd image symbols strings i < symbols .offset + symbols .size)
+strings-kept image symbols strings count none i l =
+    string-kept image symbols strings i (none-holds (stringLost image symbols strings) count 0 none i (omega arith) (omega arith))
+
+module _ (image : List ℕ) (strings nodes : ℕ) (entries : List ℕ) (none : lowestFrom (nodeLost image strings nodes entries) nodes 1 ≡ Nothing) where
+  -- Each entry is whole and has no fault.
+  pub nodes-kept : (k : ℕ) → 0 < k → k ≤ nodes
+      → (foundEntry image entries k ≡ Whole (recordedEntry image entries k)) × Kept (length image) strings nodes (recordedEntry image entries k)
+  unfolding nodeLost
+  nodes-kept k l h =
+      rw (recorded-found image entries k l)
+      (entry-kept (length image) strings nodes (foundEntry image entries k)
+      (none-holds (nodeLost image strings nodes entries) nodes 1 none k (omega arith) (omega arith)))
+
+  module _ {parents : List ℕ} (copied : ParentsCopied (recordedEntry image entries) nodes parents) where
+    -- Copied parents exist, and climbs by them are the climbs recorded.
+    pub copied-linked : nodes ≤ nodeLimit → nodes < length parents → Linked parents nodes
+    copied-linked f w =
+        record { few = f; listed = w; linked = λ k l h. rw (copied .parent k l h) (nodes-kept k l h .1 .parent) }
+
+    pub copied-climbs : lowestFrom (λ k. not (reachesBy (parentAt parents) nodes k)) nodes 1
+        ≡ lowestFrom (climbEndless nodes (recordedEntry image entries)) nodes 1
+    unfolding climbEndless
+    copied-climbs =
+        lowest-same _ _ nodes 1
+        (λ k l h.
+        ap not
+        (reaches-same (parentAt parents) (λ j. recordedEntry image entries j .parent) nodes (copied .parent)
+        (λ j m q. rw (copied .parent j m q) (nodes-kept j m q .1 .parent)) nodes k (omega arith)))
+
+-- The climbs by copied parents decide.
+pub climbs-decide : (image : List ℕ) (reader : Reader) (entries : List ℕ) {parents : List ℕ}
+    → lowestFrom (nodeLost image (reader .strings) (reader .nodes) entries) (reader .nodes) 1 ≡ Nothing
+    → ParentsCopied (recordedEntry image entries) (reader .nodes) parents
+    → (l : Lowest) → lowestFrom (λ k. not (reachesBy (parentAt parents) (reader .nodes) k)) (reader .nodes) 1 ≡ l
+    → nodesBelong image reader entries ≡ not (isAt l)
+unfolding nodesBelong
+climbs-decide image reader entries none copied l e =
+    rw (none, ← copied-climbs image (reader .strings) (reader .nodes) entries none copied, e)
+
+-- ---- The test and the clauses.
+
+pub belongs-record : {image : List ℕ} {reader : Reader} {strings entries : List ℕ}
+    → belongs image reader strings entries ≡ true → Belongs image reader strings entries
+unfolding climbEndless nodesBelong tablesBelong
+belongs-record {image} {reader} {strings} {entries} h =
+    let p = both (sizesBelong image reader strings entries) (sectionsInside image reader && tablesBelong image reader strings entries)
+    (sym (belongs-parts image reader strings entries) ∙ h) in
+    let q = both (sectionsInside image reader) (tablesBelong image reader strings entries) (p .1) in
+    let t = both (noneLost (stringLost image (reader .symbols) strings) (reader .strings) 0) (nodesBelong image reader entries) (q .1) in
+    let n = both (noneLost (nodeLost image (reader .strings) (reader .nodes) entries) (reader .nodes) 1) (climbsBelong image reader entries) (t .1) in
+    let s = sizes-hold image reader strings entries (p .0) in
+    let e = known (editionOf (reader .edition)) (s .6) in
+    let d = sections-hold image reader (q .0) in
+    let string = strings-kept image (reader .symbols) strings (reader .strings) (none-lost _ (t .0)) in
+    let node = nodes-kept image (reader .strings) (reader .nodes) entries (none-lost _ (n .0)) in
+    record {
+      length-recorded = s .0;
+      length-allowed = s .1;
+      strings-area = s .2;
+      entries-area = s .3;
+      few-strings = s .4;
+      few-nodes = s .5;
+      edition = e .0;
+      edition-recorded = e .1;
+      symbols-inside = d .0;
+      tree-inside = d .1;
+      data-inside = d .2;
+      string-begins = λ i l. string i l .0;
+      string-zero = λ i l. (
+        stringEnd image (reader .symbols) strings i,
+        omega arith,
+        string i l .1,
+        name-zero image (reader .symbols .offset + reader .symbols .size) (getD strings i 0) (d .0) (string i l .1),
+      );
+      entry-whole = λ k l m. node k l m .0;
+      parent-exists = λ k l m. node k l m .1 .parent;
+      string-exists = λ k l m. node k l m .1 .string;
+      node-data = λ k l m. node k l m .1 .inside;
+      climb-ends = λ k l m.
+          not-false _ (none-holds (climbEndless (reader .nodes) (recordedEntry image entries)) (reader .nodes) 1 (none-lost _ (n .1)) k (omega arith) (omega arith));
+    }
+
+module _ {image : List ℕ} {reader : Reader} {strings entries : List ℕ} (b : Belongs image reader strings entries) where
+  sizes-true : sizesBelong image reader strings entries ≡ true
+  sizes-true =
+      edition-decides image reader strings entries (b .length-recorded) (b .length-allowed) (b .strings-area) (b .entries-area) (b .few-strings) (b .few-nodes)
+      ∙ rw (b .edition-recorded)
+
+  sections-true : sectionsInside image reader ≡ true
+  unfolding sectionsInside spanInside
+  sections-true = rw (le-leb _ _ (b .symbols-inside), le-leb _ _ (b .tree-inside), le-leb _ _ (b .data-inside))
+
+  strings-none : lowestFrom (stringLost image (reader .symbols) strings) (reader .strings) 0 ≡ Nothing
+  strings-none =
+      holds-none _ (reader .strings) 0
+      (λ i l m.
+      let z = b .string-zero i (omega arith) in
+      kept-string image (reader .symbols) strings i (b .symbols-inside) (b .string-begins i (omega arith)) (z .0) (z .1) (z .2) (z .3))
+
+  nodes-none : lowestFrom (nodeLost image (reader .strings) (reader .nodes) entries) (reader .nodes) 1 ≡ Nothing
+  unfolding nodeLost
+  nodes-none =
+      holds-none _ (reader .nodes) 1
+      (λ k l m.
+      let h : k ≤ reader .nodes = omega arith in
+      kept-entry (length image) (reader .strings) (reader .nodes) (recordedEntry image entries k) (foundEntry image entries k) (b .entry-whole k l h)
+      (record { parent = b .parent-exists k l h; string = b .string-exists k l h; inside = b .node-data k l h }))
+
+  climbs-none : lowestFrom (climbEndless (reader .nodes) (recordedEntry image entries)) (reader .nodes) 1 ≡ Nothing
+  unfolding climbEndless
+  climbs-none = holds-none _ (reader .nodes) 1 (λ k l m. rw (b .climb-ends k l (omega arith)))
+
+  pub record-belongs : belongs image reader strings entries ≡ true
+  unfolding nodesBelong tablesBelong
+  record-belongs = tables-decide image reader strings entries sizes-true sections-true ∙ rw (strings-none, nodes-none, climbs-none)
+
+-- The all-zero record never belongs: there is no edition 0.
+pub none-belongs : (image strings entries : List ℕ) → belongs image noReader strings entries ≡ false
+unfolding sizesBelong
+none-belongs image strings entries = sizes-decide image noReader strings entries (simp and-false)
+
+-- ---- What a call that passes 24 knows.
+
+module _ {image : List ℕ} {reader : Reader} {strings entries : List ℕ} (b : Belongs image reader strings entries) where
+  -- A string ends, and so begins, before the end of the symbol section, which is inside the image (`symbols-inside`). There stands a zero.
+  pub string-within : (i : ℕ) → i < reader .strings
+      → getD strings i 0 + length (recordedString image (reader .symbols .offset + reader .symbols .size) strings i) < reader .symbols .offset + reader .symbols .size
+  string-within i l =
+      let z = b .string-zero i l in
+      omega (arith, name-until image (reader .symbols .offset + reader .symbols .size) (getD strings i 0) (b .symbols-inside) (z .0) (z .1) (z .2) (z .3))
+
+  pub place-within : (i : ℕ) → i < reader .strings → getD strings i 0 < reader .symbols .offset + reader .symbols .size
+  place-within i l = omega (arith, string-within i l)
+
+  pub string-ended : (i : ℕ) → i < reader .strings
+      → getD image (getD strings i 0 + length (recordedString image (reader .symbols .offset + reader .symbols .size) strings i)) 0 ≡ 0
+  string-ended i l = name-zero image (reader .symbols .offset + reader .symbols .size) (getD strings i 0) (b .symbols-inside) (string-within i l)
+
+  -- An entry lies inside the image.
+  pub entry-within : (k : ℕ) → 0 < k → k ≤ reader .nodes → getD entries (k - 1) 0 + entrySize (recordedEntry image entries k .kind) ≤ length image
+  entry-within k l h =
+      let e = recordedEntry image entries k in
+      omega (arith, entry-inside (drop (getD entries (k - 1) 0) image) e (b .entry-whole k l h), length-drop (getD entries (k - 1) 0) image, entry-size-bounds (e .kind))
+
+  -- A climb stays among the nodes.
+  pub parent-within : (k : ℕ) → k ≤ reader .nodes → recordedEntry image entries k .parent ≤ reader .nodes
+  unfolding recordedEntry
+  parent-within zero h = omega arith
+  parent-within (suc k) h = b .parent-exists (suc k) (omega arith) h

@@ -1,0 +1,221 @@
+-- Parents, string numbers and names of the nodes: what the pass over them keeps, and the tests 8 and 10 to 13 by what they go by. Tests that
+-- agree node by node have the same lowest node. Assumes nothing.
+use mathlib.Core.Path.{_≡_, refl, sym, ap, _∙_}
+use mathlib.Core.Bool.{Bool, true, false, not, _&&_, _||_, true≢false}
+use mathlib.Core.List.{List, []}
+use mathlib.Core.Logic.{⊎-elim}
+use Prim.Native.Nat.{ℕ, _+_, _-_, _≤_, _<_}
+use native.Mathlib.Nat.{eq-or-lt-of-le}
+use native.Mathlib.Omega.{arith}
+use lib.Dec.{eqb, ltb, leb}
+use lib.ListN.{length, getD, set, take}
+use lib.Seq.{getD-set-same, getD-set-other, getD-take, length-take-le}
+use borrow.Author.Count.{below-more}
+use borrow.Author.Tests.{eqb-true, eqb-false, ltb-true, ltb-false, leb-false, le-ltb, lt-leb, not-false}
+use Rattle.aff_format.specs.Bytes.{part, sameBytes}
+use Rattle.aff_format.specs.Lowest.{lowestFrom}
+use Rattle.aff_format.specs.Strings.{indexIn}
+use Rattle.aff_format.specs.Subkey.{subkeyFrom, isSound, isSubkey}
+use Rattle.aff_format.specs.Tree.{reachesBy}
+use Rattle.aff_format.specs.declared.edition.Edition.{Edition}
+use Rattle.aff_format.specs.declared.entry.Entry.{Entry}
+use Rattle.aff_format.specs.declared.lowest.Lowest.{Lowest}
+use Rattle.aff_format.specs.declared.lowest.Lowest.the-variants.{Nothing}
+use Rattle.aff_format.specs.declared.subkey.Grammar.{Grammar}
+use Rattle.aff_format.proofs.LowestLaws.{lowest-same, none-holds, holds-none}
+use Rattle.aff_format.proofs.SameLaws.{same-refl, ne-same}
+use Rattle.aff_format.proofs.StringsLaws.{indexIn-found, isIn-indexIn, isIn-none}
+use Rattle.aff_format.proofs.SubkeyLaws.{sound-shift}
+use Rattle.aff_open.specs.Climb.{parentAt, Linked}
+use Rattle.aff_open.specs.Distinct.{siblingTaken}
+use Rattle.aff_open.specs.Nodes.{isAt, noParent, outside, linkWrong, climbEndless, nameTaken, dataOutside}
+use Rattle.aff_open.specs.Passes.{bit, Judged, linkBad, Copied}
+use Rattle.aff_open.specs.Recorded.{recordedString}
+use Rattle.aff_open.specs.Tables.{nameFrom, repeats}
+use Rattle.aff_open.proofs.ParentLaws.{reaches-same}
+use Rattle.aff_open.proofs.RecordedLaws.{name-part}
+
+or-false : (a b : Bool) → (a || b) ≡ false → (a ≡ false) × (b ≡ false)
+or-false true b h = absurd (true≢false h)
+or-false false b h = (refl, h)
+
+-- Strings judged one by one.
+pub judged-name : (e : Edition) (image : List ℕ) (from end to : ℕ) (found g : Grammar) → (from ≤ end) × (end ≤ length image)
+    → to ≡ from + length (nameFrom image end from) → found ≡ subkeyFrom e from (part from (to - from) image) → found ≡ g
+    → bit (isSound g) ≡ bit (isSubkey e (nameFrom image end from))
+judged-name e image from end to found g h t r q = rw (← q, r, name-part image end from to (h .0) (h .1) t, sound-shift e from (nameFrom image end from))
+
+pub judged-more : (e : Edition) (image : List ℕ) (end : ℕ) (places : List ℕ) (i : ℕ) (sound : List ℕ) (p v : ℕ) → i < length sound
+    → Judged e image end places i sound → p ≡ getD places i 0 → v ≡ bit (isSubkey e (nameFrom image end p))
+    → Judged e image end places (i + 1) (set sound i v)
+judged-more e image end places i sound p v h j q r =
+    below-more _ i (λ k l. getD-set-other sound i k v 0 (λ y. omega arith) ∙ j k l) (getD-set-same sound i v 0 h ∙ r ∙ rw q)
+
+-- Where they are judged, an entry is bad by the judgements where it is by the strings.
+pub links-judged : (e : Edition) (image : List ℕ) (end : ℕ) (places : List ℕ) (strings : ℕ) (sound : List ℕ) (entry : ℕ → Entry) (nodes : ℕ)
+    (r : Lowest) → Judged e image end places strings sound → r ≡ lowestFrom (λ k. linkBad nodes strings sound (entry k)) nodes 1
+    → r ≡ lowestFrom (linkWrong e strings (recordedString image end places) nodes entry) nodes 1
+unfolding linkWrong
+links-judged e image end places strings sound entry nodes r j q =
+    q ∙ lowest-same _ _ nodes 1 (λ k lo hi. ap (λ (b : Bool). noParent nodes (entry k) || b) (go (entry k .string) (leb strings (entry k .string)) refl))
+  where
+    zero-bit : (b : Bool) → eqb (bit b) 0 ≡ not b
+    zero-bit true = refl
+    zero-bit false = refl
+
+    go : (s : ℕ) (b : Bool) → leb strings s ≡ b → (b || eqb (getD sound s 0) 0) ≡ (b || not (isSubkey e (recordedString image end places s)))
+    go s true h = refl
+    go s false h = rw (j s (leb-false strings s h)) (zero-bit (isSubkey e (recordedString image end places s)))
+
+-- An entry that is not bad has a parent that exists.
+pub parent-good : (nodes strings : ℕ) (sound : List ℕ) (e : Entry) → linkBad nodes strings sound e ≡ false → e .parent ≤ nodes
+parent-good nodes strings sound e h = ltb-false nodes (e .parent) (or-false _ _ h .0)
+
+-- Parents and string numbers copied node by node.
+set-copied : (l : List ℕ) (f : ℕ → ℕ) (k v : ℕ) → k + 1 < length l → ((j : ℕ) → 0 < j → j ≤ k → getD l j 0 ≡ f j) → v ≡ f (k + 1)
+    → (j : ℕ) → 0 < j → j ≤ k + 1 → getD (set l (k + 1) v) j 0 ≡ f j
+set-copied l f k v h c e j lo hi =
+    ⊎-elim (λ (z : j ≡ k + 1). rw z (getD-set-same l (k + 1) v 0 h ∙ e))
+    (λ (z : j < k + 1). getD-set-other l (k + 1) j v 0 (λ y. omega arith) ∙ c j lo (omega arith))
+    (eq-or-lt-of-le hi)
+
+module _ (entry : ℕ → Entry) (parents names : List ℕ) where
+  pub copied-none : Copied entry 0 parents names
+  copied-none = record { parent = λ j lo hi. absurd (omega arith); name = λ j lo hi. absurd (omega arith) }
+
+  pub copied-more : (k : ℕ) → k + 1 < length parents → k + 1 < length names → Copied entry k parents names
+      → (e : Entry) → e ≡ entry (k + 1) → Copied entry (k + 1) (set parents (k + 1) (e .parent)) (set names (k + 1) (e .string))
+  copied-more k p n c e q =
+      record {
+        parent = set-copied parents (λ j. entry j .parent) k (e .parent) p (c .parent) (rw q);
+        name = set-copied names (λ j. entry j .string) k (e .string) n (c .name) (rw q);
+      }
+
+  pub copied-less : (m k : ℕ) → m ≤ k → Copied entry k parents names → Copied entry m parents names
+  copied-less m k h c = record { parent = λ j lo hi. c .parent j lo (omega arith); name = λ j lo hi. c .name j lo (omega arith) }
+
+-- 10: no link is wrong where each node's parent and string exist and the string is a subkey. And back.
+module _ (e : Edition) (strings : ℕ) (string : ℕ → List ℕ) (nodes : ℕ) (entry : ℕ → Entry) where
+  abbrev pub Linkable : ℕ → Type 0
+  Linkable k = (entry k .parent ≤ nodes) × (entry k .string < strings) × (isSubkey e (string (entry k .string)) ≡ true)
+
+  pub links-clear : lowestFrom (linkWrong e strings string nodes entry) nodes 1 ≡ Nothing → (k : ℕ) → 0 < k → k ≤ nodes → Linkable k
+  unfolding linkWrong
+  links-clear h k lo hi =
+      let (p, r) = or-false _ _ (none-holds (linkWrong e strings string nodes entry) nodes 1 h k (omega arith) (omega arith)) in
+      let (s, n) = or-false _ _ r in
+      (ltb-false nodes (entry k .parent) p, leb-false strings (entry k .string) s, not-false (isSubkey e (string (entry k .string))) n)
+
+  pub clear-links : ((k : ℕ) → 0 < k → k ≤ nodes → Linkable k) → lowestFrom (linkWrong e strings string nodes entry) nodes 1 ≡ Nothing
+  unfolding linkWrong
+  clear-links h =
+      holds-none (linkWrong e strings string nodes entry) nodes 1
+      (λ k lo hi. let (p, s, n) = h k (omega arith) (omega arith) in rw (le-ltb nodes (entry k .parent) p, lt-leb strings (entry k .string) s, n))
+
+-- 11 and 12 by the copied numbers.
+module _ (entry : ℕ → Entry) (nodes : ℕ) (parents names : List ℕ) (c : Copied entry nodes parents names) where
+  pub copied-linked : nodes ≤ 2048 → nodes < length parents → ((k : ℕ) → 0 < k → k ≤ nodes → entry k .parent ≤ nodes) → Linked parents nodes
+  copied-linked f l w = record { few = f; listed = l; linked = λ k lo hi. rw (c .parent k lo hi) (w k lo hi) }
+
+  pub copied-climbs : ((k : ℕ) → 0 < k → k ≤ nodes → entry k .parent ≤ nodes)
+      → lowestFrom (λ k. not (reachesBy (parentAt parents) nodes k)) nodes 1 ≡ lowestFrom (climbEndless nodes entry) nodes 1
+  unfolding climbEndless
+  copied-climbs w =
+      lowest-same _ _ nodes 1
+      (λ k lo hi.
+      ap not (reaches-same (parentAt parents) (λ j. entry j .parent) nodes (c .parent) (λ j l h. rw (c .parent j l h) (w j l h)) nodes k (omega arith)))
+
+  pub copied-siblings : (strings : ℕ) (string : ℕ → List ℕ) → ((k : ℕ) → 0 < k → k ≤ nodes → entry k .string < strings)
+      → ((i j : ℕ) → i < strings → j < strings → string i ≡ string j → i ≡ j)
+      → lowestFrom (siblingTaken parents names) nodes 1 ≡ lowestFrom (nameTaken string entry) nodes 1
+  unfolding siblingTaken nameTaken
+  copied-siblings strings string w d =
+      lowest-same _ _ nodes 1
+      (λ k lo hi.
+      let m : k ≤ nodes = omega arith in
+      ap isAt
+      (lowest-same _ _ (k - 1) 1
+      (λ j l h.
+      let n : j ≤ nodes = omega arith in
+      rw (c .parent j l n, c .parent k lo m, c .name j l n, c .name k lo m)
+      (ap (λ (b : Bool). eqb (entry j .parent) (entry k .parent) && b) (same-number (entry j .string) (entry k .string) (d _ _ (w j l n) (w k lo m)))))))
+    where
+      same-number : (a b : ℕ) → (string a ≡ string b → a ≡ b) → eqb a b ≡ sameBytes (string a) (string b)
+      same-number a b f = go (eqb a b) refl
+        where
+          go : (t : Bool) → eqb a b ≡ t → t ≡ sameBytes (string a) (string b)
+          go true h = rw (eqb-true a b h) (sym (same-refl (string b)))
+          go false h = sym (ne-same (string a) (string b) (λ q. eqb-false a b h (f q)))
+
+-- The tests by entries and strings that agree.
+module _ (entry other : ℕ → Entry) (nodes : ℕ) (agree : (k : ℕ) → 0 < k → k ≤ nodes → entry k ≡ other k) where
+  pub data-same : (from size : ℕ) → lowestFrom (dataOutside from size entry) nodes 1 ≡ lowestFrom (dataOutside from size other) nodes 1
+  data-same from size = lowest-same _ _ nodes 1 (λ k lo hi. ap (outside from size) (agree k lo (omega arith)))
+
+  pub climbs-same : ((k : ℕ) → 0 < k → k ≤ nodes → entry k .parent ≤ nodes)
+      → lowestFrom (climbEndless nodes entry) nodes 1 ≡ lowestFrom (climbEndless nodes other) nodes 1
+  unfolding climbEndless
+  climbs-same w =
+      lowest-same _ _ nodes 1
+      (λ k lo hi.
+      ap not (reaches-same (λ j. entry j .parent) (λ j. other j .parent) nodes (λ j l h. rw (agree j l h)) w nodes k (omega arith)))
+
+  module _ (strings : ℕ) (string text : ℕ → List ℕ) (alike : (i : ℕ) → i < strings → string i ≡ text i) where
+    pub links-same : (e : Edition)
+        → lowestFrom (linkWrong e strings string nodes entry) nodes 1 ≡ lowestFrom (linkWrong e strings text nodes other) nodes 1
+    unfolding linkWrong
+    links-same e =
+        lowest-same _ _ nodes 1
+        (λ k lo hi.
+        rw (agree k lo (omega arith))
+        (ap (λ (b : Bool). noParent nodes (other k) || b) (go (other k .string) (leb strings (other k .string)) refl)))
+      where
+        go : (s : ℕ) (b : Bool) → leb strings s ≡ b → (b || not (isSubkey e (string s))) ≡ (b || not (isSubkey e (text s)))
+        go s true h = refl
+        go s false h = rw (alike s (leb-false strings s h))
+
+    pub names-same : ((k : ℕ) → 0 < k → k ≤ nodes → entry k .string < strings)
+        → lowestFrom (nameTaken string entry) nodes 1 ≡ lowestFrom (nameTaken text other) nodes 1
+    unfolding nameTaken
+    names-same w =
+        lowest-same _ _ nodes 1
+        (λ k lo hi.
+        let m : k ≤ nodes = omega arith in
+        ap isAt
+        (lowest-same _ _ (k - 1) 1
+        (λ j l h.
+        let n : j ≤ nodes = omega arith in
+        rw (alike (entry j .string) (w j l n), alike (entry k .string) (w k lo m), agree j l n, agree k lo m))))
+
+-- 8: no string repeats an earlier one where strings of two numbers differ. And back.
+module _ (ss : List (List ℕ)) where
+  pub distinct-by-repeats : lowestFrom (repeats ss) (length ss) 0 ≡ Nothing
+      → (i j : ℕ) → i < length ss → j < length ss → getD ss i [] ≡ getD ss j [] → i ≡ j
+  unfolding repeats
+  distinct-by-repeats h i j m n e = go (ltb i j) refl (ltb j i) refl
+    where
+      apart : (a b : ℕ) → a < b → b < length ss → getD ss a [] ≡ getD ss b [] → ⊥
+      apart a b l n q =
+          isIn-none (getD ss b []) (take b ss) a (none-holds (repeats ss) (length ss) 0 h b (omega arith) (omega arith))
+          (rw (length-take-le b ss (omega arith)) l)
+          (getD-take b ss a [] l ∙ q)
+
+      go : (s : Bool) → ltb i j ≡ s → (t : Bool) → ltb j i ≡ t → i ≡ j
+      go true p t q = absurd (apart i j (ltb-true i j p) n e)
+      go false p true q = absurd (apart j i (ltb-true j i q) m (sym e))
+      go false p false q = omega (arith, ltb-false i j p, ltb-false j i q)
+
+  pub repeats-by-distinct : ((i j : ℕ) → i < length ss → j < length ss → getD ss i [] ≡ getD ss j [] → i ≡ j)
+      → lowestFrom (repeats ss) (length ss) 0 ≡ Nothing
+  unfolding repeats
+  repeats-by-distinct d =
+      holds-none (repeats ss) (length ss) 0 (λ j lo hi. isIn-indexIn (getD ss j []) (take j ss) ∙ go j (omega arith) _ refl)
+    where
+      go : (j : ℕ) → j < length ss → (t : Bool) → ltb (indexIn (getD ss j []) (take j ss)) (length (take j ss)) ≡ t → t ≡ false
+      go j n false q = refl
+      go j n true q =
+          let i : ℕ = indexIn (getD ss j []) (take j ss) in
+          let l : i < length (take j ss) = ltb-true _ _ q in
+          let f = length-take-le j ss (omega arith) in
+          let m : i < j = omega arith in
+          absurd (let z = d i j (omega arith) n (sym (getD-take j ss i [] m) ∙ indexIn-found (getD ss j []) (take j ss) l) in omega arith)

@@ -1,0 +1,90 @@
+-- Laws of the text, the header and the sections of an image. Assumes nothing.
+use mathlib.Core.Path.{_≡_, refl, sym}
+use mathlib.Core.Bool.{Bool, true, false, cond, not, true≢false}
+use mathlib.Core.List.{List}
+use Prim.Native.Nat.{ℕ, _+_, _-_, _≤_, _<_}
+use native.Mathlib.Omega.{arith}
+use lib.Dec.{ltb}
+use lib.ListN.{length, take}
+use borrow.Author.Tests.{ltb-true, ltb-false, lt-ltb, le-ltb}
+use Rattle.aff_format.specs.Answer.{accepted, firstWrong}
+use Rattle.aff_format.specs.Bytes.{sameBytes}
+use Rattle.aff_format.specs.Edition.{headerSize, sectionHeaderAt, sectionSumAt, signatureText}
+use Rattle.aff_format.specs.declared.section.Section.{Section}
+use Rattle.aff_format.specs.declared.section.Section.the-variants.{Symbol, Tree, Data}
+use Rattle.aff_format.specs.declared.edition.Edition.{Edition}
+use Rattle.aff_format.specs.declared.edition.Edition.the-variants.{One, Two}
+use Rattle.aff_format.specs.declared.edition.FoundEdition.{FoundEdition}
+use Rattle.aff_format.specs.declared.edition.FoundEdition.the-variants.{Known, Unknown}
+use Rattle.aff_format.proofs.AnswerLaws.{passed}
+use Rattle.aff_format.proofs.EditionLaws.{section-header-most, section-sum-last}
+use Rattle.aff_format.proofs.SameLaws.{same-eq}
+use Rattle.aff_open.specs.Sections.{textEdition, isKnown, orTwo, editionIn, sectionOffset, sectionSize, endsPast, sumWrong}
+use Rattle.aff_open.specs.Opening.{headerChecks, insideChecks, sectionChecks}
+
+-- The text of an edition: the image begins with it, and with no other's.
+known-one : (a b : Bool) → cond a (Known One) (cond b (Known Two) Unknown) ≡ Known One → a ≡ true
+known-one true b h = refl
+known-one false true h = cc
+known-one false false h = cc
+
+known-two : (a b : Bool) → cond a (Known One) (cond b (Known Two) Unknown) ≡ Known Two → b ≡ true
+known-two a true h = refl
+known-two true false h = cc
+known-two false false h = cc
+
+pub text-known : (e : Edition) (image : List ℕ) → textEdition image ≡ Known e → take 20 image ≡ signatureText e
+unfolding textEdition
+text-known One image h = same-eq _ _ (known-one _ (sameBytes (take 20 image) (signatureText Two)) h)
+text-known Two image h = same-eq _ _ (known-two (sameBytes (take 20 image) (signatureText One)) _ h)
+
+pub known-text : (e : Edition) (image : List ℕ) → take 20 image ≡ signatureText e → textEdition image ≡ Known e
+unfolding textEdition sameBytes signatureText
+known-text One image h = rw h
+known-text Two image h = rw h
+
+-- The fields of a section header, and its sum, lie inside an image that has a whole header.
+pub fields-inside : (e : Edition) (s : Section) (image : List ℕ) → headerSize e ≤ length image → sectionHeaderAt e s + 24 ≤ length image
+fields-inside One s image h = omega (arith, section-header-most One s)
+fields-inside Two s image h = omega (arith, section-header-most Two s)
+
+pub sum-inside : (e : Edition) (s : Section) (image : List ℕ) → headerSize e ≤ length image → sectionSumAt e s + 16 ≤ length image
+sum-inside One s image h = omega (arith, section-header-most One s, section-sum-last One s)
+sum-inside Two s image h = omega (arith, section-header-most Two s, section-sum-last Two s)
+
+-- Whether `size` from `from` on end past `length`, told without their sum.
+pub begins-past : (from size length : ℕ) → length < from → ltb length (from + size) ≡ true
+begins-past from size length h = lt-ltb length (from + size) (omega arith)
+
+pub ends-past-by : (from size length : ℕ) → from ≤ length → ltb (length - from) size ≡ ltb length (from + size)
+ends-past-by from size length h = go (ltb (length - from) size) refl
+  where
+    go : (t : Bool) → ltb (length - from) size ≡ t → t ≡ ltb length (from + size)
+    go true t = sym (lt-ltb length (from + size) (omega (arith, ltb-true (length - from) size t)))
+    go false t = sym (le-ltb length (from + size) (omega (arith, ltb-false (length - from) size t)))
+
+pub ends-inside : (e : Edition) (s : Section) (image : List ℕ) → endsPast e s image ≡ false
+    → sectionOffset e s image + sectionSize e s image ≤ length image
+unfolding endsPast
+ends-inside e s image h = ltb-false _ _ h
+
+-- What is known behind accepted checks: those of the header, 6, and 6 and 7.
+known-is : (f : FoundEdition) → not (isKnown f) ≡ false → f ≡ Known (orTwo f)
+known-is (Known e) h = refl
+known-is Unknown h = absurd (true≢false h)
+
+module _ {A : Type 0} (image : List ℕ) (a : A) {b : A} where
+  pub header-clear : (form : List ℕ) → firstWrong (headerChecks image form) a ≡ accepted b
+      → (textEdition image ≡ Known (editionIn image)) × (headerSize (editionIn image) ≤ length image)
+  header-clear form h = let p = passed (headerChecks image form) a h in (known-is (textEdition image) (p .1 .0), ltb-false _ _ (p .1 .1 .0))
+
+  pub inside-clear : (e : Edition) → firstWrong (insideChecks e image) a ≡ accepted b → (s : Section) → endsPast e s image ≡ false
+  inside-clear e h Symbol = passed (insideChecks e image) a h .0
+  inside-clear e h Tree = passed (insideChecks e image) a h .1 .0
+  inside-clear e h Data = passed (insideChecks e image) a h .1 .1 .0
+
+  pub section-clear : (e : Edition) → firstWrong (sectionChecks e image) a ≡ accepted b
+      → (s : Section) → (endsPast e s image ≡ false) × (sumWrong e s image ≡ false)
+  section-clear e h Symbol = let p = passed (sectionChecks e image) a h in (p .0, p .1 .1 .1 .0)
+  section-clear e h Tree = let p = passed (sectionChecks e image) a h in (p .1 .0, p .1 .1 .1 .1 .0)
+  section-clear e h Data = let p = passed (sectionChecks e image) a h in (p .1 .1 .0, p .1 .1 .1 .1 .1 .0)

@@ -1,0 +1,42 @@
+-- `belongs` meets its contract: sizes, sections, tables. Assumes nothing.
+use mathlib.Core.Path.{sym, _∙_}
+use native.Mathlib.Omega.{arith}
+use borrow.Author.Needs.{needs}
+use Rattle.aff_open.proofs.BelongsLaws.{sizes-decide, sections-decide, tables-decide, sizes-hold, sections-hold}
+use Rattle.aff_open.proofs.belongs.belongs.Statement.{statement}
+use Rattle.aff_open.proofs.belongs.belongs.Tie as tie
+
+sizes-requires : tie.Need-sizes-requires
+sizes-requires c κs = search needs
+
+returns : tie.Need-returns
+returns c = sym (sizes-decide _ _ _ _ (sym (c .before .sizes .ensures) ∙ c .if1 .left))
+
+sections-inside-requires : tie.Need-sections-inside-requires
+sections-inside-requires c κs = search needs
+
+returns-2 : tie.Need-returns-2
+returns-2 c = sym (sections-decide _ _ _ _ (sym (c .before .sections-inside .ensures) ∙ c .if2 .left))
+
+tables-belong-requires : tie.Need-tables-belong-requires
+tables-belong-requires c κs =
+    let s = sizes-hold _ _ _ _ (sym (c .before .before .before .sizes .ensures) ∙ c .before .before .if1 .taken) in
+    let d = sections-hold _ _ (sym (c .before .sections-inside .ensures) ∙ c .if2 .taken) in
+    (omega arith, s .5, d .0)
+
+returns-3 : tie.Need-returns-3
+returns-3 c =
+    let t = c .before .before in
+    c .tables-belong .ensures
+    ∙ sym (tables-decide _ _ _ _ (sym (t .before .before .sizes .ensures) ∙ t .before .if1 .taken) (sym (t .sections-inside .ensures) ∙ c .before .if2 .taken))
+
+pub belongs-spec : {M : Type 1} → statement M
+belongs-spec =
+    tie.close
+    (tie.spec
+    sizes-requires
+    returns
+    sections-inside-requires
+    returns-2
+    tables-belong-requires
+    returns-3)

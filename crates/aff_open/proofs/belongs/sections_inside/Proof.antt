@@ -1,0 +1,41 @@
+-- `sections_inside` meets its contract: one section after the other. Assumes nothing.
+use mathlib.Core.Path.{sym, _∙_}
+use mathlib.Core.Bool.{and-false}
+use borrow.Author.Needs.{needs}
+use Rattle.aff_open.specs.Belongs.{sectionsInside}
+use Rattle.aff_open.proofs.belongs.sections_inside.Statement.{statement}
+use Rattle.aff_open.proofs.belongs.sections_inside.Tie as tie
+
+span-inside-requires : tie.Need-span-inside-requires
+span-inside-requires c κs = search needs
+
+returns : tie.Need-returns
+unfolding sectionsInside
+returns c = simp (sym (c .before .span-inside .ensures) ∙ c .if1 .left)
+
+span-inside-requires-2 : tie.Need-span-inside-requires-2
+span-inside-requires-2 c κs = search needs
+
+returns-2 : tie.Need-returns-2
+unfolding sectionsInside
+returns-2 c = simp (sym (c .before .span-inside2 .ensures) ∙ c .if2 .left, and-false)
+
+span-inside-requires-3 : tie.Need-span-inside-requires-3
+span-inside-requires-3 c κs = search needs
+
+returns-3 : tie.Need-returns-3
+unfolding sectionsInside
+returns-3 c =
+    let t = c .before .before in
+    simp (sym (t .before .before .span-inside .ensures) ∙ t .before .if1 .taken, sym (t .span-inside2 .ensures) ∙ c .before .if2 .taken, c .span-inside3 .ensures)
+
+pub sections-inside-spec : {M : Type 1} → statement M
+sections-inside-spec =
+    tie.close
+    (tie.spec
+    span-inside-requires
+    returns
+    span-inside-requires-2
+    returns-2
+    span-inside-requires-3
+    returns-3)

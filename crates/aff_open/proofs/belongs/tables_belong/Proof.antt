@@ -1,0 +1,31 @@
+-- `tables_belong` meets its contract: strings, then nodes. Assumes nothing.
+use mathlib.Core.Path.{sym, _∙_}
+use borrow.Author.Needs.{needs}
+use Rattle.aff_open.specs.Belongs.{tablesBelong}
+use Rattle.aff_open.proofs.belongs.tables_belong.Statement.{statement}
+use Rattle.aff_open.proofs.belongs.tables_belong.Tie as tie
+
+lost-string-requires : tie.Need-lost-string-requires
+lost-string-requires c κs = search needs
+
+enum-told : tie.Need-enum-told
+enum-told c = search needs
+
+enum-told-2 : tie.Need-enum-told-2
+enum-told-2 c = search needs
+
+nodes-belong-requires : tie.Need-nodes-belong-requires
+nodes-belong-requires c κs = search needs
+
+returns : tie.Need-returns
+unfolding tablesBelong
+returns c = rw (sym (c .before .before .lost-string .ensures) ∙ c .enum-told .given .1)
+
+returns-2 : tie.Need-returns-2
+unfolding tablesBelong
+returns-2 c = rw (sym (c .before .before .before .lost-string .ensures) ∙ c .before .enum-told2 .given .1) (c .nodes-belong .ensures)
+
+pub tables-belong-spec : {M : Type 1} → statement M
+tables-belong-spec =
+    tie.close
+    (tie.spec lost-string-requires enum-told enum-told-2 nodes-belong-requires returns returns-2)

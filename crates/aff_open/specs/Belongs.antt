@@ -1,0 +1,131 @@
+-- 24 for the reader: document 01, 'Numbers handed back', the paragraph behind the table. All that is recorded is judged, and nothing else.
+use mathlib.Core.Path.{_≡_}
+use mathlib.Core.Bool.{Bool, true, false, not, _&&_, _||_}
+use mathlib.Core.List.{List}
+use Prim.Native.Nat.{ℕ, _+_, _-_, _*_, _≤_, _<_}
+use lib.Dec.{eqb, ltb, leb}
+use lib.ListN.{length, getD}
+use Rattle.aff_format.specs.Edition.{editionOf}
+use Rattle.aff_format.specs.Kind.{elementSize, isVoid}
+use Rattle.aff_format.specs.Limits.{imageLimit, stringLimit, nodeLimit}
+use Rattle.aff_format.specs.Lowest.{lowestFrom}
+use Rattle.aff_format.specs.Tree.{reachesBy}
+use Rattle.aff_format.specs.declared.edition.Edition.{Edition}
+use Rattle.aff_format.specs.declared.edition.FoundEdition.the-variants.{Known}
+use Rattle.aff_format.specs.declared.entry.Entry.{Entry}
+use Rattle.aff_format.specs.declared.entry.FoundEntry.{FoundEntry}
+use Rattle.aff_format.specs.declared.entry.FoundEntry.the-variants.{Whole, Broken}
+use Rattle.aff_open.specs.Nodes.{isAt, noParent, noString, outside, climbEndless}
+use Rattle.aff_open.specs.Recorded.{foundEntry, recordedEntry, recordedString}
+use Rattle.aff_open.specs.Sections.{isKnown}
+use Rattle.aff_open.specs.declared.reader.Span.{Span}
+use Rattle.aff_open.specs.declared.reader.Reader.{Reader}
+
+-- ---- As a test.
+
+-- The image's length is the recorded one, each area has its size, no count passes its size, and the recorded edition exists.
+unfoldable pub sizesBelong : List ℕ → Reader → List ℕ → List ℕ → Bool
+sizesBelong image reader strings entries =
+    eqb (length image) (reader .length)
+    && (leb (reader .length) imageLimit
+    && (eqb (length strings) stringLimit
+    && (eqb (length entries) nodeLimit
+    && (leb (reader .strings) stringLimit
+    && (leb (reader .nodes) nodeLimit && isKnown (editionOf (reader .edition)))))))
+
+-- A section lies inside the image.
+unfoldable pub spanInside : List ℕ → Span → Bool
+spanInside image span = leb (span .offset + span .size) (length image)
+
+-- String i does not begin, or has no zero from there on, inside the symbol section.
+unfoldable pub stringLost : List ℕ → Span → List ℕ → ℕ → Bool
+stringLost image symbols strings i =
+    ltb (getD strings i 0) (symbols .offset)
+    || leb (symbols .offset + symbols .size) (getD strings i 0 + length (recordedString image (symbols .offset + symbols .size) strings i))
+
+-- An entry falls outside the image or its type does not exist; its parent or string number does not exist; its data fall outside the image.
+abbrev pub entryLost : ℕ → ℕ → ℕ → FoundEntry → Bool
+entryLost size strings nodes Broken = true
+entryLost size strings nodes (Whole e) = noParent nodes e || (noString strings e || outside 0 size e)
+
+unfoldable pub nodeLost : List ℕ → ℕ → ℕ → List ℕ → ℕ → Bool
+nodeLost image strings nodes entries k = entryLost (length image) strings nodes (foundEntry image entries k)
+
+abbrev pub noneLost : (ℕ → Bool) → ℕ → ℕ → Bool
+noneLost test n first = not (isAt (lowestFrom test n first))
+
+-- Sections, strings and entries.
+abbrev pub placesBelong : List ℕ → Reader → List ℕ → List ℕ → Bool
+placesBelong image reader strings entries =
+    spanInside image (reader .symbols)
+    && (spanInside image (reader .tree)
+    && (spanInside image (reader .«data»)
+    && (noneLost (stringLost image (reader .symbols) strings) (reader .strings) 0
+    && noneLost (nodeLost image (reader .strings) (reader .nodes) entries) (reader .nodes) 1)))
+
+-- No climb takes more steps than there are nodes.
+abbrev pub climbsBelong : List ℕ → Reader → List ℕ → Bool
+climbsBelong image reader entries = noneLost (climbEndless (reader .nodes) (recordedEntry image entries)) (reader .nodes) 1
+
+unfoldable pub belongs : List ℕ → Reader → List ℕ → List ℕ → Bool
+belongs image reader strings entries =
+    sizesBelong image reader strings entries && (placesBelong image reader strings entries && climbsBelong image reader entries)
+
+-- ---- As document 01's clauses: the test is true exactly when this holds (`belongs-record`, `record-belongs`).
+
+pub record Belongs (image : List ℕ) (reader : Reader) (strings entries : List ℕ) : Type 0 where
+  -- Both sides: the image's length, the areas' sizes, the counts.
+  pub length-recorded : length image ≡ reader .length
+  pub length-allowed : reader .length ≤ imageLimit
+  pub strings-area : length strings ≡ stringLimit
+  pub entries-area : length entries ≡ nodeLimit
+  pub few-strings : reader .strings ≤ stringLimit
+  pub few-nodes : reader .nodes ≤ nodeLimit
+  -- The recorded edition exists.
+  pub edition : Edition
+  pub edition-recorded : editionOf (reader .edition) ≡ Known edition
+  -- Each section lies inside the image.
+  pub symbols-inside : reader .symbols .offset + reader .symbols .size ≤ length image
+  pub tree-inside : reader .tree .offset + reader .tree .size ≤ length image
+  pub data-inside : reader .«data» .offset + reader .«data» .size ≤ length image
+  -- Each string begins inside the symbol section, and a zero stands there from it on.
+  pub string-begins : (i : ℕ) → i < reader .strings → reader .symbols .offset ≤ getD strings i 0
+  pub string-zero : (i : ℕ) → i < reader .strings
+      → (z : ℕ) × (getD strings i 0 ≤ z) × (z < reader .symbols .offset + reader .symbols .size) × (getD image z 0 ≡ 0)
+  -- Each entry is one of the image, with a type that exists; its parent and its string exist; its data lie inside the image.
+  pub entry-whole : (k : ℕ) → 0 < k → k ≤ reader .nodes → foundEntry image entries k ≡ Whole (recordedEntry image entries k)
+  pub parent-exists : (k : ℕ) → 0 < k → k ≤ reader .nodes → recordedEntry image entries k .parent ≤ reader .nodes
+  pub string-exists : (k : ℕ) → 0 < k → k ≤ reader .nodes → recordedEntry image entries k .string < reader .strings
+  pub node-data : (k : ℕ) → 0 < k → k ≤ reader .nodes → isVoid (recordedEntry image entries k .kind) ≡ false
+      → recordedEntry image entries k .offset + recordedEntry image entries k .count * elementSize (recordedEntry image entries k .kind) ≤ length image
+  -- A climb takes no more steps than there are nodes.
+  pub climb-ends : (k : ℕ) → 0 < k → k ≤ reader .nodes → reachesBy (λ j. recordedEntry image entries j .parent) (reader .nodes) k ≡ true
+
+-- ---- What the passes behind the test tell.
+
+unfoldable pub sectionsInside : List ℕ → Reader → Bool
+sectionsInside image reader = spanInside image (reader .symbols) && (spanInside image (reader .tree) && spanInside image (reader .«data»))
+
+-- Entries, then climbs; before them strings.
+unfoldable pub nodesBelong : List ℕ → Reader → List ℕ → Bool
+nodesBelong image reader entries =
+    noneLost (nodeLost image (reader .strings) (reader .nodes) entries) (reader .nodes) 1 && climbsBelong image reader entries
+
+unfoldable pub tablesBelong : List ℕ → Reader → List ℕ → List ℕ → Bool
+tablesBelong image reader strings entries =
+    noneLost (stringLost image (reader .symbols) strings) (reader .strings) 0 && nodesBelong image reader entries
+
+-- r is the place behind the last zero from `from` to `end`, or `from` where there is none.
+pub record LastZero (image : List ℕ) (from end r : ℕ) : Type 0 where
+  pub least : from ≤ r
+  pub most : r ≤ end
+  pub is-zero : from < r → getD image (r - 1) 0 ≡ 0
+  pub none-behind : (z : ℕ) → r ≤ z → z < end → getD image z 0 ≡ 0 → ⊥
+
+-- Number i of some places is not one from `from` on and below `end`.
+unfoldable pub placeOutside : ℕ → ℕ → List ℕ → ℕ → Bool
+placeOutside from end places i = ltb (getD places i 0) from || leb end (getD places i 0)
+
+-- Parents of the nodes 1 to n, copied.
+pub record ParentsCopied (entry : ℕ → Entry) (n : ℕ) (parents : List ℕ) : Type 0 where
+  pub parent : (k : ℕ) → 0 < k → k ≤ n → getD parents k 0 ≡ entry k .parent

@@ -1,0 +1,70 @@
+-- Header and sections of an image: document 01, 'Layout of a file'. Numbers are exact: no sum wraps.
+use mathlib.Core.Bool.{Bool, true, false, cond, not, _&&_}
+use mathlib.Core.List.{List, [], _∷_}
+use Prim.Native.Nat.{ℕ, _+_}
+use lib.Dec.{eqb, ltb}
+use lib.ListN.{length, take}
+use Rattle.md5.specs.Md5.{md5}
+use Rattle.aff_format.specs.Bytes.{part, sameBytes}
+use Rattle.aff_format.specs.Edition.{sectionHeaderAt, sectionSumAt, headerSumAt, hasCounts, signatureText, numberForm}
+use Rattle.aff_format.specs.Number.{beOf}
+use Rattle.aff_format.specs.declared.section.Section.{Section}
+use Rattle.aff_format.specs.declared.edition.Edition.{Edition}
+use Rattle.aff_format.specs.declared.edition.Edition.the-variants.{One, Two}
+use Rattle.aff_format.specs.declared.edition.FoundEdition.{FoundEdition}
+use Rattle.aff_format.specs.declared.edition.FoundEdition.the-variants.{Known, Unknown}
+
+-- The edition whose text an image begins with.
+unfoldable pub textEdition : List ℕ → FoundEdition
+textEdition image =
+    cond (sameBytes (take 20 image) (signatureText One)) (Known One)
+    (cond (sameBytes (take 20 image) (signatureText Two)) (Known Two) Unknown)
+
+abbrev pub isKnown : FoundEdition → Bool
+isKnown (Known e) = true
+isKnown Unknown = false
+
+-- Edition 2 stands for no edition: its form is the one lent for such a text, and nothing else of it is asked behind refusal 3.
+abbrev pub orTwo : FoundEdition → Edition
+orTwo (Known e) = e
+orTwo Unknown = Two
+
+abbrev pub editionIn : List ℕ → Edition
+editionIn image = orTwo (textEdition image)
+
+-- The 12 bytes that our programs expect of an image.
+abbrev pub formFor : List ℕ → List ℕ
+formFor image = numberForm (editionIn image)
+
+-- The fields of a section header. Edition 1 has no record count; it is told as 0.
+unfoldable pub sectionOffset : Edition → Section → List ℕ → ℕ
+sectionOffset e s image = beOf (part (sectionHeaderAt e s) 8 image)
+
+unfoldable pub sectionSize : Edition → Section → List ℕ → ℕ
+sectionSize e s image = beOf (part (sectionHeaderAt e s + 8) 8 image)
+
+unfoldable pub sectionRecords : Edition → Section → List ℕ → ℕ
+sectionRecords e s image = cond (hasCounts e) (beOf (part (sectionHeaderAt e s + 16) 8 image)) 0
+
+abbrev pub sectionSum : Edition → Section → List ℕ → List ℕ
+sectionSum e s image = part (sectionSumAt e s) 16 image
+
+-- The bytes of a section.
+unfoldable pub sectionBytes : Edition → Section → List ℕ → List ℕ
+sectionBytes e s image = part (sectionOffset e s image) (sectionSize e s image) image
+
+-- 5: the header sum is wrong.
+unfoldable pub headerSumWrong : Edition → List ℕ → Bool
+headerSumWrong e image = not (sameBytes (part (headerSumAt e) 16 image) (md5 (take (headerSumAt e) image)))
+
+-- 6: a section ends past the image.
+unfoldable pub endsPast : Edition → Section → List ℕ → Bool
+endsPast e s image = ltb (length image) (sectionOffset e s image + sectionSize e s image)
+
+-- 7: a section's sum is wrong.
+unfoldable pub sumWrong : Edition → Section → List ℕ → Bool
+sumWrong e s image = not (sameBytes (sectionSum e s image) (md5 (sectionBytes e s image)))
+
+-- 8 and 9: the record count of a section, where the edition has one, is not n.
+unfoldable pub countDiffers : Edition → Section → List ℕ → ℕ → Bool
+countDiffers e s image n = hasCounts e && not (eqb (sectionRecords e s image) n)
