@@ -1,0 +1,59 @@
+-- The decoding of a node's data counts its elements as the entry does. Assumes nothing.
+use mathlib.Core.Path.{_≡_, refl, sym, ap, _∙_}
+use mathlib.Core.Bool.{Bool, true, false}
+use mathlib.Core.List.{List, [], _∷_}
+use Prim.Native.Nat.{ℕ, _+_, _-_, _*_, _/_, _≤_, _<_}
+use native.Mathlib.Omega.{arith}
+use lib.Dec.{leb}
+use lib.ListN.{length, getD, drop}
+use mathlib.Core.Logic.{⊎-elim}
+use Rattle.aff_format.proofs.ClimbLaws.{at-zero}
+use Rattle.aff_format.proofs.EntryLaws.{whole-void-count}
+use Rattle.aff_format.specs.Answer.{Answer, check, refusal, firstWrong}
+use Rattle.aff_format.specs.Bytes.{part}
+use Rattle.aff_format.specs.Element.{countIn, elementAt, decoded}
+use Rattle.aff_format.specs.Kind.{elementSize, isVoid}
+use Rattle.aff_format.specs.declared.kind.Kind.{Kind}
+use Rattle.aff_format.specs.declared.kind.Kind.the-variants.{Void, Char, Int, Double, Complex}
+use Rattle.aff_format.proofs.BytesLaws.{length-part}
+use Rattle.aff_open.specs.Belongs.{Belongs}
+use Rattle.aff_open.specs.Recorded.{recordedEntry}
+use Rattle.aff_open.specs.declared.reader.Reader.{Reader}
+use Rattle.aff_read.specs.Recall.{kindAt, countAt, dataSpan, bytesAt}
+use Rattle.aff_read.proofs.SpanLaws.{data-ends}
+
+-- n elements are counted in as many bytes as they take.
+pub counted : (k : Kind) (n : ℕ) (l : List ℕ) → isVoid k ≡ false → length l ≡ n * elementSize k → countIn k l ≡ n
+counted Void n l v h = absurd (let z : _≡_ {A = ℕ} 0 1 = cc in omega arith)
+counted Char n l v h = omega arith
+counted Int n l v h = omega arith
+counted Double n l v h = omega arith
+counted Complex n l v h = omega arith
+
+counted-void : (k : Kind) (l : List ℕ) → isVoid k ≡ true → countIn k l ≡ 0
+counted-void Void l v = refl
+counted-void Char l v = absurd (let z : _≡_ {A = ℕ} 0 1 = cc in omega arith)
+counted-void Int l v = absurd (let z : _≡_ {A = ℕ} 0 1 = cc in omega arith)
+counted-void Double l v = absurd (let z : _≡_ {A = ℕ} 0 1 = cc in omega arith)
+counted-void Complex l v = absurd (let z : _≡_ {A = ℕ} 0 1 = cc in omega arith)
+
+module _ {image : List ℕ} {reader : Reader} {strings entries : List ℕ} (b : Belongs image reader strings entries) (node : ℕ) (there : node ≤ reader .nodes) where
+  -- A Void node's count is 0.
+  void-count : isVoid (kindAt image entries node) ≡ true → countAt image entries node ≡ 0
+  unfolding recordedEntry
+  void-count v =
+      ⊎-elim (λ (z : node ≡ 0). rw z) (λ (h : 0 < node). whole-void-count (drop (getD entries (node - 1) 0) image) (recordedEntry image entries node) (b .entry-whole node h there) v)
+      (at-zero (λ k. k) node)
+
+  pub count-in : countIn (kindAt image entries node) (bytesAt image entries node) ≡ countAt image entries node
+  unfolding dataSpan
+  count-in = go (isVoid (kindAt image entries node)) refl
+    where
+      go : (v : Bool) → isVoid (kindAt image entries node) ≡ v → countIn (kindAt image entries node) (bytesAt image entries node) ≡ countAt image entries node
+      go true v = counted-void (kindAt image entries node) (bytesAt image entries node) v ∙ sym (void-count v)
+      go false v = counted (kindAt image entries node) (countAt image entries node) (bytesAt image entries node) v (rw v (length-part _ _ image (data-ends b node there v)))
+
+  pub element-decoded : (index : ℕ) → decoded (kindAt image entries node) (bytesAt image entries node) index
+      ≡ firstWrong (check (leb (countAt image entries node) index) (refusal 16) ∷ []) (elementAt (kindAt image entries node) (bytesAt image entries node) index)
+  unfolding decoded
+  element-decoded index = rw count-in

@@ -1,0 +1,20 @@
+// What the reading calls hand back.
+use aff_format::Kind;
+use aff_format::Refusal;
+use aff_open::Span;
+
+pub enum KindAnswer {
+    Value(Kind),
+    Refused(Refusal),
+}
+
+pub enum NumberAnswer {
+    Value(usize),
+    Refused(Refusal),
+}
+
+// Where a part of the image stands.
+pub enum PartAnswer {
+    At(Span),
+    Refused(Refusal),
+}

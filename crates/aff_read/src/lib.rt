@@ -1,0 +1,8 @@
+// Answers of an opened image. Every call takes image, record and both areas as they were lent to `open`, and judges first whether the
+// record belongs to them (24); what passes is answered of the lent bytes as they then are.
+pub mod answers; // what the calls hand back
+pub mod node; // name, kind, count and data of a node
+
+pub use answers::KindAnswer;
+pub use answers::NumberAnswer;
+pub use answers::PartAnswer;
