@@ -18,5 +18,8 @@ pub mod WalkLaws
 pub mod TreeTableLaws
 pub mod NodeLaws
 pub mod OpeningLaws
+pub mod RuleLaws
+pub mod FaultLaws
+pub mod ObeysLaws
 pub mod LostLaws
 pub mod BelongsLaws

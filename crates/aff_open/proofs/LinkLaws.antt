@@ -3,7 +3,7 @@
 use mathlib.Core.Path.{_≡_, refl, sym, ap, _∙_}
 use mathlib.Core.Bool.{Bool, true, false, not, _&&_, _||_, true≢false}
 use mathlib.Core.List.{List, []}
-use mathlib.Core.Logic.{⊎-elim}
+use mathlib.Core.Logic.{⊎-elim, _↔_}
 use Prim.Native.Nat.{ℕ, _+_, _-_, _≤_, _<_}
 use native.Mathlib.Nat.{eq-or-lt-of-le}
 use native.Mathlib.Omega.{arith}
@@ -35,7 +35,7 @@ use Rattle.aff_open.specs.Tables.{nameFrom, repeats}
 use Rattle.aff_open.proofs.ParentLaws.{reaches-same}
 use Rattle.aff_open.proofs.RecordedLaws.{name-part}
 
-or-false : (a b : Bool) → (a || b) ≡ false → (a ≡ false) × (b ≡ false)
+pub or-false : (a b : Bool) → (a || b) ≡ false → (a ≡ false) × (b ≡ false)
 or-false true b h = absurd (true≢false h)
 or-false false b h = (refl, h)
 
@@ -99,18 +99,21 @@ module _ (e : Edition) (strings : ℕ) (string : ℕ → List ℕ) (nodes : ℕ)
   abbrev pub Linkable : ℕ → Type 0
   Linkable k = (entry k .parent ≤ nodes) × (entry k .string < strings) × (isSubkey e (string (entry k .string)) ≡ true)
 
-  pub links-clear : lowestFrom (linkWrong e strings string nodes entry) nodes 1 ≡ Nothing → (k : ℕ) → 0 < k → k ≤ nodes → Linkable k
+  pub link-asks : (k : ℕ) → (linkWrong e strings string nodes entry k ≡ false) ↔ Linkable k
   unfolding linkWrong
-  links-clear h k lo hi =
-      let (p, r) = or-false _ _ (none-holds (linkWrong e strings string nodes entry) nodes 1 h k (omega arith) (omega arith)) in
-      let (s, n) = or-false _ _ r in
-      (ltb-false nodes (entry k .parent) p, leb-false strings (entry k .string) s, not-false (isSubkey e (string (entry k .string))) n)
+  link-asks k = (
+    λ h.
+        let (p, r) = or-false _ _ h in
+        let (s, n) = or-false _ _ r in
+        (ltb-false nodes (entry k .parent) p, leb-false strings (entry k .string) s, not-false (isSubkey e (string (entry k .string))) n),
+    λ (p, s, n). rw (le-ltb nodes (entry k .parent) p, lt-leb strings (entry k .string) s, n),
+  )
+
+  pub links-clear : lowestFrom (linkWrong e strings string nodes entry) nodes 1 ≡ Nothing → (k : ℕ) → 0 < k → k ≤ nodes → Linkable k
+  links-clear h k lo hi = link-asks k .0 (none-holds (linkWrong e strings string nodes entry) nodes 1 h k (omega arith) (omega arith))
 
   pub clear-links : ((k : ℕ) → 0 < k → k ≤ nodes → Linkable k) → lowestFrom (linkWrong e strings string nodes entry) nodes 1 ≡ Nothing
-  unfolding linkWrong
-  clear-links h =
-      holds-none (linkWrong e strings string nodes entry) nodes 1
-      (λ k lo hi. let (p, s, n) = h k (omega arith) (omega arith) in rw (le-ltb nodes (entry k .parent) p, lt-leb strings (entry k .string) s, n))
+  clear-links h = holds-none (linkWrong e strings string nodes entry) nodes 1 (λ k lo hi. link-asks k .1 (h k (omega arith) (omega arith)))
 
 -- 11 and 12 by the copied numbers.
 module _ (entry : ℕ → Entry) (nodes : ℕ) (parents names : List ℕ) (c : Copied entry nodes parents names) where
@@ -205,17 +208,16 @@ module _ (ss : List (List ℕ)) where
       go false p true q = absurd (apart j i (ltb-true j i q) m (sym e))
       go false p false q = omega (arith, ltb-false i j p, ltb-false j i q)
 
-  pub repeats-by-distinct : ((i j : ℕ) → i < length ss → j < length ss → getD ss i [] ≡ getD ss j [] → i ≡ j)
-      → lowestFrom (repeats ss) (length ss) 0 ≡ Nothing
+  pub repeats-by-distinct : ((i k : ℕ) → i < k → k < length ss → getD ss i [] ≡ getD ss k [] → ⊥) → lowestFrom (repeats ss) (length ss) 0 ≡ Nothing
   unfolding repeats
   repeats-by-distinct d =
-      holds-none (repeats ss) (length ss) 0 (λ j lo hi. isIn-indexIn (getD ss j []) (take j ss) ∙ go j (omega arith) _ refl)
+      holds-none (repeats ss) (length ss) 0 (λ k lo hi. isIn-indexIn (getD ss k []) (take k ss) ∙ go k (omega arith) _ refl)
     where
-      go : (j : ℕ) → j < length ss → (t : Bool) → ltb (indexIn (getD ss j []) (take j ss)) (length (take j ss)) ≡ t → t ≡ false
-      go j n false q = refl
-      go j n true q =
-          let i : ℕ = indexIn (getD ss j []) (take j ss) in
-          let l : i < length (take j ss) = ltb-true _ _ q in
-          let f = length-take-le j ss (omega arith) in
-          let m : i < j = omega arith in
-          absurd (let z = d i j (omega arith) n (sym (getD-take j ss i [] m) ∙ indexIn-found (getD ss j []) (take j ss) l) in omega arith)
+      go : (k : ℕ) → k < length ss → (t : Bool) → ltb (indexIn (getD ss k []) (take k ss)) (length (take k ss)) ≡ t → t ≡ false
+      go k n false q = refl
+      go k n true q =
+          let i : ℕ = indexIn (getD ss k []) (take k ss) in
+          let l : i < length (take k ss) = ltb-true _ _ q in
+          let f = length-take-le k ss (omega arith) in
+          let m : i < k = omega arith in
+          absurd (d i k m n (sym (getD-take k ss i [] m) ∙ indexIn-found (getD ss k []) (take k ss) l))

@@ -69,7 +69,7 @@ unfolding endsPast
 ends-inside e s image h = ltb-false _ _ h
 
 -- What is known behind accepted checks: those of the header, 6, and 6 and 7.
-known-is : (f : FoundEdition) → not (isKnown f) ≡ false → f ≡ Known (orTwo f)
+pub known-is : (f : FoundEdition) → not (isKnown f) ≡ false → f ≡ Known (orTwo f)
 known-is (Known e) h = refl
 known-is Unknown h = absurd (true≢false h)
 

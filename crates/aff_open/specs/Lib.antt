@@ -8,6 +8,7 @@ pub mod Sorted
 pub mod Distinct
 pub mod Opening
 pub mod Obeys
+pub mod Faults
 pub mod Recorded
 pub mod Belongs
 pub mod Passes

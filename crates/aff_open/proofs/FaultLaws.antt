@@ -1,0 +1,216 @@
+-- Each check of an opening asks for its rule, so the rules settle the opening's answer: it is accepted where all rules of document 01 hold, and
+-- refused with the number and the place of the first that fails. Assumes nothing.
+use mathlib.Core.Path.{_≡_, refl, sym, ap, subst, _∙_}
+use mathlib.Core.Bool.{Bool, true, false, not, _&&_, _||_, true≢false}
+use mathlib.Core.List.{List, [], _++_}
+use mathlib.Core.Logic.{_↔_}
+use Prim.Native.Nat.{ℕ, _+_, _-_, _*_, _≤_}
+use native.Mathlib.Omega.{arith}
+use lib.Dec.{eqb, ltb}
+use lib.ListN.{length, getD, take}
+use borrow.Author.Tests.{eqb-true, eq-eqb, ltb-false, le-ltb, not-false}
+use Rattle.md5.specs.Md5.{md5}
+use Rattle.aff_format.specs.Answer.{accepted, refused}
+use Rattle.aff_format.specs.Bytes.{part, sameBytes}
+use Rattle.aff_format.specs.Edition.{headerSize, headerSumAt, hasCounts, signatureText}
+use Rattle.aff_format.specs.Kind.{elementSize, isVoid}
+use Rattle.aff_format.specs.Limits.{imageLimit, stringLimit, nodeLimit}
+use Rattle.aff_format.specs.Lowest.{lowestFrom}
+use Rattle.aff_format.specs.Strings.{stringsOf, endsInZero, textOf}
+use Rattle.aff_format.specs.declared.section.Section.{Section}
+use Rattle.aff_format.specs.declared.section.Section.the-variants.{Symbol, Tree, Data}
+use Rattle.aff_format.specs.declared.edition.Edition.{Edition}
+use Rattle.aff_format.specs.declared.entry.Entry.{Entry}
+use Rattle.aff_format.specs.declared.refusal.Told.{Told}
+use Rattle.aff_format.proofs.ClimbLaws.{reaches-within}
+use Rattle.aff_format.proofs.LowestLaws.{none-holds, holds-none}
+use Rattle.aff_format.proofs.SameLaws.{same-eq, same-refl, ne-same}
+use Rattle.aff_format.proofs.StringsLaws.{endsInZero-textOf, textOf-stringsOf}
+use Rattle.aff_open.specs.Faults.{AllHold, FirstFails, Settled, Inside, Summed, Counted, Distinct, Linked, Climbs, NameFree, DataInside, nodeRules, tableRules, sectionRules, editionRules, rules}
+use Rattle.aff_open.specs.Nodes.{nodeEntry, isAt, outside, linkWrong, climbEndless, nameTaken, sameSite, dataOutside}
+use Rattle.aff_open.specs.Opening.{isEmpty, lentWrong, nodesChecked, tableChecks, formChecks, bodyChecks, openChecks, opened, readerFor, stringIn, entryIn}
+use Rattle.aff_open.specs.Sections.{textEdition, isKnown, editionIn, sectionOffset, sectionSize, sectionRecords, sectionBytes, headerSumWrong, endsPast, sumWrong, countDiffers}
+use Rattle.aff_open.specs.Tables.{repeats, stringsIn, nodesIn, behindNodes}
+use Rattle.aff_open.specs.declared.reader.Reader.{Reader}
+use Rattle.aff_open.proofs.LinkLaws.{or-false, link-asks, distinct-by-repeats, repeats-by-distinct}
+use Rattle.aff_open.proofs.OpeningLaws.{none-at, lent-right}
+use Rattle.aff_open.proofs.RuleLaws.{AskFor, none, one, each, Each, settled, all-accept, first-refuses}
+use Rattle.aff_open.proofs.SectionLaws.{known-is, text-known, known-text}
+use Rattle.aff_open.proofs.TreeTableLaws.{empty-is}
+
+-- A law `..-asks`: a test finds nothing wrong exactly where its rule holds.
+
+-- ---- Tests of each kind.
+
+below-asks : (a b : ℕ) → (ltb a b ≡ false) ↔ (b ≤ a)
+below-asks a b = (ltb-false a b, le-ltb a b)
+
+same-asks : (a b : List ℕ) → (not (sameBytes a b) ≡ false) ↔ (a ≡ b)
+same-asks a b = (λ h. same-eq a b (not-false _ h), λ h. rw (h, same-refl b))
+
+-- A test of which no number in a range is found.
+lowest-asks : (test : ℕ → Bool) (left k : ℕ) → (isAt (lowestFrom test left k) ≡ false) ↔ Each (λ j. test j ≡ false) left k
+lowest-asks test left k = (λ h. none-holds test left k (none-at _ h), λ h. ap isAt (holds-none test left k h))
+
+-- ---- The header and the sections: 1 to 7.
+
+lent-asks : (image form : List ℕ) (strings entries : ℕ)
+    → (lentWrong image form strings entries ≡ false) ↔ ((length form ≡ 12) × (strings ≡ stringLimit) × (entries ≡ nodeLimit) × (length image ≤ imageLimit))
+unfolding lentWrong
+lent-asks image form strings entries = (
+  λ h. let (f, s, e, i) = lent-right image form strings entries h in (f, s, e, omega arith),
+  λ (f, s, e, i). rw (eq-eqb (length form) 12 f, eq-eqb strings stringLimit s, eq-eqb entries nodeLimit e, le-ltb imageLimit (length image) i),
+)
+
+text-asks : (image : List ℕ) → (not (isKnown (textEdition image)) ≡ false) ↔ ((e : Edition) × (take 20 image ≡ signatureText e))
+text-asks image =
+    (λ h. (editionIn image, text-known (editionIn image) image (known-is (textEdition image) h)), λ (e, t). rw (known-text e image t))
+
+module _ (e : Edition) (s : Section) (image : List ℕ) where
+  inside-asks : (endsPast e s image ≡ false) ↔ Inside e s image
+  unfolding endsPast
+  inside-asks = below-asks (length image) (sectionOffset e s image + sectionSize e s image)
+
+  sum-asks : (sumWrong e s image ≡ false) ↔ Summed e s image
+  unfolding sumWrong
+  sum-asks = same-asks _ _
+
+  count-asks : (n : ℕ) → (countDiffers e s image n ≡ false) ↔ Counted e s image n
+  unfolding countDiffers
+  count-asks n = go (hasCounts e)
+    where
+      go : (b : Bool) → ((b && not (eqb (sectionRecords e s image) n)) ≡ false) ↔ (b ≡ true → sectionRecords e s image ≡ n)
+      go true = (λ h q. eqb-true _ _ (not-false _ h), λ h. rw (eq-eqb _ _ (h refl)))
+      go false = (λ h q. absurd (true≢false (sym q)), λ h. refl)
+
+-- ---- The tables: 8 and 9.
+
+ends-asks : (l : List ℕ) → (not (endsInZero l) ≡ false) ↔ (l ≡ textOf (stringsOf l))
+ends-asks l = (λ h. sym (textOf-stringsOf l (not-false _ h)), λ h. ap not (ap endsInZero h ∙ endsInZero-textOf (stringsOf l)))
+
+distinct-asks : (ss : List (List ℕ)) → (isAt (lowestFrom (repeats ss) (length ss) 0) ≡ false) ↔ Distinct ss
+distinct-asks ss = (
+  λ h i k l m q. let z = distinct-by-repeats ss (none-at _ h) i k (omega arith) m q in omega arith,
+  λ d. ap isAt (repeats-by-distinct ss d),
+)
+
+empty-asks : (l : List ℕ) → (not (isEmpty l) ≡ false) ↔ (l ≡ [])
+empty-asks l = (λ h. empty-is l (not-false _ h), λ h. rw h)
+
+-- ---- The nodes: 11 to 13.
+
+-- 11, where 10 holds of all nodes.
+climb-asks : (e : Edition) (strings : List (List ℕ)) (entries : List Entry) → Each (Linked e strings entries) (length entries) 1
+    → Each (λ k. (climbEndless (length entries) (nodeEntry entries) k ≡ false) ↔ Climbs entries k) (length entries) 1
+unfolding climbEndless
+climb-asks e strings entries linked k lo hi = (
+  λ h. (length entries, not-false _ h),
+  λ (steps, h).
+      ap not (reaches-within (λ j. nodeEntry entries j .parent) (length entries) (λ j l m. linked j l (omega arith) .0) steps k (omega arith) h),
+)
+
+name-asks : (strings : List (List ℕ)) (entries : List Entry) (k : ℕ)
+    → (nameTaken (λ i. getD strings i []) (nodeEntry entries) k ≡ false) ↔ NameFree strings entries k
+unfolding nameTaken
+name-asks strings entries k =
+    let none = lowest-asks (sameSite (λ i. getD strings i []) (nodeEntry entries) k) (k - 1) 1 in (
+      λ h j lo hi. site _ _ _ _ .0 (none .0 h j lo (omega arith)),
+      λ h. none .1 (λ j lo hi. site _ _ _ _ .1 (h j lo (omega arith))),
+    )
+  where
+    site : (a b : ℕ) (x y : List ℕ) → ((eqb a b && sameBytes x y) ≡ false) ↔ (a ≡ b → x ≡ y → ⊥)
+    site a b x y = (
+      λ h p q. true≢false (sym (rw (eq-eqb a b p, q, same-refl y)) ∙ h),
+      λ h. go (eqb a b) refl h,
+    )
+      where
+        go : (t : Bool) → eqb a b ≡ t → (a ≡ b → x ≡ y → ⊥) → (t && sameBytes x y) ≡ false
+        go true p h = ne-same x y (h (eqb-true a b p))
+        go false p h = refl
+
+data-asks : (from size : ℕ) (e : Entry) → (outside from size e ≡ false)
+    ↔ (isVoid (e .kind) ≡ false → (from ≤ e .offset) × (e .offset + e .count * elementSize (e .kind) ≤ from + size))
+unfolding outside
+data-asks from size e = go (isVoid (e .kind)) (e .offset + e .count * elementSize (e .kind))
+  where
+    go : (v : Bool) (end : ℕ) → ((not v && (ltb (e .offset) from || ltb (from + size) end)) ≡ false) ↔ (v ≡ false → (from ≤ e .offset) × (end ≤ from + size))
+    go true end = (λ h q. absurd (true≢false q), λ h. refl)
+    go false end = (
+      λ h q. let (p, r) = or-false _ _ h in (ltb-false _ _ p, ltb-false _ _ r),
+      λ h. let (p, r) = h refl in rw (le-ltb _ _ p, le-ltb _ _ r),
+    )
+
+-- ---- In document 01's order.
+
+module _ (e : Edition) (image : List ℕ) where
+  abbrev nodes : ℕ
+  nodes = length (nodesIn e image)
+
+  nodes-ask : AskFor (nodesChecked e image) (nodeRules e image (stringsIn e image) (nodesIn e image))
+  nodes-ask =
+      each 10 (linkWrong e (length (stringsIn e image)) (stringIn e image) nodes (entryIn e image)) (Linked e (stringsIn e image) (nodesIn e image)) nodes 1
+      (λ k lo hi. link-asks e (length (stringsIn e image)) (stringIn e image) nodes (entryIn e image) k)
+      (λ linked.
+      each 11 (climbEndless nodes (entryIn e image)) (Climbs (nodesIn e image)) nodes 1 (climb-asks e (stringsIn e image) (nodesIn e image) linked)
+      (λ climbs.
+      each 12 (nameTaken (stringIn e image) (entryIn e image)) (NameFree (stringsIn e image) (nodesIn e image)) nodes 1
+      (λ k lo hi. name-asks (stringsIn e image) (nodesIn e image) k)
+      (λ free.
+      each 13 (dataOutside (sectionOffset e Data image) (sectionSize e Data image) (entryIn e image)) (DataInside e image (nodesIn e image)) nodes 1
+      (λ k lo hi. data-asks (sectionOffset e Data image) (sectionSize e Data image) (entryIn e image k))
+      (λ inside. none))))
+
+  tables-ask : AskFor (tableChecks e image) (tableRules e image (stringsIn e image) (nodesIn e image))
+  tables-ask =
+      one (ends-asks (sectionBytes e Symbol image))
+      (λ h. one (below-asks stringLimit (length (stringsIn e image)))
+      (λ h. one (count-asks e Symbol image (length (stringsIn e image)))
+      (λ h. one (distinct-asks (stringsIn e image))
+      (λ h. one (empty-asks (behindNodes e image))
+      (λ h. one (count-asks e Tree image (length (nodesIn e image)))
+      (λ h. nodes-ask))))))
+
+  sections-ask : AskFor (bodyChecks e image) (sectionRules e image)
+  sections-ask =
+      one (inside-asks e Symbol image)
+      (λ h. one (inside-asks e Tree image)
+      (λ h. one (inside-asks e Data image)
+      (λ h. one (sum-asks e Symbol image)
+      (λ h. one (sum-asks e Tree image)
+      (λ h. one (sum-asks e Data image)
+      (λ h. tables-ask))))))
+
+  edition-asks : (form : List ℕ) → AskFor (formChecks e image form ++ bodyChecks e image) (editionRules e image form)
+  unfolding headerSumWrong
+  edition-asks form =
+      one (below-asks (length image) (headerSize e))
+      (λ h. one (same-asks (part 20 12 image) form)
+      (λ h. one (same-asks (part (headerSumAt e) 16 image) (md5 (take (headerSumAt e) image)))
+      (λ h. sections-ask)))
+
+module _ (image form : List ℕ) (strings entries : ℕ) where
+  opening-asks : AskFor (openChecks image form strings entries) (rules image form strings entries)
+  unfolding openChecks rules
+  opening-asks =
+      one (lent-asks image form strings entries)
+      (λ h. one (below-asks (length image) 144)
+      (λ h. one (text-asks image)
+      (λ h. edition-asks (editionIn image) image form)))
+
+  -- The rules settle the answer of an opening.
+  pub opening-settled : Settled (rules image form strings entries) (readerFor (editionIn image) image) (opened image form strings entries)
+  opening-settled = settled (readerFor (editionIn image) image) opening-asks
+
+  -- So a refused opening tells number and place of the first rule that fails, and back.
+  pub refused-first : {t : Told} → opened image form strings entries ≡ refused t → FirstFails (rules image form strings entries) t
+  refused-first h = subst (Settled (rules image form strings entries) (readerFor (editionIn image) image)) h opening-settled
+
+  pub first-refused : {t : Told} → FirstFails (rules image form strings entries) t → opened image form strings entries ≡ refused t
+  first-refused f = first-refuses (rules image form strings entries) _ (opened image form strings entries) opening-settled f
+
+  -- And it is accepted where all rules hold, and back.
+  pub accepted-hold : {r : Reader} → opened image form strings entries ≡ accepted r → AllHold (rules image form strings entries)
+  accepted-hold h = subst (Settled (rules image form strings entries) (readerFor (editionIn image) image)) h opening-settled .0
+
+  pub hold-accepted : AllHold (rules image form strings entries) → opened image form strings entries ≡ accepted (readerFor (editionIn image) image)
+  hold-accepted h = all-accept (rules image form strings entries) _ (opened image form strings entries) opening-settled h

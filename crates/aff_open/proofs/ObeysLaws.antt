@@ -1,0 +1,170 @@
+-- An opening is accepted exactly where the file obeys the format: the rules in document 01's order are those of `Obeys`. Where a file obeys, the
+-- strings and entries that `Obeys` speaks of are those of its tables. Assumes nothing.
+use mathlib.Core.Path.{_≡_, refl, sym, ap, _∙_}
+use mathlib.Core.List.{List, [], _∷_}
+use Prim.Native.Nat.{ℕ, zero, suc, _≤_, _<_}
+use native.Mathlib.Omega.{arith}
+use lib.ListN.{length, getD}
+use borrow.Author.Tests.{eqb-false, ne-eqb}
+use Rattle.aff_format.specs.Answer.{accepted}
+use Rattle.aff_format.specs.Bytes.{Without, EachWithout, Octets}
+use Rattle.aff_format.specs.Edition.{signatureText}
+use Rattle.aff_format.specs.Limits.{stringLimit, nodeLimit}
+use Rattle.aff_format.specs.Strings.{stringsOf}
+use Rattle.aff_format.specs.declared.section.Section.{Section}
+use Rattle.aff_format.specs.declared.section.Section.the-variants.{Symbol, Tree, Data}
+use Rattle.aff_format.specs.declared.edition.Edition.{Edition}
+use Rattle.aff_format.specs.declared.entry.Entry.{Entry}
+use Rattle.aff_format.proofs.BytesLaws.{length-part, octets-part}
+use Rattle.aff_format.proofs.EditionLaws.{header-least}
+use Rattle.aff_format.proofs.StringsLaws.{stringsOf-textOf, strings-without-zero, each-at}
+use Rattle.aff_open.specs.Faults.{Rule, AllHold, eachNode, Inside, Summed, Linked, Climbs, NameFree, DataInside, nodeRules, tableRules, sectionRules, rules}
+use Rattle.aff_open.specs.Obeys.{Obeys}
+use Rattle.aff_open.specs.Opening.{opened, readerFor}
+use Rattle.aff_open.specs.Sections.{orTwo, editionIn, sectionOffset, sectionSize, sectionBytes}
+use Rattle.aff_open.specs.Tables.{stringsIn, nodesIn, behindNodes}
+use Rattle.aff_open.specs.declared.reader.Reader.{Reader}
+use Rattle.aff_open.proofs.FaultLaws.{accepted-hold, hold-accepted}
+use Rattle.aff_open.proofs.RuleLaws.{Each, each-hold, hold-each}
+use Rattle.aff_open.proofs.SectionLaws.{known-text}
+use Rattle.aff_open.proofs.TreeTableLaws.{tree-bytes, bytes-tree, entries-storable, entries-few}
+
+-- ---- Strings without a zero byte, byte by byte.
+
+without-at : (l : List ℕ) → Without 0 l → (k : ℕ) → k < length l → getD l k 0 ≡ 0 → ⊥
+without-at [] w k h = absurd (omega arith)
+without-at (x ∷ l) w zero h = eqb-false x 0 (w .0)
+without-at (x ∷ l) w (suc k) h = without-at l (w .1) k (omega arith)
+
+at-without : (l : List ℕ) → ((k : ℕ) → k < length l → getD l k 0 ≡ 0 → ⊥) → Without 0 l
+at-without [] h = tt
+at-without (x ∷ l) h = (ne-eqb x 0 (h 0 (omega arith)), at-without l (λ k m. h (suc k) (omega arith)))
+
+each-without : (ss : List (List ℕ)) → ((i k : ℕ) → i < length ss → k < length (getD ss i []) → getD (getD ss i []) k 0 ≡ 0 → ⊥) → EachWithout 0 ss
+each-without [] h = tt
+each-without (s ∷ ss) h = (at-without s (λ k. h 0 k (omega arith)), each-without ss (λ i k l. h (suc i) k (omega arith)))
+
+-- ---- The rules of all nodes.
+
+module _ (e : Edition) (image : List ℕ) (strings : List (List ℕ)) (entries : List Entry) where
+  abbrev n : ℕ
+  n = length entries
+
+  abbrev NodesHold : Type 0
+  NodesHold = Each (Linked e strings entries) n 1 × Each (Climbs entries) n 1 × Each (NameFree strings entries) n 1 × Each (DataInside e image entries) n 1
+
+  abbrev from-13 : List Rule
+  from-13 = eachNode 13 (DataInside e image entries) n 1 []
+
+  abbrev from-12 : List Rule
+  from-12 = eachNode 12 (NameFree strings entries) n 1 from-13
+
+  abbrev from-11 : List Rule
+  from-11 = eachNode 11 (Climbs entries) n 1 from-12
+
+  nodes-hold : AllHold (nodeRules e image strings entries) → NodesHold
+  nodes-hold h =
+      let (linked, more) = each-hold 10 (Linked e strings entries) from-11 n 1 h in
+      let (climbs, rest) = each-hold 11 (Climbs entries) from-12 n 1 more in
+      let (free, last) = each-hold 12 (NameFree strings entries) from-13 n 1 rest in
+      let (inside, _) = each-hold 13 (DataInside e image entries) [] n 1 last in
+      (linked, climbs, free, inside)
+
+  hold-nodes : NodesHold → AllHold (nodeRules e image strings entries)
+  hold-nodes (linked, climbs, free, inside) =
+      hold-each 10 (Linked e strings entries) from-11 n 1 linked
+      (hold-each 11 (Climbs entries) from-12 n 1 climbs
+      (hold-each 12 (NameFree strings entries) from-13 n 1 free
+      (hold-each 13 (DataInside e image entries) [] n 1 inside tt)))
+
+-- ---- Rules that hold make a file that obeys.
+
+octets-section : (e : Edition) (s : Section) (image : List ℕ) → Octets image → Octets (sectionBytes e s image)
+unfolding sectionBytes
+octets-section e s image o = octets-part (sectionOffset e s image) (sectionSize e s image) image o
+
+pub hold-obeys : (image form : List ℕ) → Octets image → AllHold (rules image form stringLimit nodeLimit) → Obeys image form
+unfolding rules
+hold-obeys image form o h =
+    let e = editionIn image in
+    let ((_, _, _, size), (_, ((d, text), (whole, (form-is, (sum, sections)))))) = h in
+    let (in-symbol, (in-tree, (in-data, (sum-symbol, (sum-tree, (sum-data, tables)))))) = sections in
+    let (symbols, (few, (count, (distinct, (behind, (number, nodes)))))) = tables in
+    let (linked, climbs, free, inside) = nodes-hold e image (stringsIn e image) (nodesIn e image) nodes in
+    record {
+      edition = e;
+      size = size;
+      whole-header = whole;
+      text = text ∙ ap signatureText (sym (ap orTwo (known-text d image text)));
+      number-form = form-is;
+      header-sum = sum;
+      inside = of-section (λ s. Inside e s image) in-symbol in-tree in-data;
+      sums = of-section (λ s. Summed e s image) sum-symbol sum-tree sum-data;
+      strings = stringsIn e image;
+      symbol-table = symbols;
+      no-zero = λ i k l. without-at (getD (stringsIn e image) i []) (each-at 0 (stringsIn e image) i (strings-without-zero (sectionBytes e Symbol image))) k;
+      few-strings = few;
+      string-count = count;
+      distinct = distinct;
+      entries = nodesIn e image;
+      tree-table = tree-bytes nodeLimit (sectionBytes e Tree image) behind (octets-section e Tree image o);
+      storable = entries-storable nodeLimit (sectionBytes e Tree image) (octets-section e Tree image o);
+      few-nodes = entries-few nodeLimit (sectionBytes e Tree image);
+      node-count = number;
+      parent = λ k lo hi. linked k lo (omega arith) .0;
+      string = λ k lo hi. linked k lo (omega arith) .1;
+      subkey = λ k lo hi. linked k lo (omega arith) .2;
+      climb = λ k lo hi. climbs k lo (omega arith);
+      siblings = λ j k lo l hi. free k (omega arith) (omega arith) j lo l;
+      data-inside = λ k lo hi. inside k lo (omega arith);
+    }
+  where
+    of-section : (P : Section → Type 0) → P Symbol → P Tree → P Data → (s : Section) → P s
+    of-section P a b c Symbol = a
+    of-section P a b c Tree = b
+    of-section P a b c Data = c
+
+-- ---- And back.
+
+module _ {image form : List ℕ} (o : Obeys image form) where
+  -- The record's edition, strings and entries are those of the text and of the tables.
+  pub edition-found : editionIn image ≡ o .edition
+  edition-found = ap orTwo (known-text (o .edition) image (o .text))
+
+  pub strings-found : stringsIn (o .edition) image ≡ o .strings
+  strings-found = ap stringsOf (o .symbol-table) ∙ stringsOf-textOf (o .strings) (each-without (o .strings) (o .no-zero))
+
+  tree-found : (nodesIn (o .edition) image ≡ o .entries) × (behindNodes (o .edition) image ≡ [])
+  tree-found = rw (o .tree-table) (bytes-tree (o .entries) nodeLimit (o .storable) (o .few-nodes))
+
+  pub entries-found : nodesIn (o .edition) image ≡ o .entries
+  entries-found = tree-found .0
+
+  tables-hold : AllHold (tableRules (o .edition) image (stringsIn (o .edition) image) (nodesIn (o .edition) image))
+  tables-hold =
+      let nodes = hold-nodes (o .edition) image (o .strings) (o .entries) (
+        λ k lo hi. (o .parent k lo (omega arith), o .string k lo (omega arith), o .subkey k lo (omega arith)),
+        λ k lo hi. o .climb k lo (omega arith),
+        λ k lo hi j l h. o .siblings j k l h (omega arith),
+        λ k lo hi. o .data-inside k lo (omega arith),
+      ) in
+      rw (strings-found, entries-found) (o .symbol-table, (o .few-strings, (o .string-count, (o .distinct, (tree-found .1, (o .node-count, nodes))))))
+
+  sections-hold : AllHold (sectionRules (o .edition) image)
+  sections-hold = (o .inside Symbol, (o .inside Tree, (o .inside Data, (o .sums Symbol, (o .sums Tree, (o .sums Data, tables-hold))))))
+
+  pub obeys-hold : AllHold (rules image form stringLimit nodeLimit)
+  unfolding rules
+  obeys-hold =
+      let whole = o .whole-header in
+      let long : 144 ≤ length image = omega (arith, header-least (o .edition)) in
+      let twelve : length form ≡ 12 = ap length (sym (o .number-form)) ∙ length-part 20 12 image (omega arith) in
+      rw edition-found ((twelve, refl, refl, o .size), (long, ((o .edition, o .text), (whole, (o .number-form, (o .header-sum, sections-hold))))))
+
+-- ---- An opening is accepted exactly where the file obeys.
+
+pub accepted-obeys : (image form : List ℕ) → Octets image → {r : Reader} → opened image form stringLimit nodeLimit ≡ accepted r → Obeys image form
+accepted-obeys image form o h = hold-obeys image form o (accepted-hold image form stringLimit nodeLimit h)
+
+pub obeys-accepted : (image form : List ℕ) → Obeys image form → opened image form stringLimit nodeLimit ≡ accepted (readerFor (editionIn image) image)
+obeys-accepted image form o = hold-accepted image form stringLimit nodeLimit (obeys-hold o)
