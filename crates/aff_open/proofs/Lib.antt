@@ -20,3 +20,4 @@ pub mod NodeLaws
 pub mod OpeningLaws
 pub mod LostLaws
 pub mod BelongsLaws
+pub mod OpenedLaws
