@@ -61,3 +61,7 @@ pub passed-before : {A B : Type 0} (before after : List Check) (a : A) (b : B) {
 passed-before [] after a b e = refl
 passed-before (check true q ∷ before) after a b e = not-both e
 passed-before (check false q ∷ before) after a b e = passed-before before after a b e
+
+pub clear-both : (before after : List Check) → Clear (before ++ after) → Clear before × Clear after
+clear-both [] after c = (tt, c)
+clear-both (check wrong r ∷ before) after c = let (a, b) = clear-both before after (c .1) in ((c .0, a), b)

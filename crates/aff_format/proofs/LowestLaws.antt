@@ -1,11 +1,14 @@
 -- Laws of the lowest number of which a test holds, in the terms of a loop that has passed the first k of n numbers. Assumes nothing.
 use mathlib.Core.Path.{_≡_, refl, sym, _∙_}
-use mathlib.Core.Bool.{Bool, true, false}
+use mathlib.Core.Bool.{Bool, true, false, true≢false}
+use mathlib.Core.List.{List, _∷_}
 use mathlib.Core.Logic.{_⊎_, inl, inr, ⊎-elim}
 use Prim.Native.Nat.{ℕ, zero, suc, _+_, _-_, _≤_, _<_}
 use native.Mathlib.Nat.{eq-or-lt-of-le}
 use native.Mathlib.Omega.{arith}
-use Rattle.aff_format.specs.Lowest.{lowestFrom}
+use Rattle.aff_format.specs.Answer.{Check, Clear}
+use Rattle.aff_format.specs.Lowest.{lowestFrom, checkLowest}
+use Rattle.aff_format.specs.declared.lowest.Lowest.{Lowest}
 use Rattle.aff_format.specs.declared.lowest.Lowest.the-variants.{Nothing, At}
 
 module _ (test : ℕ → Bool) where
@@ -75,3 +78,8 @@ unfolding lowestFrom
 lowest-same test other zero k h = refl
 lowest-same test other (suc left) k h =
     rw (h k (omega arith) (omega arith), lowest-same test other left (k + 1) (λ j lo hi. h j (omega arith) (omega arith)))
+
+-- A check that tells the lowest finds nothing wrong where there is none.
+pub clear-lowest : (number : ℕ) (l : Lowest) (checks : List Check) → Clear (checkLowest number l ∷ checks) → (l ≡ Nothing) × Clear checks
+clear-lowest number Nothing checks c = (refl, c .1)
+clear-lowest number (At k) checks c = absurd (true≢false (c .0))

@@ -437,3 +437,10 @@ isIn-at x (s ∷ ss) (suc k) h e = go (sameBytes s x) (isIn-at x ss k (omega ari
 
 pub isIn-none : (x : List ℕ) (ss : List (List ℕ)) (k : ℕ) → isIn x ss ≡ false → k < length ss → getD ss k [] ≡ x → ⊥
 isIn-none x ss k n h e = true≢false (sym (isIn-at x ss k h e) ∙ n)
+
+pub none-isIn : (x : List ℕ) (ss : List (List ℕ)) → ((k : ℕ) → k < length ss → getD ss k [] ≡ x → ⊥) → isIn x ss ≡ false
+none-isIn x ss n = isIn-indexIn x ss ∙ go (ltb (indexIn x ss) (length ss)) refl
+  where
+    go : (b : Bool) → ltb (indexIn x ss) (length ss) ≡ b → b ≡ false
+    go true q = let h = ltb-true _ _ q in absurd (n (indexIn x ss) h (indexIn-found x ss h))
+    go false q = refl

@@ -23,3 +23,4 @@ pub mod FaultLaws
 pub mod ObeysLaws
 pub mod LostLaws
 pub mod BelongsLaws
+pub mod OpenedLaws

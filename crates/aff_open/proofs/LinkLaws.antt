@@ -14,7 +14,6 @@ use borrow.Author.Count.{below-more}
 use borrow.Author.Tests.{eqb-true, eqb-false, ltb-true, ltb-false, leb-false, le-ltb, lt-leb, not-false}
 use Rattle.aff_format.specs.Bytes.{part, sameBytes}
 use Rattle.aff_format.specs.Lowest.{lowestFrom}
-use Rattle.aff_format.specs.Strings.{indexIn}
 use Rattle.aff_format.specs.Subkey.{subkeyFrom, isSound, isSubkey}
 use Rattle.aff_format.specs.Tree.{reachesBy}
 use Rattle.aff_format.specs.declared.edition.Edition.{Edition}
@@ -24,7 +23,7 @@ use Rattle.aff_format.specs.declared.lowest.Lowest.the-variants.{Nothing}
 use Rattle.aff_format.specs.declared.subkey.Grammar.{Grammar}
 use Rattle.aff_format.proofs.LowestLaws.{lowest-same, none-holds, holds-none}
 use Rattle.aff_format.proofs.SameLaws.{same-refl, ne-same}
-use Rattle.aff_format.proofs.StringsLaws.{indexIn-found, isIn-indexIn, isIn-none}
+use Rattle.aff_format.proofs.StringsLaws.{isIn-none, none-isIn}
 use Rattle.aff_format.proofs.SubkeyLaws.{sound-shift}
 use Rattle.aff_open.specs.Climb.{parentAt, Linked}
 use Rattle.aff_open.specs.Distinct.{siblingTaken}
@@ -211,13 +210,8 @@ module _ (ss : List (List ℕ)) where
   pub repeats-by-distinct : ((i k : ℕ) → i < k → k < length ss → getD ss i [] ≡ getD ss k [] → ⊥) → lowestFrom (repeats ss) (length ss) 0 ≡ Nothing
   unfolding repeats
   repeats-by-distinct d =
-      holds-none (repeats ss) (length ss) 0 (λ k lo hi. isIn-indexIn (getD ss k []) (take k ss) ∙ go k (omega arith) _ refl)
-    where
-      go : (k : ℕ) → k < length ss → (t : Bool) → ltb (indexIn (getD ss k []) (take k ss)) (length (take k ss)) ≡ t → t ≡ false
-      go k n false q = refl
-      go k n true q =
-          let i : ℕ = indexIn (getD ss k []) (take k ss) in
-          let l : i < length (take k ss) = ltb-true _ _ q in
-          let f = length-take-le k ss (omega arith) in
-          let m : i < k = omega arith in
-          absurd (d i k m n (sym (getD-take k ss i [] m) ∙ indexIn-found (getD ss k []) (take k ss) l))
+      holds-none (repeats ss) (length ss) 0
+      (λ j lo hi.
+      let f = length-take-le j ss (omega arith) in
+      none-isIn (getD ss j []) (take j ss)
+      (λ i l q. let m : i < j = omega arith in d i j m (omega arith) (sym (getD-take j ss i [] m) ∙ q)))

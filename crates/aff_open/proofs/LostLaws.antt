@@ -123,19 +123,23 @@ pub record Kept (size strings nodes : ℕ) (e : Entry) : Type 0 where
   pub string : e .string < strings
   pub inside : isVoid (e .kind) ≡ false → e .offset + e .count * elementSize (e .kind) ≤ size
 
-module _ (size strings nodes : ℕ) (e : Entry) where
-  inside-facts : (v b : Bool) → isVoid (e .kind) ≡ v → ltb (e .offset) 0 ≡ b → (not v && (b || ltb (0 + size) (e .offset + e .count * elementSize (e .kind)))) ≡ false
-      → isVoid (e .kind) ≡ false → e .offset + e .count * elementSize (e .kind) ≤ size
-  inside-facts true b v t h n = absurd (true≢false (sym v ∙ n))
-  inside-facts false true v t h n = absurd (true≢false h)
-  inside-facts false false v t h n = let q = ltb-false (0 + size) (e .offset + e .count * elementSize (e .kind)) h in omega arith
+-- Data that are not outside the `size` bytes from `from` on.
+pub data-within : (from size : ℕ) (e : Entry) → outside from size e ≡ false → isVoid (e .kind) ≡ false
+    → (from ≤ e .offset) × (e .offset + e .count * elementSize (e .kind) ≤ from + size)
+unfolding outside
+data-within from size e h v = go (ltb (e .offset) from) refl (rw v at h)
+  where
+    go : (b : Bool) → ltb (e .offset) from ≡ b → (b || ltb (from + size) (e .offset + e .count * elementSize (e .kind))) ≡ false
+        → (from ≤ e .offset) × (e .offset + e .count * elementSize (e .kind) ≤ from + size)
+    go true t h = absurd (true≢false h)
+    go false t h = (ltb-false _ _ t, ltb-false _ _ h)
 
+module _ (size strings nodes : ℕ) (e : Entry) where
   entry-facts : (p s : Bool) → noParent nodes e ≡ p → noString strings e ≡ s → (p || (s || outside 0 size e)) ≡ false → Kept size strings nodes e
-  unfolding outside
   entry-facts true s p q h = absurd (true≢false h)
   entry-facts false true p q h = absurd (true≢false h)
   entry-facts false false p q h =
-      record { parent = ltb-false _ _ p; string = leb-false _ _ q; inside = inside-facts (isVoid (e .kind)) (ltb (e .offset) 0) refl refl h }
+      record { parent = ltb-false _ _ p; string = leb-false _ _ q; inside = λ v. let d = data-within 0 size e h v .1 in omega arith }
 
   within : (v : Bool) → isVoid (e .kind) ≡ v → (isVoid (e .kind) ≡ false → e .offset + e .count * elementSize (e .kind) ≤ size)
       → (not v && (ltb (e .offset) 0 || ltb (0 + size) (e .offset + e .count * elementSize (e .kind)))) ≡ false

@@ -5,13 +5,14 @@ use mathlib.Core.List.{List, [], _∷_}
 use Prim.Native.Nat.{ℕ, _+_, _≤_, _<_}
 use native.Mathlib.Omega.{arith}
 use lib.ListN.{length}
-use Rattle.aff_format.specs.Answer.{Answer, Check, firstWrong}
+use Rattle.aff_format.specs.Answer.{firstWrong, Clear}
 use Rattle.aff_format.specs.Lowest.{lowestFrom, checkLowest}
 use Rattle.aff_format.specs.Tree.{reachesBy}
 use Rattle.aff_format.specs.declared.edition.Edition.{Edition}
 use Rattle.aff_format.specs.declared.entry.Entry.{Entry}
 use Rattle.aff_format.specs.declared.lowest.Lowest.{Lowest}
 use Rattle.aff_format.specs.declared.lowest.Lowest.the-variants.{Nothing, At}
+use Rattle.aff_format.proofs.LowestLaws.{clear-lowest}
 use Rattle.aff_open.specs.Climb.{Linked, parentAt}
 use Rattle.aff_open.specs.Distinct.{siblingTaken}
 use Rattle.aff_open.specs.Nodes.{linkWrong, climbEndless, nameTaken, dataOutside}
@@ -56,3 +57,20 @@ checked-alike e from size strings string text nodes entry other v alike agree =
         let up : (k : ℕ) → 0 < k → k ≤ nodes → entry k .parent ≤ nodes = λ k lo hi. links-clear e strings string nodes entry q k lo hi .0 in
         let named : (k : ℕ) → 0 < k → k ≤ nodes → entry k .string < strings = λ k lo hi. links-clear e strings string nodes entry q k lo hi .1 in
         three v (climbs-same entry other nodes agree up) (names-same entry other nodes agree strings string text alike named) (data-same entry other nodes agree from size)
+
+-- Accepted checks: no node has a fault.
+four-clear : (a b c d : Lowest) → Clear (checkLowest 10 a ∷ checkLowest 11 b ∷ checkLowest 12 c ∷ checkLowest 13 d ∷ [])
+    → (a ≡ Nothing) × (b ≡ Nothing) × (c ≡ Nothing) × (d ≡ Nothing)
+four-clear a b c d h =
+    let (p, f) = clear-lowest 10 a (checkLowest 11 b ∷ checkLowest 12 c ∷ checkLowest 13 d ∷ []) h in
+    let (q, g) = clear-lowest 11 b (checkLowest 12 c ∷ checkLowest 13 d ∷ []) f in
+    let (r, k) = clear-lowest 12 c (checkLowest 13 d ∷ []) g in
+    (p, q, r, clear-lowest 13 d [] k .0)
+
+pub nodes-clear : (e : Edition) (from size strings : ℕ) (string : ℕ → List ℕ) (nodes : ℕ) (entry : ℕ → Entry)
+    → Clear (nodeChecks e from size strings string nodes entry)
+    → (lowestFrom (linkWrong e strings string nodes entry) nodes 1 ≡ Nothing) × (lowestFrom (climbEndless nodes entry) nodes 1 ≡ Nothing)
+    × (lowestFrom (nameTaken string entry) nodes 1 ≡ Nothing) × (lowestFrom (dataOutside from size entry) nodes 1 ≡ Nothing)
+nodes-clear e from size strings string nodes entry =
+    four-clear (lowestFrom (linkWrong e strings string nodes entry) nodes 1) (lowestFrom (climbEndless nodes entry) nodes 1)
+    (lowestFrom (nameTaken string entry) nodes 1) (lowestFrom (dataOutside from size entry) nodes 1)

@@ -17,7 +17,7 @@ use Rattle.aff_format.specs.declared.lowest.Lowest.{Lowest}
 use Rattle.aff_format.specs.declared.lowest.Lowest.the-variants.{Nothing, At}
 use Rattle.aff_format.proofs.AnswerLaws.{not-both}
 use Rattle.aff_format.proofs.BytesLaws.{length-part}
-use Rattle.aff_format.proofs.StringsLaws.{length-placesOf, placesOf-from, string-begins, string-in-section}
+use Rattle.aff_format.proofs.StringsLaws.{length-placesOf, placesOf-from, string-begins, string-ends, string-in-section}
 use Rattle.aff_open.specs.Distinct.{Places}
 use Rattle.aff_open.specs.Nodes.{isAt}
 use Rattle.aff_open.specs.Opening.{symbolChecks, spanOf}
@@ -67,6 +67,17 @@ module _ (image : List ℕ) (from size : ℕ) where
               rw (laid-at area (placesOf from strings) k (rw length-placesOf h) (omega arith))
               (omega (arith, placesOf-from from strings k h, string-begins (part from size image) k h, length-part from size image b));
         }
+
+    -- Of a section that ends in zero each string begins and ends inside it.
+    pub string-placed : endsInZero (part from size image) ≡ true → from + size ≤ length image → (i : ℕ) → i < length strings
+        → (from ≤ getD (laidOver area (placesOf from strings)) i 0)
+        × (getD (laidOver area (placesOf from strings)) i 0 + length (recordedString image (from + size) (laidOver area (placesOf from strings)) i) < from + size)
+    string-placed e b i h =
+        let p = laid-at area (placesOf from strings) i (rw length-placesOf h) (omega arith) in
+        let q = placesOf-from from strings i h in
+        let z = string-ends (part from size image) i e h in
+        let n = length-part from size image b in
+        (rw p (omega arith), rw (string-recorded i h, p) (omega arith))
 
 -- The answers of the symbol table.
 

@@ -1,0 +1,18 @@
+-- `open_cases::lent` meets its contract: the parts that it lends are as long as it says. Assumes nothing.
+use borrow.Author.Needs.{needs}
+use Rattle.open_cases.proofs.Parts.{part-long}
+use Rattle.open_cases.proofs.lent.Statement.{statement}
+use Rattle.open_cases.proofs.lent.Tie as tie
+
+pub lent-spec : {M : Type 1} → statement M
+lent-spec =
+    tie.close
+    (tie.spec
+    (λ c. search needs)
+    (λ c. part-long 13 _ 0 (c .before .pre .2))
+    (λ c. search needs)
+    (λ c. part-long 2049 _ 7 (c .before .before .pre .0))
+    (λ c. search needs)
+    (λ c. part-long 2049 _ 9 (c .before .before .before .pre .1))
+    (λ c κs. search needs)
+    (λ c. search needs))

@@ -1,0 +1,353 @@
+#!/usr/bin/env python3
+"""Makes the images of the test program open_cases: lawful odd files, and damaged ones on both sides of each boundary.
+
+It shares no code with the library: it is written from source document 003 and document 01, and what each image must be
+answered with is said here by hand. It writes crates/open_cases/stdin (each
+image behind its length in 4 bytes), crates/open_cases/stdout and tests/open_cases.txt.
+"""
+import hashlib
+import os
+import struct
+import sys
+
+VOID, CHAR, INT, DOUBLE, COMPLEX = 1, 2, 3, 4, 5
+TEXT = {1: b"LHPC AFF version 1.0", 2: b"LHPC AFF version 2.0"}
+HEADER = {1: 144, 2: 168}
+FORM = bytes([0, 64, 2, 53, 4, 0, 3, 253])
+
+
+def md5(b):
+    return hashlib.md5(b).digest()
+
+
+def form(ed):
+    return FORM + struct.pack(">I", HEADER[ed])
+
+
+def entry(kind, parent, string, count=0, offset=0):
+    b = struct.pack(">BQI", kind, parent, string)
+    return b if kind == VOID else b + struct.pack(">IQ", count, offset)
+
+
+class Image:
+    """A file in parts. Each field that is None is worked out when the bytes are asked for."""
+
+    def __init__(self, ed, strings=(b"a", b"n"), data=b"\xff\xff\xff\xba", entries=None, tail=b""):
+        self.ed = ed
+        self.text = TEXT[ed]
+        self.form = form(ed)
+        self.data = data
+        self.symbols = b"".join(s + b"\0" for s in strings)
+        self.nstrings = len(strings)
+        self.tail = tail
+        if entries is None:
+            entries = [entry(VOID, 0, 0), entry(INT, 1, 1, 1, HEADER[ed])]
+        self.tree = b"".join(entries)
+        self.nnodes = len(entries)
+        self.gap = b""
+        self.at = {}      # section -> (offset, size), where not the usual
+        self.count = {}   # section -> record count
+        self.sums = {}    # section -> sum
+        self.sum = None
+        self.body = None
+
+    def bytes(self):
+        h = HEADER[self.ed]
+        body = self.body
+        if body is None:
+            body = self.data + self.gap + self.symbols + self.gap + self.tree + self.tail
+        d = len(self.data)
+        g = len(self.gap)
+        usual = {
+            "data": (h, d),
+            "symbol": (h + d + g, len(self.symbols)),
+            "tree": (h + d + g + len(self.symbols) + g, len(self.tree)),
+        }
+        at = {s: self.at.get(s, usual[s]) for s in usual}
+        count = {"symbol": self.nstrings, "tree": self.nnodes, "data": 1}
+        count.update(self.count)
+
+        def header(image):
+            out = self.text + self.form
+            for s in ("symbol", "tree", "data"):
+                o, n = at[s]
+                out += struct.pack(">QQ", o, n)
+                if self.ed == 2:
+                    out += struct.pack(">Q", count[s])
+                out += self.sums.get(s, md5(image[o:o + n] if o <= len(image) else b""))
+            return out + (self.sum if self.sum is not None else md5(out))
+
+        image = bytes(h) + body
+        # a section that covers header bytes is summed as the file finally stands; two turns settle those that cover no sum
+        for _ in range(3):
+            image = header(image) + body
+        self.where = at
+        return image
+
+
+CASES = []
+
+
+def case(name, image, expect):
+    CASES.append((name, image.bytes() if isinstance(image, Image) else image, expect, image))
+
+
+def opened(image):
+    return ("opened", image)
+
+
+def refused(n, p=0):
+    return ("refused", n, p)
+
+
+def changed(ed, **kw):
+    i = Image(ed, **{k: kw.pop(k) for k in ("strings", "data", "entries", "tail") if k in kw})
+    for k, v in kw.items():
+        setattr(i, k, v)
+    return i
+
+
+def node_file(ed, nodes, strings=None, data=b"\xff\xff\xff\xba"):
+    return Image(ed, strings=strings or [b"a", b"b", b"c", b"d", b"e"], entries=nodes, data=data)
+
+
+def lawful():
+    for ed in (1, 2):
+        h = HEADER[ed]
+        i = Image(ed)
+        case(f"edition {ed}: document 01's worked file", i, opened(i))
+        i = node_file(ed, [entry(VOID, 2, 0), entry(VOID, 0, 1)])
+        case(f"edition {ed}: a parent above its child", i, opened(i))
+        i = changed(ed, at={"data": (h, 8)})
+        case(f"edition {ed}: data section over the symbol table", i, opened(i))
+        i = changed(ed, at={"data": (0, 20)}, entries=[entry(CHAR, 0, 0, 20, 0), entry(VOID, 0, 1)])
+        case(f"edition {ed}: data section in the header", i, opened(i))
+        i = changed(ed, gap=b"gap")
+        case(f"edition {ed}: gaps between the sections", i, opened(i))
+        i = node_file(ed, [entry(INT, 0, 0, 1, h), entry(CHAR, 0, 1, 4, h), entry(CHAR, 0, 2, 2, h + 1)])
+        case(f"edition {ed}: shared data", i, opened(i))
+        i = changed(ed, strings=[b"a", b"n", b"", b"9 is no subkey"])
+        case(f"edition {ed}: unused strings, the empty one and no subkey among them", i, opened(i))
+        i = changed(ed, tail=b"\0" * 5)
+        case(f"edition {ed}: bytes of no section behind", i, opened(i))
+        i = changed(ed, strings=[], entries=[], data=b"")
+        case(f"edition {ed}: nothing but a header", i, opened(i))
+        i = changed(ed, strings=[], entries=[], data=b"")
+        i.at = {s: (h, 0) for s in ("symbol", "tree", "data")}
+        case(f"edition {ed}: empty sections at the image's end", i, opened(i))
+        i = node_file(ed, [entry(VOID, 0, 0), entry(VOID, 0, 1), entry(VOID, 1, 1), entry(VOID, 2, 1)], [b"a", b"A"])
+        case(f"edition {ed}: names that differ in case, and again under other parents", i, opened(i))
+        names = [b"_", b":", b"Z", b"z.-_:9", b"a-b.c"]
+        i = node_file(ed, [entry(VOID, 0, k) for k in range(5)], names)
+        case(f"edition {ed}: every kind of subkey byte", i, opened(i))
+    for n in (0, 1, 2**64 - 1):
+        i = changed(2, count={"data": n})
+        i.records = n
+        case(f"edition 2: a data record count of {n}", i, opened(i))
+
+
+def header_faults():
+    full = {ed: Image(ed).bytes() for ed in (1, 2)}
+    for n in (0, 19, 20, 31, 143):
+        case(f"cut to {n} bytes", full[2][:n], refused(2))
+    case("143 bytes of edition 1", full[1][:143], refused(2))
+    case("144 bytes of edition 2's text", full[2][:144], refused(2))
+    case("167 bytes of edition 2's text", full[2][:167], refused(2))
+    case("144 bytes of no text", b"\0" + full[2][1:144], refused(3))
+    for ed in (1, 2):
+        h = HEADER[ed]
+        for at in (0, 9, 19):
+            b = bytearray(full[ed])
+            b[at] ^= 1
+            case(f"edition {ed}: byte {at} of the text wrong", bytes(b), refused(3))
+        for at in (20, 21, 27, 31):
+            i = Image(ed)
+            f = bytearray(i.form)
+            f[at - 20] ^= 1
+            i.form = bytes(f)
+            case(f"edition {ed}: byte {at} of the form wrong, sums right", i, refused(4))
+        for at in (32, h - 17, h - 16, h - 1):
+            b = bytearray(full[ed])
+            b[at] ^= 1
+            case(f"edition {ed}: header byte {at} wrong", bytes(b), refused(5))
+        b = bytearray(full[ed])
+        b[h - 16:h] = md5(b"\0" + bytes(b[1:h - 16]))
+        case(f"edition {ed}: the header summed with zero at place 0", bytes(b), refused(5))
+        b = bytearray(full[ed])
+        b[h - 16:h] = md5(bytes(b[1:h - 16]))
+        case(f"edition {ed}: the header summed without its first byte", bytes(b), refused(5))
+    i = Image(2)
+    i.form = form(1)
+    case("edition 2: the form of edition 1", i, refused(4))
+
+
+def section_faults():
+    for ed in (1, 2):
+        n = len(Image(ed).bytes())
+        for k, s in enumerate(("symbol", "tree", "data")):
+            for o, z, what in (
+                (n, 1, "one byte from the image's end on"),
+                (n + 1, 0, "empty, one past the image's end"),
+                (n - 1, 2, "ends one past the image"),
+                (2**64 - 4, 8, "offset plus size wraps to 4"),
+                (2**64 - 1, 1, "offset plus size is 2 to the 64"),
+                (1, 2**64 - 1, "size plus offset is 2 to the 64"),
+                (2**32, 0, "offset of 2 to the 32, empty"),
+            ):
+                case(f"edition {ed}: {s} section {what}", changed(ed, at={s: (o, z)}), refused(6, k + 1))
+            case(f"edition {ed}: sum of the {s} section wrong", changed(ed, sums={s: bytes(16)}), refused(7, k + 1))
+        bad = {"symbol": (n, 1), "tree": (n, 1)}
+        case(f"edition {ed}: symbol and tree past the image", changed(ed, at=bad), refused(6, 1))
+        i = changed(ed, at={"data": (n, 1)}, sums={"symbol": bytes(16)})
+        case(f"edition {ed}: data past the image before a wrong sum", i, refused(6, 3))
+        i = changed(ed, sums={"tree": bytes(16), "data": bytes(16)})
+        case(f"edition {ed}: two sums wrong", i, refused(7, 2))
+
+
+def symbol_faults():
+    for ed in (1, 2):
+        i = Image(ed)
+        i.symbols = b"a\0n"
+        case(f"edition {ed}: the last string has no zero", i, refused(8))
+        for names in ([b"a", b"n", b"a"], [b"a", b"n", b"x", b"x"], [b"", b"a", b""]):
+            case(f"edition {ed}: strings {names} repeat", changed(ed, strings=names), refused(8))
+        many = [b"s%d" % k for k in range(2049)]
+        i = Image(ed, strings=many[:2048], entries=[entry(VOID, 0, 0)])
+        case(f"edition {ed}: 2,048 strings", i, opened(i))
+        i = Image(ed, strings=many, entries=[entry(VOID, 0, 0)])
+        case(f"edition {ed}: 2,049 strings", i, refused(8))
+        i = Image(ed, strings=many[:2047] + [b"s0"], entries=[entry(VOID, 0, 0)])
+        case(f"edition {ed}: string 2,047 equals string 0", i, refused(8))
+    for n in (1, 3, 2**32 + 2):
+        case(f"edition 2: a string count of {n} for 2", changed(2, count={"symbol": n}), refused(8))
+
+
+def tree_faults():
+    for ed in (1, 2):
+        h = HEADER[ed]
+        for cut, place in ((1, 2), (24, 2), (26, 1), (37, 1)):
+            i = Image(ed)
+            i.tree = i.tree[:-cut]
+            case(f"edition {ed}: tree table cut by {cut}", i, refused(9, place))
+        i = Image(ed)
+        i.tree = i.tree[:-25]
+        i.nnodes = 1
+        case(f"edition {ed}: tree table cut by a whole entry", i, opened(i))
+        for kind in (0, 6, 255):
+            i = Image(ed)
+            i.tree = i.tree[:13] + bytes([kind]) + i.tree[14:]
+            case(f"edition {ed}: entry 2 of type {kind}", i, refused(9, 2))
+        full = [entry(VOID, k, 0) for k in range(2048)]
+        i = Image(ed, strings=[b"n"], entries=full, data=b"")
+        case(f"edition {ed}: 2,048 nodes, a chain", i, opened(i))
+        i = Image(ed, strings=[b"n"], entries=full + [entry(VOID, 0, 0)], data=b"")
+        case(f"edition {ed}: 2,049 nodes", i, refused(9, 2049))
+        i = Image(ed, strings=[b"n"], entries=full + [b"\0"], data=b"")
+        case(f"edition {ed}: one byte behind 2,048 nodes", i, refused(9, 2049))
+    for n in (1, 3, 2**32 + 2):
+        case(f"edition 2: a node count of {n} for 2", changed(2, count={"tree": n}), refused(9))
+    i = changed(2, count={"tree": 1})
+    i.tree = i.tree[:-1]
+    case("edition 2: an entry cut short before a count that differs", i, refused(9, 2))
+
+
+def node_faults():
+    for ed in (1, 2):
+        h = HEADER[ed]
+        for p in (3, 2**32, 2**64 - 1):
+            i = node_file(ed, [entry(VOID, 0, 0), entry(VOID, p, 1)])
+            case(f"edition {ed}: parent {p} of 2 nodes", i, refused(10, 2))
+        for s in (5, 65536, 2**32 - 1):
+            i = node_file(ed, [entry(VOID, 0, 0), entry(VOID, 0, s)])
+            case(f"edition {ed}: string {s} of 5", i, refused(10, 2))
+        for name in (b"", b"9a", b"-a", b".a", b"a b", b"a/b", b"a\xe9", b"a@", b"a[", b"a`", b"a{", b"a,", b"a;"):
+            i = node_file(ed, [entry(VOID, 0, 0), entry(VOID, 0, 1)], [b"a", name])
+            case(f"edition {ed}: the name {name!r}", i, refused(10, 2))
+        i = node_file(ed, [entry(VOID, 9, 9), entry(VOID, 9, 0)])
+        case(f"edition {ed}: two nodes astray", i, refused(10, 1))
+        for ring, low in (([1], 1), ([0, 2], 2), ([2, 1], 1), ([0, 3, 2], 2), ([3, 0, 3], 1), ([4, 0, 4, 3], 1), ([0, 4, 1, 5, 4], 2)):
+            i = node_file(ed, [entry(VOID, p, k) for k, p in enumerate(ring)])
+            case(f"edition {ed}: parents {ring}", i, refused(11, low))
+        i = node_file(ed, [entry(VOID, 0, 0), entry(VOID, 0, 1), entry(VOID, 0, 0), entry(VOID, 0, 1)])
+        case(f"edition {ed}: two pairs of equal siblings", i, refused(12, 3))
+        i = node_file(ed, [entry(VOID, 2, 0), entry(VOID, 0, 1), entry(VOID, 2, 0)])
+        case(f"edition {ed}: equal siblings under a later parent", i, refused(12, 3))
+        data = bytes(range(32))
+        for kind, count, off, ok, what in (
+            (INT, 8, h, True, "all of the section"),
+            (INT, 8, h + 1, False, "one byte past the section"),
+            (INT, 1, h - 1, False, "one byte before the section"),
+            (CHAR, 0, h, True, "count 0 at the section's start"),
+            (CHAR, 0, h + 32, True, "count 0 at the section's end"),
+            (CHAR, 0, h + 33, False, "count 0 one past the section's end"),
+            (CHAR, 0, h - 1, False, "count 0 one before the section"),
+            (CHAR, 0, 0, False, "count 0 at offset 0"),
+            (DOUBLE, 4, h, True, "four doubles"),
+            (DOUBLE, 5, h, False, "five doubles"),
+            (COMPLEX, 2, h, True, "two complex numbers"),
+            (COMPLEX, 2, h + 16, False, "two complex numbers half outside"),
+            (INT, 8, 0, False, "an offset from the section's start"),
+            (INT, 2**30, h, False, "2 to the 32 bytes"),
+            (COMPLEX, 2**28, h, False, "2 to the 32 bytes of complex numbers"),
+            (INT, 1, 2**64 - 4, False, "an offset that wraps"),
+            (CHAR, 1, 2**32 + h, False, "an offset past 2 to the 32"),
+        ):
+            i = node_file(ed, [entry(VOID, 0, 0), entry(kind, 1, 1, count, off)], data=data)
+            case(f"edition {ed}: type {kind}, {what}", i, opened(i) if ok else refused(13, 2))
+        i = node_file(ed, [entry(INT, 1, 0, 9, 0), entry(VOID, 7, 1)])
+        case(f"edition {ed}: 10 at node 2 before 11 and 13 at node 1", i, refused(10, 2))
+        i = node_file(ed, [entry(INT, 0, 0, 9, 0), entry(VOID, 0, 0), entry(VOID, 3, 1)])
+        case(f"edition {ed}: 11 at node 3 before 12 at node 2", i, refused(11, 3))
+        i = node_file(ed, [entry(INT, 0, 0, 9, 0), entry(VOID, 0, 0)])
+        case(f"edition {ed}: 12 at node 2 before 13 at node 1", i, refused(12, 2))
+
+
+def expected(image, expect, source):
+    if expect[0] == "refused":
+        return f"refused {expect[1]} {expect[2]} areas 0 0"
+    i = source
+    h = HEADER[i.ed]
+    places, at = [], i.where["symbol"][0]
+    for s in i.symbols.split(b"\0")[:-1]:
+        places.append(at)
+        at += len(s) + 1
+    nodes, at = [], i.where["tree"][0]
+    end = at + i.where["tree"][1]
+    while at < end:
+        nodes.append(at)
+        at += 13 if image[at] == VOID else 25
+    records = getattr(i, "records", 1) if i.ed == 2 else 0
+    return f"opened {i.ed} {len(places)} {len(nodes)} {records} areas {sum(places)} {sum(nodes)}"
+
+
+def main():
+    top = sys.argv[1] if len(sys.argv) > 1 else os.path.join(os.path.dirname(os.path.abspath(__file__)), "..")
+    lawful()
+    header_faults()
+    section_faults()
+    symbol_faults()
+    tree_faults()
+    node_faults()
+    crate = os.path.join(top, "crates", "open_cases")
+    os.makedirs(crate, exist_ok=True)
+    out, index = [], ["The images of crates/open_cases/stdin, made by tests/make_images.py, and what each is answered with.", ""]
+    stdin = b""
+    for k, (name, image, expect, source) in enumerate(CASES):
+        stdin += struct.pack(">I", len(image)) + image
+        line = expected(image, expect, source)
+        out.append("%d %s" % (k, line))
+        index.append("%d %s: %s" % (k, name, line))
+    for what in ("strings of 2,047", "strings of 2,049", "entries of 2,047", "entries of 2,049", "a form of 11", "a form of 13"):
+        line = "refused 1 0 unchanged"
+        out.append("lent " + line)
+        index.append("lent %s: %s" % (what, line))
+    with open(os.path.join(crate, "stdin"), "wb") as f:
+        f.write(stdin)
+    with open(os.path.join(crate, "stdout"), "w") as f:
+        f.write("\n".join(out) + "\n")
+    with open(os.path.join(top, "tests", "open_cases.txt"), "w") as f:
+        f.write("\n".join(index) + "\n")
+    print(len(CASES), "images")
+
+
+main()
