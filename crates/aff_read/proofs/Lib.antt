@@ -2,3 +2,9 @@
 pub mod SpanLaws
 pub mod JudgeLaws
 pub mod ElementLaws
+pub mod CappedLaws
+pub mod FrontLaws
+pub mod WriteLaws
+pub mod MatchLaws
+pub mod StepLaws
+pub mod LookupLaws

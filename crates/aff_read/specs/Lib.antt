@@ -1,3 +1,4 @@
 -- Answers of an opened image: what the promises of this crate cite.
 pub mod Recall
 pub mod Answers
+pub mod Calls

@@ -2,6 +2,7 @@
 // record belongs to them (24); what passes is answered of the lent bytes as they then are.
 pub mod answers; // what the calls hand back
 pub mod node; // name, kind, count and data of a node
+pub mod paths; // the path of a node, and lookup by path
 
 pub use answers::KindAnswer;
 pub use answers::NumberAnswer;

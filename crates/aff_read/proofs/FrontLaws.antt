@@ -1,0 +1,137 @@
+-- The path of a node whose record belongs is its parent's front, a slash and its name, also for the root; and its name is a part of the
+-- image. Assumes nothing.
+use mathlib.Core.Path.{_≡_, refl, sym, ap, _∙_}
+use mathlib.Core.Bool.{true}
+use mathlib.Core.List.{List, [], _∷_, _++_}
+use mathlib.Core.Logic.{_⊎_, ⊎-elim}
+use Prim.Native.Nat.{ℕ, zero, suc, _+_, _-_, _≤_, _<_}
+use native.Mathlib.Omega.{arith}
+use lib.ListN.{length, getD}
+use borrow.Author.Tests.{eq-eqb, ne-eqb, eqb-true}
+use Rattle.aff_format.specs.Bytes.{part}
+use Rattle.aff_format.specs.Tree.{reachesBy, frontBy}
+use Rattle.aff_format.specs.declared.entry.Entry.{Entry}
+use Rattle.aff_format.proofs.ClimbLaws.{at-zero, reaches-up}
+use Rattle.aff_format.proofs.TreeLaws.{front-root, front-up, front-enough}
+use Rattle.aff_open.specs.Belongs.{Belongs}
+use Rattle.aff_open.specs.Recorded.{recordedEntry}
+use Rattle.aff_open.specs.Tables.{nameFrom}
+use Rattle.aff_open.specs.declared.reader.Reader.{Reader}
+use Rattle.aff_open.specs.declared.reader.Span.{Span}
+use Rattle.aff_open.proofs.RecordedLaws.{name-part}
+use Rattle.aff_read.specs.Recall.{symbolsEnd, parentAt, nameAt, nameSpan, spanBytes, pathAt}
+use Rattle.aff_read.proofs.WriteLaws.{Parted}
+use Rattle.aff_read.proofs.SpanLaws.{part-between, name-from, name-within}
+
+module _ (parent : ℕ → ℕ) (name : ℕ → List ℕ) where
+  -- A climb that ends within some steps does so from the parent too: one more changes nothing.
+  pub front-step : (steps n : ℕ) → (n ≡ 0 → ⊥) → reachesBy parent steps n ≡ true
+      → frontBy parent name steps n ≡ frontBy parent name steps (parent n) ++ (47 ∷ name n)
+  unfolding reachesBy
+  front-step zero n h e = absurd (h (eqb-true n 0 e))
+  front-step (suc steps) n h e =
+      front-up parent name steps n h
+      ∙ ap (λ (l : List ℕ). l ++ (47 ∷ name n)) (sym (front-enough parent name steps (suc steps) (parent n) (sym (reaches-up parent steps n h) ∙ e) (omega arith)))
+
+  -- In the code's terms.
+  pub front-left : (left n p : ℕ) → p ≡ parent n → (left ≡ 0 → ⊥) → (n ≡ 0 → ⊥) → frontBy parent name left n ≡ frontBy parent name (left - 1) p ++ (47 ∷ name n)
+  front-left zero n p up f g = absurd (f refl)
+  front-left (suc left) n p up f g = let e : suc left - 1 ≡ left = omega arith in rw (e, up) (front-up parent name left n g)
+
+  pub front-none : (left n : ℕ) → left ≡ 0 → frontBy parent name left n ≡ []
+  unfolding frontBy
+  front-none left n e = rw e
+
+  pub front-root-at : (left n : ℕ) → n ≡ 0 → frontBy parent name left n ≡ []
+  front-root-at left n e = rw e (front-root parent name left)
+
+module _ (image : List ℕ) (reader : Reader) (strings entries : List ℕ) where
+  abbrev pub frontAt : ℕ → List ℕ
+  frontAt = frontBy (parentAt image entries) (nameAt image reader strings entries) (reader .nodes)
+
+  pub name-of-root : nameAt image reader strings entries 0 ≡ []
+  unfolding nameAt
+  name-of-root = refl
+
+  pub path-other : (node : ℕ) → (node ≡ 0 → ⊥) → pathAt image reader strings entries node ≡ frontAt node
+  path-other node h = rw (ne-eqb node 0 h)
+
+  path-root : pathAt image reader strings entries 0 ≡ frontAt (parentAt image entries 0) ++ (47 ∷ nameAt image reader strings entries 0)
+  unfolding recordedEntry
+  path-root = rw (front-root (parentAt image entries) (nameAt image reader strings entries) (reader .nodes), name-of-root)
+
+  pub name-size : (node : ℕ) → nameSpan image reader strings entries node .size ≡ length (nameAt image reader strings entries node)
+  unfolding nameSpan nameAt
+  name-size node =
+      ⊎-elim (λ (z : node ≡ 0). rw (eq-eqb node 0 z)) (λ (h : 0 < node). rw (ne-eqb node 0 (λ q. omega arith))) (at-zero (λ k. k) node)
+
+  pub span-size : (node : ℕ) (s : Span) → s ≡ nameSpan image reader strings entries node → s .size ≡ length (nameAt image reader strings entries node)
+  span-size node s is = rw is (name-size node)
+
+  -- What is written of a front with some steps left.
+  pub front-parted : (left node p : ℕ) → p ≡ parentAt image entries node → (left ≡ 0 → ⊥) → (node ≡ 0 → ⊥) → (o : List ℕ)
+      → length (frontBy (parentAt image entries) (nameAt image reader strings entries) left node) ≤ length o
+      → Parted (frontBy (parentAt image entries) (nameAt image reader strings entries) (left - 1) p) (47 ∷ nameAt image reader strings entries node)
+      (frontBy (parentAt image entries) (nameAt image reader strings entries) left node) o
+  front-parted left node p up f g o h =
+      record { is = front-left (parentAt image entries) (nameAt image reader strings entries) left node p up f g; room = h }
+
+  module _ (b : Belongs image reader strings entries) (node : ℕ) (there : node ≤ reader .nodes) where
+    pub path-front : (p : ℕ) → p ≡ parentAt image entries node → pathAt image reader strings entries node ≡ frontAt p ++ (47 ∷ nameAt image reader strings entries node)
+    path-front p up =
+        rw up
+        (⊎-elim (λ (z : node ≡ 0). rw z path-root)
+        (λ (h : 0 < node).
+        let n : node ≡ 0 → ⊥ = λ q. omega arith in
+        path-other node n ∙ front-step (parentAt image entries) (nameAt image reader strings entries) (reader .nodes) node n (b .climb-ends node h there))
+        (at-zero (λ k. k) node))
+
+    pub path-parted : (p : ℕ) → p ≡ parentAt image entries node → (o : List ℕ) → length (pathAt image reader strings entries node) ≤ length o
+        → Parted (frontAt p) (47 ∷ nameAt image reader strings entries node) (pathAt image reader strings entries node) o
+    path-parted p up o h = record { is = path-front p up; room = h }
+
+    -- Where its name begins, and what stands there.
+    pub name-starts : nameSpan image reader strings entries node .offset ≤ symbolsEnd reader
+    unfolding nameSpan
+    name-starts =
+        ⊎-elim (λ (z : node ≡ 0). rw (eq-eqb node 0 z) (omega arith)) (λ (h : 0 < node). rw (ne-eqb node 0 (λ q. omega arith)) (name-from b node there h))
+        (at-zero (λ k. k) node)
+
+    pub name-bytes : spanBytes image (nameSpan image reader strings entries node) ≡ nameAt image reader strings entries node
+    unfolding nameSpan nameAt
+    name-bytes =
+        ⊎-elim (λ (z : node ≡ 0). rw (eq-eqb node 0 z))
+        (λ (h : 0 < node).
+        let from : ℕ = getD strings (recordedEntry image entries node .string) 0 in
+        let size : ℕ = length (nameFrom image (symbolsEnd reader) from) in
+        rw (ne-eqb node 0 (λ q. omega arith))
+        (sym (part-between image from size) ∙ name-part image (symbolsEnd reader) from (from + size) (name-from b node there h) (b .symbols-inside) refl))
+        (at-zero (λ k. k) node)
+
+    -- In the code's terms: by its place and one more than its length.
+    module _ (from size : ℕ) (at : from ≡ nameSpan image reader strings entries node .offset) (n : size ≡ length (nameAt image reader strings entries node) + 1) where
+      pub name-text : part from (size - 1) image ≡ nameAt image reader strings entries node
+      name-text = let m : size - 1 ≡ nameSpan image reader strings entries node .size = omega (arith, name-size node) in rw (m, at) name-bytes
+
+      pub name-inside : from + (size - 1) ≤ length image
+      name-inside = omega (arith, name-size node, name-within b node there)
+
+    -- Of a span that is the name's.
+    module _ (s : Span) (is : s ≡ nameSpan image reader strings entries node) where
+      pub span-within : s .offset + s .size ≤ length image
+      span-within = rw is (name-within b node there)
+
+      pub span-text : part (s .offset) (s .offset + s .size - s .offset) image ≡ nameAt image reader strings entries node
+      span-text = part-between image (s .offset) (s .size) ∙ rw is name-bytes
+
+  -- A node that is not the root: where its name begins, and the name from there on.
+  module _ (node : ℕ) (other : node ≡ 0 → ⊥) where
+    pub name-begins : (e : Entry) (from : ℕ) → e ≡ recordedEntry image entries node → from ≡ getD strings (e .string) 0
+        → from ≡ nameSpan image reader strings entries node .offset
+    unfolding nameSpan
+    name-begins e from is h = h ∙ rw (ne-eqb node 0 other, is)
+
+    pub name-there : (from : ℕ) → from ≡ nameSpan image reader strings entries node .offset
+        → nameFrom image (symbolsEnd reader) from ≡ nameAt image reader strings entries node
+    unfolding nameSpan nameAt
+    name-there from h = rw (h, ne-eqb node 0 other)

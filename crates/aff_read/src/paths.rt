@@ -1,0 +1,340 @@
+// The path of a node, and lookup by path. A path is its parent's front, a slash and its own name; the root's front is empty.
+use crate::answers::NumberAnswer;
+use crate::node;
+use aff_format::Edition;
+use aff_format::FoundEdition;
+use aff_format::Grammar;
+use aff_format::Lowest;
+use aff_format::Refusal;
+use aff_format::Verdict;
+use aff_format::bytes;
+use aff_open::Reader;
+use aff_open::belongs;
+use aff_open::recorded;
+ghost use mathlib.Core.Path.{_≡_};
+ghost use mathlib.Core.List.{[], _∷_};
+ghost use Prim.Native.Nat.{_+_, _-_, _^_, _≤_, _<_};
+ghost use lib.Dec.{ltb};
+ghost use lib.ListN.{length};
+ghost use Rattle.aff_format.specs.Answer.{check, refusal, firstWrong};
+ghost use Rattle.aff_format.specs.Bytes.{part, spliced, sameBytes};
+ghost use Rattle.aff_format.specs.Edition.{editionOf};
+ghost use Rattle.aff_format.specs.Path.{isPath};
+ghost use Rattle.aff_format.specs.Tree.{frontBy};
+ghost use Rattle.aff_open.specs.Belongs.{Belongs};
+ghost use Rattle.aff_open.specs.Sections.{orTwo};
+ghost use Rattle.aff_open.specs.Tables.{nameFrom};
+ghost use Rattle.aff_read.specs.Answers.{numberTold};
+ghost use Rattle.aff_read.specs.Calls.{capped, EndsWith, pathAnswer, frontWritten, found, lookupAnswer};
+ghost use Rattle.aff_read.specs.Recall.{parentAt, nameAt, nameSpan, pathAt};
+
+// The length of the string that begins at a place, counted no further than one past a limit. At most that many bytes are read.
+fn name_length(image: &[u8], from: usize, end: usize, limit: usize) -> usize
+    requires { ⌜ (from ≤ end) × (end ≤ length (now image)) × (limit < 2 ^ 63) ⌝ }
+    ensures { λ r. ⌜ r ≡ capped limit (length (nameFrom (now (image .entry)) end from)) ⌝ }
+{
+    if end - from <= limit {
+        return recorded::name_end(image, from, end) - from;
+    }
+    recorded::name_end(image, from, from + limit + 1) - from
+}
+
+// The parent of a node; the root is its own.
+fn parent_of(image: &[u8], entries: &[u32], node: usize) -> usize
+    ensures { λ r. ⌜ r ≡ parentAt (now (image .entry)) (now (entries .entry)) node ⌝ }
+{
+    let entry = recorded::recorded_entry(image, entries, node);
+    entry.parent as usize
+}
+
+// Where the name of a node begins.
+fn name_place(image: &[u8], reader: Reader, strings: &[u32], entries: &[u32], node: usize) -> usize
+    ensures { λ r. ⌜ r ≡ nameSpan (now (image .entry)) reader (now (strings .entry)) (now (entries .entry)) node .offset ⌝ }
+{
+    if node == 0 {
+        return 0;
+    }
+    let entry = recorded::recorded_entry(image, entries, node);
+    recorded::place(strings, entry.string as usize)
+}
+
+// The length of a slash and a node's name, counted no further than one past a limit.
+fn own_length(
+    image: &[u8],
+    reader: Reader,
+    strings: &[u32],
+    entries: &[u32],
+    node: usize,
+    limit: usize,
+) -> usize
+    requires { ⌜ Belongs (now image) reader (now strings) (now entries) × (node ≤ reader .nodes) × (limit < 2 ^ 63) ⌝ }
+    ensures { λ r. ⌜ r ≡ capped limit (length (nameAt (now (image .entry)) reader (now (strings .entry)) (now (entries .entry)) node) + 1) ⌝ }
+{
+    if node == 0 {
+        return 1;
+    }
+    if limit == 0 {
+        return 1;
+    }
+    let symbols = reader.symbols;
+    let from = name_place(image, reader, strings, entries, node);
+    name_length(image, from, symbols.offset + symbols.size, limit - 1) + 1
+}
+
+// The length of a node's path, counted no further than one past a limit. Each step of the climb counts a byte at least, and no name is read
+// past the limit: at most `limit` bytes, and `limit` + 1 steps.
+pub fn path_length(
+    image: &[u8],
+    reader: Reader,
+    strings: &[u32],
+    entries: &[u32],
+    node: usize,
+    limit: usize,
+) -> usize
+    requires { ⌜ Belongs (now image) reader (now strings) (now entries) × (node ≤ reader .nodes) × (limit < 2 ^ 63) ⌝ }
+    ensures { λ r. ⌜ r ≡ capped limit (length (pathAt (now (image .entry)) reader (now (strings .entry)) (now (entries .entry)) node)) ⌝ }
+{
+    let mut left = limit;
+    let mut at = node;
+    loop {
+        let own = own_length(image, reader, strings, entries, at, left);
+        if left < own {
+            return limit + 1;
+        }
+        left -= own;
+        at = parent_of(image, entries, at);
+        if at == 0 {
+            return limit - left;
+        }
+    }
+}
+
+// Stores bytes from a place on.
+pub fn put(out: &mut [u8], at: usize, text: &[u8])
+    requires { ⌜ at + length (now text) ≤ length (now out) ⌝ }
+    ensures { λ _. ⌜ now (out .exit) ≡ spliced at (now (text .entry)) (now (out .entry)) ⌝ }
+{
+    let mut i: usize = 0;
+    while i < text.len() {
+        out[at + i] = text[i];
+        i += 1;
+    }
+}
+
+// Stores a slash and a node's name from a place on. It answers where they end.
+fn put_own(
+    image: &[u8],
+    reader: Reader,
+    strings: &[u32],
+    entries: &[u32],
+    node: usize,
+    at: usize,
+    out: &mut [u8],
+) -> usize
+    requires { ⌜ Belongs (now image) reader (now strings) (now entries) × (node ≤ reader .nodes) ⌝ }
+    requires { ⌜ at + length (47 ∷ nameAt (now image) reader (now strings) (now entries) node) ≤ length (now out) ⌝ }
+    ensures size { λ r. ⌜ r ≡ at + length (47 ∷ nameAt (now (image .entry)) reader (now (strings .entry)) (now (entries .entry)) node) ⌝ }
+    ensures text { λ r. ⌜ now (out .exit) ≡ spliced at (47 ∷ nameAt (now (image .entry)) reader (now (strings .entry)) (now (entries .entry)) node) (now (out .entry)) ⌝ }
+{
+    let span = node::name_span(image, reader, strings, entries, node);
+    let from = span.offset;
+    let end = from + span.size;
+    out[at] = b'/';
+    put(out, at + 1, &image[from..end]);
+    at + 1 + span.size
+}
+
+// Writes what stands before the slash of a node's children: first that of its parent, then the own slash and name. At most `left` steps up.
+fn write_front(
+    image: &[u8],
+    reader: Reader,
+    strings: &[u32],
+    entries: &[u32],
+    node: usize,
+    left: usize,
+    out: &mut [u8],
+) -> usize
+    requires { ⌜ Belongs (now image) reader (now strings) (now entries) × (node ≤ reader .nodes) ⌝ }
+    requires { ⌜ length (frontBy (parentAt (now image) (now entries)) (nameAt (now image) reader (now strings) (now entries)) left node) ≤ length (now out) ⌝ }
+    ensures size { λ r. ⌜ r ≡ length (frontBy (parentAt (now (image .entry)) (now (entries .entry))) (nameAt (now (image .entry)) reader (now (strings .entry)) (now (entries .entry))) left node) ⌝ }
+    ensures text { λ r. ⌜ now (out .exit) ≡ spliced 0 (frontBy (parentAt (now (image .entry)) (now (entries .entry))) (nameAt (now (image .entry)) reader (now (strings .entry)) (now (entries .entry))) left node) (now (out .entry)) ⌝ }
+{
+    if left == 0 {
+        return 0;
+    }
+    if node == 0 {
+        return 0;
+    }
+    let parent = parent_of(image, entries, node);
+    let at = write_front(image, reader, strings, entries, parent, left - 1, out);
+    put_own(image, reader, strings, entries, node, at, out)
+}
+
+// Writes the path of a node, for a record that belongs: 21. It measures first, so that at most three times the output's length is read:
+// to measure, to find each name's end, to copy.
+pub fn path_of(
+    image: &[u8],
+    reader: Reader,
+    strings: &[u32],
+    entries: &[u32],
+    node: usize,
+    out: &mut [u8],
+) -> NumberAnswer
+    requires { ⌜ Belongs (now image) reader (now strings) (now entries) × (node ≤ reader .nodes) ⌝ }
+    ensures answer { λ r. ⌜ numberTold r ≡ firstWrong (check (ltb (length (now (out .entry))) (length (pathAt (now (image .entry)) reader (now (strings .entry)) (now (entries .entry)) node))) (refusal 21) ∷ []) (length (pathAt (now (image .entry)) reader (now (strings .entry)) (now (entries .entry)) node)) ⌝ }
+    ensures output { λ r. ⌜ now (out .exit) ≡ frontWritten (numberTold r) (pathAt (now (image .entry)) reader (now (strings .entry)) (now (entries .entry)) node) (now (out .entry)) ⌝ }
+{
+    let room = out.len();
+    if room < path_length(image, reader, strings, entries, node, room) {
+        return NumberAnswer::Refused(Refusal::NoRoom);
+    }
+    let parent = parent_of(image, entries, node);
+    let at = write_front(image, reader, strings, entries, parent, reader.nodes, out);
+    NumberAnswer::Value(put_own(image, reader, strings, entries, node, at, out))
+}
+
+// Writes the path of a node, root first, at the front of an output; the rest of it stays: 24, 15, 21. It answers the path's length.
+pub fn path(
+    image: &[u8],
+    reader: Reader,
+    strings: &[u32],
+    entries: &[u32],
+    node: usize,
+    out: &mut [u8],
+) -> NumberAnswer
+    ensures answer { λ r. ⌜ numberTold r ≡ pathAnswer (now (image .entry)) reader (now (strings .entry)) (now (entries .entry)) node (length (now (out .entry))) ⌝ }
+    ensures output { λ r. ⌜ now (out .exit) ≡ frontWritten (numberTold r) (pathAt (now (image .entry)) reader (now (strings .entry)) (now (entries .entry)) node) (now (out .entry)) ⌝ }
+{
+    match node::judge(image, reader, strings, entries, node) {
+        Verdict::Refused(refusal) => NumberAnswer::Refused(refusal),
+        Verdict::Accepted => path_of(image, reader, strings, entries, node, out),
+    }
+}
+
+// Whether a slash and then the `size` bytes of the image from a place on stand in a path at a place.
+fn own_at(image: &[u8], from: usize, size: usize, path: &[u8], at: usize) -> bool
+    requires { ⌜ (from + size ≤ length (now image)) × (at + 1 + size ≤ length (now path)) ⌝ }
+    ensures { λ r. ⌜ r ≡ sameBytes (47 ∷ part from size (now (image .entry))) (part at (size + 1) (now (path .entry))) ⌝ }
+{
+    if path[at] != b'/' {
+        return false;
+    }
+    let start = at + 1;
+    bytes::same(&image[from..from + size], &path[start..start + size])
+}
+
+// Where the slash and the name of a node begin with which the first `left` bytes of a path end; `left` where they do not. At most `left`
+// bytes of the name are read, and compared only where it fits.
+fn front_of(
+    image: &[u8],
+    reader: Reader,
+    strings: &[u32],
+    entries: &[u32],
+    node: usize,
+    path: &[u8],
+    left: usize,
+) -> usize
+    requires { ⌜ Belongs (now image) reader (now strings) (now entries) × (node ≤ reader .nodes) × (left ≤ length (now path)) ⌝ }
+    ensures { λ r. ⌜ EndsWith (47 ∷ nameAt (now (image .entry)) reader (now (strings .entry)) (now (entries .entry)) node) (now (path .entry)) left r ⌝ }
+{
+    let size = own_length(image, reader, strings, entries, node, left);
+    if left < size {
+        return left;
+    }
+    let from = name_place(image, reader, strings, entries, node);
+    if own_at(image, from, size - 1, path, left - size) {
+        left - size
+    } else {
+        left
+    }
+}
+
+// Whether the path of a node is the given one, compared from its end. A step uses up the bytes that it compares, one at least, or ends: at
+// most twice the path's length is read.
+pub fn matches(
+    image: &[u8],
+    reader: Reader,
+    strings: &[u32],
+    entries: &[u32],
+    node: usize,
+    path: &[u8],
+) -> bool
+    requires { ⌜ Belongs (now image) reader (now strings) (now entries) × (node ≤ reader .nodes) ⌝ }
+    ensures { λ r. ⌜ r ≡ sameBytes (pathAt (now (image .entry)) reader (now (strings .entry)) (now (entries .entry)) node) (now (path .entry)) ⌝ }
+{
+    let mut at = node;
+    let mut left = path.len();
+    loop {
+        let front = front_of(image, reader, strings, entries, at, path, left);
+        if left <= front {
+            return false;
+        }
+        left = front;
+        at = parent_of(image, entries, at);
+        if at == 0 {
+            return left == 0;
+        }
+    }
+}
+
+// The lowest node whose path is the given one, for a record that belongs. At most twice the path's length for each node.
+pub fn lowest_match(
+    image: &[u8],
+    reader: Reader,
+    strings: &[u32],
+    entries: &[u32],
+    path: &[u8],
+) -> Lowest
+    requires { ⌜ Belongs (now image) reader (now strings) (now entries) ⌝ }
+    ensures { λ r. ⌜ r ≡ found (now (image .entry)) reader (now (strings .entry)) (now (entries .entry)) (now (path .entry)) ⌝ }
+{
+    let mut k: usize = 0;
+    while k <= reader.nodes {
+        if matches(image, reader, strings, entries, k, path) {
+            return Lowest::At(k);
+        }
+        k += 1;
+    }
+    Lowest::Nothing
+}
+
+// The edition of a number; edition 2 where there is none.
+fn edition_of(number: u32) -> Edition
+    ensures { λ r. ⌜ r ≡ orTwo (editionOf number) ⌝ }
+{
+    match Edition::from_number(number) {
+        FoundEdition::Known(edition) => edition,
+        FoundEdition::Unknown => Edition::Two,
+    }
+}
+
+fn is_path(edition: Edition, path: &[u8]) -> bool
+    ensures { λ r. ⌜ r ≡ isPath edition (now (path .entry)) ⌝ }
+{
+    match aff_format::path::grammar(edition, path) {
+        Grammar::Sound => true,
+        Grammar::BreaksAt(_) => false,
+    }
+}
+
+// The lowest node whose written path is the given one: 24, 14, 15.
+pub fn lookup(
+    image: &[u8],
+    reader: Reader,
+    strings: &[u32],
+    entries: &[u32],
+    path: &[u8],
+) -> NumberAnswer
+    ensures { λ r. ⌜ numberTold r ≡ lookupAnswer (now (image .entry)) reader (now (strings .entry)) (now (entries .entry)) (now (path .entry)) ⌝ }
+{
+    if belongs::belongs(image, reader, strings, entries) {} else {
+        return NumberAnswer::Refused(Refusal::WrongRecord);
+    }
+    if is_path(edition_of(reader.edition), path) {} else {
+        return NumberAnswer::Refused(Refusal::Malformed(0));
+    }
+    match lowest_match(image, reader, strings, entries, path) {
+        Lowest::At(node) => NumberAnswer::Value(node),
+        Lowest::Nothing => NumberAnswer::Refused(Refusal::Absent),
+    }
+}
