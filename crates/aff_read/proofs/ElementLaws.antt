@@ -39,7 +39,7 @@ counted-void Complex l v = absurd (let z : _≡_ {A = ℕ} 0 1 = cc in omega ari
 
 module _ {image : List ℕ} {reader : Reader} {strings entries : List ℕ} (b : Belongs image reader strings entries) (node : ℕ) (there : node ≤ reader .nodes) where
   -- A Void node's count is 0.
-  void-count : isVoid (kindAt image entries node) ≡ true → countAt image entries node ≡ 0
+  pub void-count : isVoid (kindAt image entries node) ≡ true → countAt image entries node ≡ 0
   unfolding recordedEntry
   void-count v =
       ⊎-elim (λ (z : node ≡ 0). rw z) (λ (h : 0 < node). whole-void-count (drop (getD entries (node - 1) 0) image) (recordedEntry image entries node) (b .entry-whole node h there) v)

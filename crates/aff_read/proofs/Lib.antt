@@ -8,3 +8,8 @@ pub mod WriteLaws
 pub mod MatchLaws
 pub mod StepLaws
 pub mod LookupLaws
+pub mod WrittenLaws
+pub mod ListingLaws
+pub mod OnceLaws
+pub mod WholeLaws
+pub mod LineLaws

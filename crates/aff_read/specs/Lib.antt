@@ -2,3 +2,5 @@
 pub mod Recall
 pub mod Answers
 pub mod Calls
+pub mod Written
+pub mod Once

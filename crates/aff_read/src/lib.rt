@@ -3,6 +3,7 @@
 pub mod answers; // what the calls hand back
 pub mod node; // name, kind, count and data of a node
 pub mod paths; // the path of a node, and lookup by path
+pub mod lister; // listing order, and a line of the lister
 
 pub use answers::KindAnswer;
 pub use answers::NumberAnswer;

@@ -1,0 +1,59 @@
+-- Runs written one behind the other. Assumes nothing.
+use mathlib.Core.Path.{_≡_, refl, sym, ap, _∙_}
+use mathlib.Core.List.{List, [], _∷_, _++_}
+use Prim.Native.Nat.{ℕ, _+_, _≤_, _<_}
+use native.Mathlib.Nat.{add-zero, zero-add}
+use native.Mathlib.Numerals.{add-one}
+use native.Mathlib.Omega.{arith}
+use lib.ListN.{length, getD, take, drop, set, length-append}
+use lib.Seq.{length-take-le, take-length, take-suc, take-at}
+use Rattle.aff_format.specs.Bytes.{spliced}
+use Rattle.aff_format.proofs.BytesLaws.{length-spliced, spliced-nil, spliced-next, set-spliced}
+use Rattle.aff_read.specs.Written.{Written}
+
+pub written-none : (at : ℕ) (x o : List ℕ) → x ≡ [] → Written at x o o at
+written-none at x o e = rw e (record { ends = sym (add-zero at); area = sym (spliced-nil at o) })
+
+pub written-same : {at end : ℕ} {x y o p : List ℕ} → x ≡ y → Written at x o p end → Written at y o p end
+written-same e w = rw (sym e) w
+
+-- One number stored.
+pub written-one : (at v : ℕ) (o : List ℕ) → at < length o → Written at (v ∷ []) o (set o at v) (at + 1)
+written-one at v o h = record { ends = refl; area = set-spliced at v o h }
+
+module _ {at mid : ℕ} {x o p : List ℕ} (v : Written at x o p mid) (fits : at + length x ≤ length o) where
+  pub written-length : length p ≡ length o
+  written-length = rw (v .area) (length-spliced at x o fits)
+
+  -- One run and another behind it.
+  pub written-more : {end : ℕ} {y q : List ℕ} → Written mid y p q end → Written at (x ++ y) o q end
+  written-more {end} {y} {q} w =
+      record {
+        ends = omega (arith, v .ends, w .ends, length-append x y);
+        area = spliced-next at mid x y o p q (sym (v .ends)) (omega (arith, v .ends)) (v .area) (w .area);
+      }
+
+-- At the front of an area.
+pub written-front : {end : ℕ} {x o p : List ℕ} → Written 0 x o p end → (end ≡ length x) × (p ≡ x ++ drop (length x) o)
+unfolding spliced
+written-front w = (omega (arith, w .ends), w .area ∙ rw zero-add)
+
+pub written-taken : {end : ℕ} {x o p : List ℕ} → Written 0 x o p end → take end p ≡ x
+written-taken {end} {x} {o} w = let f = written-front w in rw (f .1) (take-at x (drop (length x) o) end (sym (f .0)))
+
+-- A copy, number by number.
+module _ (at : ℕ) (text o : List ℕ) where
+  pub copy-start : Written at (take 0 text) o o (at + 0)
+  copy-start = record { ends = refl; area = sym (spliced-nil at o) }
+
+  module _ {i : ℕ} {p : List ℕ} (w : Written at (take i text) o p (at + i)) where
+    pub copy-next : i < length text → at + length text ≤ length o → Written at (take (i + 1) text) o (set p (at + i) (getD text i 0)) (at + (i + 1))
+    copy-next h fits =
+        let n : length (take i text) ≡ i = length-take-le i text (omega arith) in
+        let room : at + length (take i text) ≤ length o = omega arith in
+        let v = written-more w room (written-one (at + i) (getD text i 0) p (omega (arith, written-length w room))) in
+        let e : take i text ++ (getD text i 0 ∷ []) ≡ take (i + 1) text = rw add-one (sym (take-suc text i 0 h)) in
+        record { ends = omega (arith, v .ends, ap length e); area = v .area ∙ rw e }
+
+    pub copy-done : i ≤ length text → length text ≤ i → Written at text o p (at + i)
+    copy-done h g = let e : i ≡ length text = omega arith in written-same (ap (λ (n : ℕ). take n text) e ∙ take-length text) w
