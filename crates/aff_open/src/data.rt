@@ -29,7 +29,7 @@ pub fn is_outside(entry: Entry, from: usize, size: usize) -> bool
     end - entry.offset < bytes
 }
 
-// 13: the lowest node whose data are not inside the `size` bytes from `from` on.
+// 13: the lowest node whose data are not inside the `size` bytes from `from` on. One entry read a node.
 pub fn data_outside(image: &[u8], entries: &[u32], nodes: usize, from: usize, size: usize) -> Lowest
     requires { ⌜ (nodes ≤ 2048) × (from + size < 2147483648) ⌝ }
     ensures { λ r. ⌜ r ≡ lowestFrom (dataOutside from size (recordedEntry (now (image .entry)) (now (entries .entry)))) nodes 1 ⌝ }

@@ -63,6 +63,7 @@ fn link_bad(entry: Entry, nodes: usize, strings: usize, sound: &[u8]) -> bool
 }
 
 // The lowest node whose parent or string does not exist or whose string is no subkey; parents and string numbers are copied on the way.
+// One entry read a node.
 fn links(
     image: &[u8],
     entries: &[u32],

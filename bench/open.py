@@ -1,0 +1,153 @@
+#!/usr/bin/env python3
+"""The processor time of `open` beside that of `md5` over the three sections of the same image, in one run.
+
+Printed are a large image, images with no data and how their time grows with nodes and strings, and images that are made to be slow. Every
+image is of edition 2 and is made here, with sums by hashlib. The run fails where an opening does not hand back the expected number.
+Each time is the least of many calls, in which the two functions take turns.
+
+Use, from anywhere: bench/open.py [SECONDS], where SECONDS is about how long the calls on each image take together.
+It needs rt, a C compiler as cc, Linux on x86-64, 300 MB of memory, and 70 MB of disk below target/ in a folder that it removes again.
+"""
+import hashlib
+import os
+import random
+import struct
+import subprocess
+import sys
+import tempfile
+
+ROOT = os.path.dirname(os.path.dirname(os.path.abspath(__file__)))
+OUT = os.path.join(ROOT, "target", "bench")
+FORM = bytes([0, 64, 2, 53, 4, 0, 3, 253, 0, 0, 0, 168])
+HEADER = 168
+MANY = 2048
+LONG = 16 * 2**10
+
+
+def void(parent, string):
+    return struct.pack(">BQI", 1, parent, string)
+
+
+def chars(parent, string, count, offset):
+    return struct.pack(">BQIIQ", 2, parent, string, count, offset)
+
+
+def write_image(path, symbols, strings, tree, nodes, zeros=0):
+    """An image of edition 2 whose data section is so many zeros; `tree` is the tree table, or a function that makes it of the place of the data."""
+    if callable(tree):
+        tree = tree(HEADER + len(symbols) + len(tree(0)))
+    data = hashlib.md5()
+    for _ in range(zeros // 2**20):
+        data.update(bytes(2**20))
+    data.update(bytes(zeros % 2**20))
+    header, at = b"LHPC AFF version 2.0" + FORM, HEADER
+    for size, records, digest in (
+        (len(symbols), strings, hashlib.md5(symbols).digest()),
+        (len(tree), nodes, hashlib.md5(tree).digest()),
+        (zeros, nodes, data.digest()),
+    ):
+        header += struct.pack(">QQQ", at, size, records) + digest
+        at += size
+    with open(path, "wb") as file:
+        file.write(header + hashlib.md5(header).digest() + symbols + tree)
+        file.truncate(at)
+
+
+def table(strings):
+    return b"".join(string + b"\0" for string in strings)
+
+
+def ending(i):
+    """Two letters for a number below 2,704, in its order."""
+    letters = b"ABCDEFGHIJKLMNOPQRSTUVWXYZabcdefghijklmnopqrstuvwxyz"
+    return bytes([letters[i // 52], letters[i % 52]])
+
+
+def plain(count):
+    """Names in no order, and a tree in which a node has up to eight children."""
+    order = list(range(count))
+    random.Random(1).shuffle(order)
+    names = [b"key." + str(i).encode() for i in order]
+    return table(names), count, b"".join(void(k // 8, k) for k in range(count)), count
+
+
+def large(path):
+    share = 2**28 // MANY
+    symbols, strings, _, nodes = plain(MANY)
+    write_image(path, symbols, strings, lambda at: b"".join(chars(k // 8, k, share, at + k * share) for k in range(MANY)), nodes, 2**28)
+
+
+def chain(parents):
+    return b"".join(void(parent, 0) for parent in parents)
+
+
+LONG_NAMES = [b"a" * (LONG - 3) + ending(i) for i in range(MANY)]
+SHORT_NAMES = [b"key." + ending(i) for i in range(MANY)]
+UPWARD = list(range(2, MANY + 1)) + [0]
+
+# What an image is, the expected number, and its maker.
+LARGE = ("2,048 nodes, 256 MiB of data", 0, large)
+PLAIN = [(f"{count:,} nodes and strings, no data", 0, lambda path, count=count: write_image(path, *plain(count))) for count in (256, 512, 1024, MANY)]
+HOSTILE = [
+    ("2,048 strings of 16 KiB that differ in the last two bytes", 0, lambda path: write_image(path, table(LONG_NAMES), MANY, b"", 0)),
+    ("the same in falling order", 0, lambda path: write_image(path, table(LONG_NAMES[::-1]), MANY, b"", 0)),
+    (
+        "2,048 names in falling order, children of the root in falling order",
+        0,
+        lambda path: write_image(path, table(SHORT_NAMES[::-1]), MANY, b"".join(void(0, MANY - 1 - k) for k in range(MANY)), MANY),
+    ),
+    ("a chain of 2,048 nodes, each parent above its child", 0, lambda path: write_image(path, b"a\0", 1, chain(UPWARD), MANY)),
+    ("such a chain that ends in a ring", 11, lambda path: write_image(path, b"a\0", 1, chain(UPWARD[:-1] + [MANY - 1]), MANY)),
+    (
+        "2,048 strings, and all 2,048 nodes have the longest, of 32 MiB",
+        0,
+        lambda path: write_image(path, table([b"a" * 2**25] + SHORT_NAMES[1:]), MANY, chain(range(MANY)), MANY),
+    ),
+    ("one string of 64 MiB, the name of one node", 0, lambda path: write_image(path, b"a" * 2**26 + b"\0", 1, void(0, 0), 1)),
+    ("64 MiB of symbol table, all zeros", 8, lambda path: write_image(path, bytes(2**26), 2**26, b"", 0)),
+    ("64 MiB of tree table, all zeros", 9, lambda path: write_image(path, b"", 0, bytes(2**26), 2**26)),
+]
+
+
+def shown(seconds):
+    return f"{seconds * 1e3:.0f} ms" if 0.01 < seconds else f"{seconds * 1e6:.0f} µs"
+
+
+def timed(program, folder, seconds, what, number, maker):
+    """The least times of an opening and of the digests."""
+    path = os.path.join(folder, "image")
+    maker(path)
+
+    def run(runs):
+        words = subprocess.run([program, path, str(number), str(runs)], stdout=subprocess.PIPE, check=True, text=True).stdout.split()
+        return float(words[0]), float(words[1])
+
+    runs = max(7, int(seconds / sum(run(3))))
+    opening, digests = run(runs)
+    os.remove(path)
+    answer = f"refused, {number}" if number else "accepted"
+    print(f"| {what} | {answer} | {shown(opening)} | {shown(digests)} | {opening / digests:.2f} | {runs:,} |", flush=True)
+    return opening, digests
+
+
+def main():
+    seconds = float(sys.argv[1]) if len(sys.argv) > 1 else 5
+    os.makedirs(OUT, exist_ok=True)
+    libraries = []
+    for crate in ("aff_c", "md5_c"):
+        subprocess.run(["rt", "staticlib", crate], cwd=ROOT, check=True, stdout=subprocess.DEVNULL)
+        libraries.append(os.path.join(ROOT, "target", "staticlib", f"lib{crate}.a"))
+    program = os.path.join(OUT, "open")
+    subprocess.run(["cc", "-O2", os.path.join(ROOT, "bench", "open.c"), *libraries, "-o", program], check=True)
+    with tempfile.TemporaryDirectory(dir=OUT) as folder:
+        print("| image | answer | `open` | `md5` of its sections | ratio | calls |")
+        print("|---|---|---|---|---|---|")
+        timed(program, folder, seconds, *LARGE)
+        few, *_, many = [timed(program, folder, seconds, *image) for image in PLAIN]
+        hostile = [timed(program, folder, seconds, *image) for image in HOSTILE]
+    print(f"from 256 to 2,048 nodes and strings: {many[0] / few[0]:.1f} times; 8 would be linear")
+    print(f"the slowest of the images made to be slow: {max(opening / digests for opening, digests in hostile):.1f} times `md5` of its sections;")
+    print(f"of those with more than a millisecond of `md5`: {max(opening / digests for opening, digests in hostile if 1e-3 < digests):.1f} times")
+
+
+main()
