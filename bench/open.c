@@ -1,7 +1,9 @@
 // The program that bench/open.py builds and runs.
-// `open FILE NUMBER RUNS` opens the image of edition 2 in a file RUNS times, by the proved function of crates/aff_c, and computes between
-// the openings the MD5 digests of the image's three sections, by that of crates/md5_c. It prints the least processor time of each, in
-// seconds, and fails where an opening does not hand back NUMBER: 0 for acceptance, else the refusal's. The file is mapped into memory.
+// `open FILE NUMBER SAMPLES BATCH` opens the image of edition 2 in a file, by the proved function of crates/aff_c, and computes the MD5 digests
+// of the image's three sections, by that of crates/md5_c. A sample is the processor time of BATCH calls in a row, divided by BATCH; samples
+// of the two take turns. It prints the median of each, in seconds, and fails where an opening does not hand back NUMBER: 0 for acceptance,
+// else the refusal's. The file is mapped into memory.
+// The median, not the least: the clock's difference over a short call can come out as 0, and the least of many samples would be that.
 #define _GNU_SOURCE
 #include <fcntl.h>
 #include <stdbool.h>
@@ -33,9 +35,19 @@ static uint64_t be64(const uint8_t *bytes) {
     return n;
 }
 
+static int order(const void *a, const void *b) {
+    double x = *(const double *)a, y = *(const double *)b;
+    return (x > y) - (x < y);
+}
+
+static double median(double *samples, int count) {
+    qsort(samples, (size_t)count, sizeof *samples, order);
+    return samples[count / 2];
+}
+
 int main(int argc, char **argv) {
-    if (argc != 4) {
-        fputs("usage: open FILE NUMBER RUNS\n", stderr);
+    if (argc != 5) {
+        fputs("usage: open FILE NUMBER SAMPLES BATCH\n", stderr);
         return 2;
     }
     int file = open(argv[1], O_RDONLY);
@@ -51,32 +63,34 @@ int main(int argc, char **argv) {
         return 1;
     }
     uint32_t expected = (uint32_t)atoi(argv[2]);
-    int runs = atoi(argv[3]);
+    int samples = atoi(argv[3]), batch = atoi(argv[4]);
+    double *opening = malloc((size_t)samples * sizeof *opening), *digests = malloc((size_t)samples * sizeof *digests);
+    if (samples < 1 || batch < 1 || opening == NULL || digests == NULL) {
+        fputs("SAMPLES and BATCH are numbers from 1 on\n", stderr);
+        return 2;
+    }
     static uint32_t strings[2048], entries[2048];
     uint64_t record[12];
     uint8_t form[12], digest[16];
-    double opening = 1e9, digests = 1e9;
     aff_form_for(image, length, form, sizeof form);
-    for (int run = 0; run < runs; run++) {
+    for (int sample = 0; sample < samples; sample++) {
         double begin = now();
-        uint32_t number = aff_open_image(image, length, form, sizeof form, strings, 2048, entries, 2048, record, 12);
-        double seconds = now() - begin;
-        if (number != expected) {
-            fprintf(stderr, "%s: handed back %u at %lu, not %u\n", argv[1], number, (unsigned long)record[0], expected);
-            return 1;
+        for (int call = 0; call < batch; call++) {
+            uint32_t number = aff_open_image(image, length, form, sizeof form, strings, 2048, entries, 2048, record, 12);
+            if (number != expected) {
+                fprintf(stderr, "%s: handed back %u at %lu, not %u\n", argv[1], number, (unsigned long)record[0], expected);
+                return 1;
+            }
         }
-        if (seconds < opening) {
-            opening = seconds;
-        }
+        opening[sample] = (now() - begin) / batch;
         begin = now();
-        for (int header = 32; header <= 112; header += 40) {
-            md5_c_digest(image + be64(image + header), be64(image + header + 8), digest, sizeof digest);
+        for (int call = 0; call < batch; call++) {
+            for (int header = 32; header <= 112; header += 40) {
+                md5_c_digest(image + be64(image + header), be64(image + header + 8), digest, sizeof digest);
+            }
         }
-        seconds = now() - begin;
-        if (seconds < digests) {
-            digests = seconds;
-        }
+        digests[sample] = (now() - begin) / batch;
     }
-    printf("%.9f %.9f\n", opening, digests);
+    printf("%.9f %.9f\n", median(opening, samples), median(digests, samples));
     return 0;
 }

@@ -3,7 +3,7 @@
 
 Printed are a large image, images with no data and how their time grows with nodes and strings, and images that are made to be slow. Every
 image is of edition 2 and is made here, with sums by hashlib. The run fails where an opening does not hand back the expected number.
-Each time is the least of many calls, in which the two functions take turns.
+A sample is a batch of calls that takes 10 ms at least; each time is the median of the samples, in which the two functions take turns.
 
 Use, from anywhere: bench/open.py [SECONDS], where SECONDS is about how long the calls on each image take together.
 It needs rt, a C compiler as cc, Linux on x86-64, 300 MB of memory, and 70 MB of disk below target/ in a folder that it removes again.
@@ -21,6 +21,7 @@ OUT = os.path.join(ROOT, "target", "bench")
 FORM = bytes([0, 64, 2, 53, 4, 0, 3, 253, 0, 0, 0, 168])
 HEADER = 168
 MANY = 2048
+SAMPLE = 0.01
 LONG = 16 * 2**10
 
 
@@ -114,19 +115,23 @@ def shown(seconds):
 
 
 def timed(program, folder, seconds, what, number, maker):
-    """The least times of an opening and of the digests."""
+    """The median times of an opening and of the digests."""
     path = os.path.join(folder, "image")
     maker(path)
 
-    def run(runs):
-        words = subprocess.run([program, path, str(number), str(runs)], stdout=subprocess.PIPE, check=True, text=True).stdout.split()
+    def run(samples, batch):
+        words = [program, path, str(number), str(samples), str(batch)]
+        words = subprocess.run(words, stdout=subprocess.PIPE, check=True, text=True).stdout.split()
         return float(words[0]), float(words[1])
 
-    runs = max(7, int(seconds / sum(run(3))))
-    opening, digests = run(runs)
+    batch = 1
+    while min(found := run(3, batch)) * batch < SAMPLE:
+        batch *= 4
+    runs = max(7, int(seconds / (sum(found) * batch)))
+    opening, digests = run(runs, batch)
     os.remove(path)
     answer = f"refused, {number}" if number else "accepted"
-    print(f"| {what} | {answer} | {shown(opening)} | {shown(digests)} | {opening / digests:.2f} | {runs:,} |", flush=True)
+    print(f"| {what} | {answer} | {shown(opening)} | {shown(digests)} | {opening / digests:.2f} | {runs:,} of {batch:,} |", flush=True)
     return opening, digests
 
 
@@ -140,7 +145,7 @@ def main():
     program = os.path.join(OUT, "open")
     subprocess.run(["cc", "-O2", os.path.join(ROOT, "bench", "open.c"), *libraries, "-o", program], check=True)
     with tempfile.TemporaryDirectory(dir=OUT) as folder:
-        print("| image | answer | `open` | `md5` of its sections | ratio | calls |")
+        print("| image | answer | `open` | `md5` of its sections | ratio | samples |")
         print("|---|---|---|---|---|---|")
         timed(program, folder, seconds, *LARGE)
         few, *_, many = [timed(program, folder, seconds, *image) for image in PLAIN]
