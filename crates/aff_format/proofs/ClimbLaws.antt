@@ -1,15 +1,14 @@
 -- Laws of climbs by parents. A climb that reaches the root at all reaches it within as many steps as there are nodes: the sets of nodes
 -- that reach it within j steps grow with j until two in a row are equal, and from then on stay. Assumes nothing.
-use mathlib.Core.Path.{_≡_, refl, sym, ap, _∙_}
+use mathlib.Core.Path.{_≡_, refl, sym, _∙_}
 use mathlib.Core.Bool.{Bool, true, false}
 use mathlib.Core.Logic.{_⊎_, inl, inr, ⊎-elim}
 use Prim.Native.Nat.{ℕ, zero, suc, _+_, _-_, _≤_, _<_}
 use native.Mathlib.Nat.{zero-add, suc-add, add-comm, not-suc-le-zero, eq-or-lt-of-le, le-of-suc-le-suc}
 use native.Mathlib.Omega.{arith}
-use mathlib.Core.List.{List}
-use lib.Dec.{eqb, leb}
-use borrow.Author.Tests.{eq-eqb, ne-eqb, leb-true, leb-false}
-use Rattle.aff_format.specs.Tree.{reachesBy, frontBy}
+use lib.Dec.{leb}
+use borrow.Author.Tests.{ne-eqb, leb-true, leb-false}
+use Rattle.aff_format.specs.Tree.{reachesBy}
 
 pub absurd-bool : {A : Type 0} → false ≡ true → A
 absurd-bool e = let z : _≡_ {A = ℕ} 0 1 = cc in absurd (omega arith)
@@ -18,7 +17,7 @@ order-by : (m n : ℕ) (b : Bool) → leb m n ≡ b → (m ≤ n) ⊎ (n < m)
 order-by m n true e = inl (leb-true m n e)
 order-by m n false e = inr (leb-false m n e)
 
-order : (m n : ℕ) → (m ≤ n) ⊎ (n < m)
+pub order : (m n : ℕ) → (m ≤ n) ⊎ (n < m)
 order m n = order-by m n (leb m n) refl
 
 -- how many numbers below n a test holds of

@@ -1,22 +1,18 @@
--- Document 01's worked file and cases, computed from the definitions.
+-- Document 01's worked file, computed from the definitions.
 use mathlib.Core.Path.{_≡_, refl}
-use mathlib.Core.Bool.{Bool, true, false}
-use mathlib.Core.List.{List, [], _∷_, _++_}
+use mathlib.Core.List.{List, [], _∷_}
 use Prim.Native.Nat.{ℕ}
-use lib.IntN.{pos, negsuc}
 use lib.ListN.{take, drop}
-use Rattle.aff_format.specs.Answer.{Answer, accepted, refused, refusal}
-use Rattle.aff_format.specs.Number.{beOf, beBytes, twosComplement}
+use Rattle.aff_format.specs.Answer.{refused, refusal}
+use Rattle.aff_format.specs.Number.{beOf, beBytes}
 use Rattle.aff_format.specs.Element.{decoded, elementAt}
 use Rattle.aff_format.specs.Subkey.{subkeyFrom, restOfSubkey, narrowFirst, narrowNext}
 use Rattle.aff_format.specs.Path.{pathGrammar, partsFrom, betweenSlashes}
-use Rattle.aff_format.specs.Strings.{stringsOf, endsInZero, placesOf, textOf}
-use Rattle.aff_format.specs.Entry.{entryOf, fieldsOf, entryBytes, slotBytes}
-use Rattle.aff_format.specs.declared.edition.Edition.the-variants.{One, Two}
+use Rattle.aff_format.specs.Strings.{stringsOf, placesOf}
+use Rattle.aff_format.specs.Entry.{entryOf, fieldsOf, entryBytes}
+use Rattle.aff_format.specs.declared.edition.Edition.the-variants.{Two}
 use Rattle.aff_format.specs.declared.kind.Kind.the-variants as kind
-use Rattle.aff_format.specs.declared.element.Element.{Element}
-use Rattle.aff_format.specs.declared.element.Element.the-variants as element
-use Rattle.aff_format.specs.declared.subkey.Grammar.the-variants.{Sound, BreaksAt}
+use Rattle.aff_format.specs.declared.subkey.Grammar.the-variants.{Sound}
 use Rattle.aff_format.specs.declared.entry.FoundEntry.the-variants.{Whole, Broken}
 
 -- The symbol table of the worked file, `a` and `n`, stands at 172.
@@ -55,40 +51,12 @@ written : entryBytes (record { kind = kind.Int; parent = 1; string = 1; count = 
 unfolding tree entryBytes beBytes
 written = refl
 
--- -70 and the ends of the range, and the index behind the last.
-minus-seventy : decoded kind.Int (0xff ∷ 0xff ∷ 0xff ∷ 0xba ∷ []) 0 ≡ accepted (element.Int (negsuc 69))
-unfolding decoded elementAt twosComplement beOf
-minus-seventy = refl
-
+-- The index behind the last.
 behind : decoded kind.Int (0xff ∷ 0xff ∷ 0xff ∷ 0xba ∷ []) 1 ≡ refused (refusal 16)
 unfolding decoded elementAt
 behind = refl
 
--- Paths and subkeys, with the place of each fault: ``, `//a`, `/a/`, `/9a`, `/a/n`, `_`.
-empty : pathGrammar Two [] ≡ BreaksAt 0
-unfolding pathGrammar
-empty = refl
-
-root : pathGrammar Two (47 ∷ []) ≡ Sound
-unfolding pathGrammar
-root = refl
-
-double-slash : pathGrammar Two (47 ∷ 47 ∷ 97 ∷ []) ≡ BreaksAt 1
-unfolding pathGrammar partsFrom betweenSlashes subkeyFrom restOfSubkey narrowFirst narrowNext
-double-slash = refl
-
-last-slash : pathGrammar Two (47 ∷ 97 ∷ 47 ∷ []) ≡ BreaksAt 3
-unfolding pathGrammar partsFrom betweenSlashes subkeyFrom restOfSubkey narrowFirst narrowNext
-last-slash = refl
-
-digit-first : pathGrammar One (47 ∷ 57 ∷ 97 ∷ []) ≡ BreaksAt 1
-unfolding pathGrammar partsFrom betweenSlashes subkeyFrom restOfSubkey narrowFirst narrowNext
-digit-first = refl
-
+-- The path of its node 2, `/a/n`. (Other paths, subkeys and numbers: aff_read's table of cases.)
 worked-path : pathGrammar Two (47 ∷ 97 ∷ 47 ∷ 110 ∷ []) ≡ Sound
 unfolding pathGrammar partsFrom betweenSlashes subkeyFrom restOfSubkey narrowFirst narrowNext
 worked-path = refl
-
-underscore : subkeyFrom Two 0 (95 ∷ []) ≡ Sound
-unfolding subkeyFrom restOfSubkey narrowFirst
-underscore = refl

@@ -1,5 +1,6 @@
 -- Laws of the definitions in specs/, which proofs of this crate and of those above cite.
 pub mod AnswerLaws
+pub mod VerdictLaws
 pub mod LowestLaws
 pub mod EditionLaws
 pub mod BytesLaws

@@ -1,18 +1,18 @@
 -- Paths cut at their slashes: part by part, in the code's terms; what the grammar accepts is exactly `/` or subkeys joined by slashes.
-use mathlib.Core.Path.{_≡_, refl, sym, ap, _∙_}
+use mathlib.Core.Path.{_≡_, refl, sym, ap, subst, _∙_}
 use mathlib.Core.Bool.{Bool, true, false, cond, true≢false}
 use mathlib.Core.Logic.{_↔_}
-use mathlib.Core.List.{List, [], _∷_, _++_, append-assoc}
+use mathlib.Core.List.{List, [], _∷_, _++_, append-assoc, append-nil}
 use Prim.Native.Nat.{ℕ, suc, _+_, _-_, _<_, _≤_}
 use native.Mathlib.Numerals.{add-one}
 use native.Mathlib.Nat.{add-zero}
 use native.Mathlib.Omega.{arith}
 use lib.Dec.{eqb}
-use lib.ListN.{length, getD, take, drop, length-drop, drop-of-length-le}
+use lib.ListN.{length, getD, take, drop, length-append, length-drop, drop-of-length-le}
 use lib.Seq.{drop-cons, drop-drop, length-take-le, take-all}
 use borrow.Author.Tests.{eq-eqb, ne-eqb, eqb-true}
 use Rattle.aff_format.specs.Bytes.{part, Without, EachWithout}
-use Rattle.aff_format.specs.Subkey.{subkeyFrom, isSound}
+use Rattle.aff_format.specs.Subkey.{subkeyFrom, isSound, isSubkey}
 use Rattle.aff_format.specs.Path.{ahead, betweenSlashes, untilSlash, orElse, partsFrom, behindSlash, pathGrammar, isPath, joinedPath, Subkeys, WellFormed, root, subkeys}
 use Rattle.aff_format.proofs.SubkeyLaws.{subkey-no-slash, sound-shift, sound-is}
 use Rattle.aff_format.specs.declared.edition.Edition.{Edition}
@@ -164,6 +164,10 @@ unfolding joinedPath
 joined-append [] js = refl
 joined-append (k ∷ ks) js = rw (joined-append ks js, append-assoc)
 
+pub joined-more : (ks : List (List ℕ)) (k : List ℕ) → joinedPath (ks ++ (k ∷ [])) ≡ joinedPath ks ++ (47 ∷ k)
+unfolding joinedPath
+joined-more ks k = joined-append ks (k ∷ []) ∙ rw append-nil
+
 pub joined-between : (l : List ℕ) → joinedPath (betweenSlashes l) ≡ 47 ∷ l
 unfolding joinedPath betweenSlashes
 joined-between [] = refl
@@ -189,6 +193,10 @@ pub subkeys-without : (e : Edition) (ks : List (List ℕ)) → Subkeys e ks → 
 subkeys-without e [] s = tt
 subkeys-without e (k ∷ ks) s = (subkey-no-slash e k (s .0), subkeys-without e ks (s .1))
 
+pub subkeys-more : (e : Edition) (ks : List (List ℕ)) (k : List ℕ) → Subkeys e ks → isSubkey e k ≡ true → Subkeys e (ks ++ (k ∷ []))
+subkeys-more e [] k s h = (h, tt)
+subkeys-more e (j ∷ ks) k s h = (s .0, subkeys-more e ks k (s .1) h)
+
 -- Subkeys are told by their path.
 pub joined-injective : (e : Edition) (ks js : List (List ℕ)) → Subkeys e ks → Subkeys e js → joinedPath ks ≡ joinedPath js → ks ≡ js
 unfolding joinedPath
@@ -198,6 +206,24 @@ joined-injective e (k ∷ ks) [] s t h = absurd (let z : _≡_ {A = ℕ} 0 1 = c
 joined-injective e (k ∷ ks) (j ∷ js) s t h =
     let q : k ++ joinedPath ks ≡ j ++ joinedPath js = cc in
     sym (between-joined k ks (subkeys-without e (k ∷ ks) s)) ∙ ap betweenSlashes q ∙ between-joined j js (subkeys-without e (j ∷ js) t)
+
+-- What ends in a slash and a text without one is told by its last slash.
+slash-in : (front text : List ℕ) → Without 47 (front ++ (47 ∷ text)) → ⊥
+slash-in [] text w = true≢false (w .0)
+slash-in (x ∷ front) text w = slash-in front text (w .1)
+
+pub ends-in-slash : (front text : List ℕ) → front ++ (47 ∷ text) ≡ [] → ⊥
+ends-in-slash front text e = let n = length-append front (47 ∷ text) in let z = ap length e in omega arith
+
+pub last-slash : (f g a b : List ℕ) → Without 47 a → Without 47 b → f ++ (47 ∷ a) ≡ g ++ (47 ∷ b) → (f ≡ g) × (a ≡ b)
+last-slash [] [] a b w v e = (refl, cc)
+last-slash [] (y ∷ g) a b w v e = let q : a ≡ g ++ (47 ∷ b) = cc in absurd (slash-in g b (subst (Without 47) q w))
+last-slash (x ∷ f) [] a b w v e = let q : b ≡ f ++ (47 ∷ a) = cc in absurd (slash-in f a (subst (Without 47) q v))
+last-slash (x ∷ f) (y ∷ g) a b w v e =
+    let p : x ≡ y = cc in
+    let q : f ++ (47 ∷ a) ≡ g ++ (47 ∷ b) = cc in
+    let (r, t) = last-slash f g a b w v q in
+    (rw (p, r), t)
 
 -- Parts without a fault are subkeys.
 pub parts-subkeys : (e : Edition) (at : ℕ) (ps : List (List ℕ)) → isSound (partsFrom e at ps) ≡ true → Subkeys e ps

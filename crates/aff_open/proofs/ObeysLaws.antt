@@ -50,7 +50,8 @@ module _ (e : Edition) (image : List ℕ) (strings : List (List ℕ)) (entries :
   abbrev n : ℕ
   n = length entries
 
-  abbrev NodesHold : Type 0
+  -- Each node has a name that is a subkey, climbs to the root, and shares its name with no lower-numbered sibling; its data lie inside.
+  abbrev pub NodesHold : Type 0
   NodesHold = Each (Linked e strings entries) n 1 × Each (Climbs entries) n 1 × Each (NameFree strings entries) n 1 × Each (DataInside e image entries) n 1
 
   abbrev from-13 : List Rule
@@ -168,3 +169,13 @@ accepted-obeys image form o h = hold-obeys image form o (accepted-hold image for
 
 pub obeys-accepted : (image form : List ℕ) → Obeys image form → opened image form stringLimit nodeLimit ≡ accepted (readerFor (editionIn image) image)
 obeys-accepted image form o = hold-accepted image form stringLimit nodeLimit (obeys-hold o)
+
+-- The rules of its nodes, in areas of any length.
+pub accepted-nodes : (image form : List ℕ) (strings entries : ℕ) {r : Reader} → opened image form strings entries ≡ accepted r
+    → NodesHold (editionIn image) image (stringsIn (editionIn image) image) (nodesIn (editionIn image) image)
+unfolding rules
+accepted-nodes image form strings entries h =
+    let (_, (_, (_, (_, (_, (_, sections)))))) = accepted-hold image form strings entries h in
+    let (_, (_, (_, (_, (_, (_, tables)))))) = sections in
+    let (_, (_, (_, (_, (_, (_, nodes)))))) = tables in
+    nodes-hold (editionIn image) image (stringsIn (editionIn image) image) (nodesIn (editionIn image) image) nodes

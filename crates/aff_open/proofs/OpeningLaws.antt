@@ -1,23 +1,22 @@
 -- How the passes of an opening join: a refusal of one is the opening's, and what one passes the next decides. Assumes nothing.
 use mathlib.Core.Path.{_≡_, refl, sym, ap, subst, _∙_}
 use mathlib.Core.Bool.{Bool, true, false, not, _||_}
-use mathlib.Core.List.{List, [], _∷_, _++_}
+use mathlib.Core.List.{List, _++_}
 use Prim.Native.Nat.{ℕ, _+_, _≤_, _<_}
 use native.Mathlib.Omega.{arith}
 use lib.ListN.{length, replicate}
 use lib.Dec.{eqb}
 use borrow.Author.Tests.{ltb-false, eqb-true, not-false}
-use Rattle.aff_format.specs.Answer.{Answer, accepted, refused, Check, firstWrong, refusal}
+use Rattle.aff_format.specs.Answer.{Answer, accepted, refused, firstWrong, refusal}
 use Rattle.aff_format.specs.Edition.{headerSize}
 use Rattle.aff_format.specs.Refusal.{toldRefusal}
-use Rattle.aff_format.specs.Verdict.{verdictTold}
 use Rattle.aff_format.specs.declared.section.Section.the-variants.{Symbol, Tree, Data}
 use Rattle.aff_format.specs.declared.edition.Edition.{Edition}
 use Rattle.aff_format.specs.declared.refusal.Refusal.{Refusal}
 use Rattle.aff_format.specs.declared.refusal.Refusal.the-variants.{LentLength, BadSymbolTable}
 use Rattle.aff_format.specs.declared.verdict.Verdict.{Verdict}
 use Rattle.aff_format.specs.declared.verdict.Verdict.the-variants.{Accepted, Refused}
-use Rattle.aff_format.proofs.AnswerLaws.{not-both, passed, passed-value, clear-accepts, same-refusal, refused-before, passed-before}
+use Rattle.aff_format.proofs.AnswerLaws.{not-both, passed, passed-value, refused-before, passed-before}
 use Rattle.aff_format.proofs.ClimbLaws.{absurd-bool}
 use Rattle.aff_open.specs.Distinct.{Places}
 use Rattle.aff_open.specs.Opening.{lentWrong, headerChecks, bodyChecks, openChecks, opened, verdictOf, areaAfter, stringsAfter, entriesAfter, sectionChecks, symbolChecks, treeChecks, nodeChecks, nodesChecked, tableChecks, stringPlaces, nodePlaces, spanOf, openingTold, readerFor, readerWith, readerAfter}
@@ -48,14 +47,6 @@ Answers o answer = (openingTold o ≡ answer) × (o .reader ≡ readerAfter (ope
 
 pub refused-answers : (o : Opening) (q : Refusal) (answer : Answer Reader) → o ≡ refusedOpening q → answer ≡ refused (toldRefusal q) → Answers o answer
 refused-answers o q answer is e = (ap openingTold is ∙ sym e, ap (λ (x : Opening). x .reader) is ∙ ap (λ (x : Opening). readerAfter (openingTold x)) (sym is))
-
--- A pass that hands back no value.
-module _ (checks : List Check) (v : Verdict) (told : verdictTold v ≡ firstWrong checks (tt {0})) (reader : Reader) where
-  pub pass-refuses : (q : Refusal) → v ≡ Refused q → firstWrong checks reader ≡ refused (toldRefusal q)
-  pass-refuses q e = same-refusal checks (tt {0}) reader (sym told ∙ ap verdictTold e)
-
-  pub pass-accepts : v ≡ Accepted → firstWrong checks reader ≡ accepted reader
-  pass-accepts e = clear-accepts checks reader (passed checks (tt {0}) (sym told ∙ ap verdictTold e))
 
 -- Strings and entries laid into the areas: the checks by them are the image's.
 module _ {e : Edition} {image strings entries : List ℕ} {n m : ℕ} (ss : StringsLaid e image strings n) (es : EntriesLaid e image entries m)

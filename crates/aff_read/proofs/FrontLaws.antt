@@ -1,18 +1,18 @@
 -- The path of a node whose record belongs is its parent's front, a slash and its name, also for the root; and its name is a part of the
 -- image. Assumes nothing.
-use mathlib.Core.Path.{_≡_, refl, sym, ap, _∙_}
-use mathlib.Core.Bool.{true}
+use mathlib.Core.Path.{_≡_, refl, sym, _∙_}
 use mathlib.Core.List.{List, [], _∷_, _++_}
 use mathlib.Core.Logic.{_⊎_, ⊎-elim}
 use Prim.Native.Nat.{ℕ, zero, suc, _+_, _-_, _≤_, _<_}
 use native.Mathlib.Omega.{arith}
 use lib.ListN.{length, getD}
-use borrow.Author.Tests.{eq-eqb, ne-eqb, eqb-true}
+use borrow.Author.Tests.{eq-eqb, ne-eqb}
 use Rattle.aff_format.specs.Bytes.{part}
-use Rattle.aff_format.specs.Tree.{reachesBy, frontBy}
+use Rattle.aff_format.specs.Tree.{frontBy}
 use Rattle.aff_format.specs.declared.entry.Entry.{Entry}
-use Rattle.aff_format.proofs.ClimbLaws.{at-zero, reaches-up}
-use Rattle.aff_format.proofs.TreeLaws.{front-root, front-up, front-enough}
+use Rattle.aff_format.proofs.ClimbLaws.{at-zero}
+use Rattle.aff_format.proofs.TreeLaws.{front-root, front-up, front-step}
+use Rattle.aff_format.proofs.TreeLaws as tree
 use Rattle.aff_open.specs.Belongs.{Belongs}
 use Rattle.aff_open.specs.Recorded.{recordedEntry}
 use Rattle.aff_open.specs.Tables.{nameFrom}
@@ -24,15 +24,6 @@ use Rattle.aff_read.proofs.WriteLaws.{Parted}
 use Rattle.aff_read.proofs.SpanLaws.{part-between, name-from, name-within}
 
 module _ (parent : ℕ → ℕ) (name : ℕ → List ℕ) where
-  -- A climb that ends within some steps does so from the parent too: one more changes nothing.
-  pub front-step : (steps n : ℕ) → (n ≡ 0 → ⊥) → reachesBy parent steps n ≡ true
-      → frontBy parent name steps n ≡ frontBy parent name steps (parent n) ++ (47 ∷ name n)
-  unfolding reachesBy
-  front-step zero n h e = absurd (h (eqb-true n 0 e))
-  front-step (suc steps) n h e =
-      front-up parent name steps n h
-      ∙ ap (λ (l : List ℕ). l ++ (47 ∷ name n)) (sym (front-enough parent name steps (suc steps) (parent n) (sym (reaches-up parent steps n h) ∙ e) (omega arith)))
-
   -- In the code's terms.
   pub front-left : (left n p : ℕ) → p ≡ parent n → (left ≡ 0 → ⊥) → (n ≡ 0 → ⊥) → frontBy parent name left n ≡ frontBy parent name (left - 1) p ++ (47 ∷ name n)
   front-left zero n p up f g = absurd (f refl)
@@ -54,7 +45,7 @@ module _ (image : List ℕ) (reader : Reader) (strings entries : List ℕ) where
   name-of-root = refl
 
   pub path-other : (node : ℕ) → (node ≡ 0 → ⊥) → pathAt image reader strings entries node ≡ frontAt node
-  path-other node h = rw (ne-eqb node 0 h)
+  path-other = tree.path-other (parentAt image entries) (nameAt image reader strings entries) (reader .nodes)
 
   path-root : pathAt image reader strings entries 0 ≡ frontAt (parentAt image entries 0) ++ (47 ∷ nameAt image reader strings entries 0)
   unfolding recordedEntry

@@ -8,8 +8,10 @@ pub mod WriteLaws
 pub mod MatchLaws
 pub mod StepLaws
 pub mod LookupLaws
+pub mod CasesLaws
 pub mod WrittenLaws
 pub mod ListingLaws
 pub mod OnceLaws
+pub mod UniqueLaws
 pub mod WholeLaws
 pub mod LineLaws

@@ -4,3 +4,4 @@ pub mod Answers
 pub mod Calls
 pub mod Written
 pub mod Once
+pub mod Cases

@@ -144,30 +144,17 @@ pub fn listing(
     NumberAnswer::Value(listing_of(image, reader, strings, entries, out))
 }
 
-// Copies a text into an output from a place on, and answers where it ends. One pass over the text.
-fn put(text: &[u8], at: usize, out: &mut [u8]) -> usize
-    requires { ⌜ at + length (now text) ≤ length (now out) ⌝ }
-    ensures { λ r. ⌜ Written at (now (text .entry)) (now (out .entry)) (now (out .exit)) r ⌝ }
-{
-    let mut i: usize = 0;
-    while i < text.len() {
-        out[at + i] = text[i];
-        i += 1;
-    }
-    at + i
-}
-
 // The type word between two spaces, at the front of an output.
 fn put_word(kind: Kind, out: &mut [u8]) -> usize
     requires { ⌜ 9 ≤ length (now out) ⌝ }
     ensures { λ r. ⌜ Written 0 (32 ∷ (kindWord kind ++ (32 ∷ []))) (now (out .entry)) (now (out .exit)) r ⌝ }
 {
     match kind {
-        Kind::Void => put(b" void ", 0, out),
-        Kind::Char => put(b" char ", 0, out),
-        Kind::Int => put(b" int ", 0, out),
-        Kind::Double => put(b" double ", 0, out),
-        Kind::Complex => put(b" complex ", 0, out),
+        Kind::Void => paths::put(b" void ", 0, out),
+        Kind::Char => paths::put(b" char ", 0, out),
+        Kind::Int => paths::put(b" int ", 0, out),
+        Kind::Double => paths::put(b" double ", 0, out),
+        Kind::Complex => paths::put(b" complex ", 0, out),
     }
 }
 
@@ -224,7 +211,7 @@ fn with_path(
     let room = out.len() - text.len();
     match paths::path_of(image, reader, strings, entries, node, &mut out[..room]) {
         NumberAnswer::Refused(refusal) => NumberAnswer::Refused(refusal),
-        NumberAnswer::Value(length) => NumberAnswer::Value(put(text, length, out)),
+        NumberAnswer::Value(length) => NumberAnswer::Value(paths::put(text, length, out)),
     }
 }
 

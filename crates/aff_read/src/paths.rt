@@ -27,6 +27,7 @@ ghost use Rattle.aff_open.specs.Tables.{nameFrom};
 ghost use Rattle.aff_read.specs.Answers.{numberTold};
 ghost use Rattle.aff_read.specs.Calls.{capped, EndsWith, pathAnswer, frontWritten, found, lookupAnswer};
 ghost use Rattle.aff_read.specs.Recall.{parentAt, nameAt, nameSpan, pathAt};
+ghost use Rattle.aff_read.specs.Written.{Written};
 
 // The length of the string that begins at a place, counted no further than one past a limit. At most that many bytes are read.
 fn name_length(image: &[u8], from: usize, end: usize, limit: usize) -> usize
@@ -109,16 +110,17 @@ pub fn path_length(
     }
 }
 
-// Stores bytes from a place on.
-pub fn put(out: &mut [u8], at: usize, text: &[u8])
+// Copies a text into an output from a place on, and answers where it ends. One pass over the text.
+pub fn put(text: &[u8], at: usize, out: &mut [u8]) -> usize
     requires { ⌜ at + length (now text) ≤ length (now out) ⌝ }
-    ensures { λ _. ⌜ now (out .exit) ≡ spliced at (now (text .entry)) (now (out .entry)) ⌝ }
+    ensures { λ r. ⌜ Written at (now (text .entry)) (now (out .entry)) (now (out .exit)) r ⌝ }
 {
     let mut i: usize = 0;
     while i < text.len() {
         out[at + i] = text[i];
         i += 1;
     }
+    at + i
 }
 
 // Stores a slash and a node's name from a place on. It answers where they end.
@@ -140,8 +142,7 @@ fn put_own(
     let from = span.offset;
     let end = from + span.size;
     out[at] = b'/';
-    put(out, at + 1, &image[from..end]);
-    at + 1 + span.size
+    put(&image[from..end], at + 1, out)
 }
 
 // Writes what stands before the slash of a node's children: first that of its parent, then the own slash and name. At most `left` steps up.

@@ -2,7 +2,7 @@
 use borrow.Author.Needs.{needs}
 use mathlib.Core.Path.{sym, ap, _∙_}
 use Rattle.aff_format.specs.Verdict.{verdictTold}
-use Rattle.aff_format.proofs.AnswerLaws.{refused-before, passed-before}
+use Rattle.aff_format.proofs.VerdictLaws.{verdict-refuses-more, verdict-leaves}
 use Rattle.aff_open.specs.Opening.{sectionChecks, tableChecks, readerFor}
 use Rattle.aff_open.proofs.OpeningLaws.{refused-answers, refused-fills, readable-by}
 use Rattle.aff_open.proofs.opening.with_edition.Statement.{statement}
@@ -25,7 +25,7 @@ returns c =
     let e = a .edition in
     let i = a .image .now in
     let f = refused-answers _ _ _ (c .refused .ensures)
-    (refused-before (sectionChecks e i) (tableChecks e i) (tt {0}) (readerFor e i) (sym (d .sections .ensures) ∙ ap verdictTold (c .before .before .refusal .given .1))) in
+    (sym (verdict-refuses-more (sectionChecks e i) (d .sections .result) (d .sections .ensures) (tableChecks e i) (readerFor e i) _ (c .before .before .refusal .given .1))) in
     (f .0, (f .1, refused-fills _ _ (c .refused .ensures)))
 
 returns-2 : tie.Need-returns-2
@@ -37,7 +37,7 @@ returns-2 c =
     let e = a .edition in
     let i = a .image .now in (
       w .with-sections .ensures .0
-          ∙ sym (passed-before (sectionChecks e i) (tableChecks e i) (tt {0}) (readerFor e i) (sym (d .sections .ensures) ∙ ap verdictTold (t .enum-told .given .1))),
+          ∙ verdict-leaves (sectionChecks e i) (d .sections .result) (d .sections .ensures) (tableChecks e i) (readerFor e i) (t .enum-told .given .1),
       w .with-sections .ensures .1,
     )
 

@@ -1,11 +1,11 @@
 -- `with_nodes` meets its contract: the checks by what is laid into the areas are the image's.
 use borrow.Author.Needs.{needs}
-use mathlib.Core.Path.{refl, sym, ap, _∙_}
+use mathlib.Core.Path.{refl, sym, _∙_}
 use native.Mathlib.Omega.{arith}
-use Rattle.aff_format.specs.Answer.{accepted}
 use Rattle.aff_format.specs.declared.section.Section.the-variants.{Symbol, Data}
+use Rattle.aff_format.proofs.VerdictLaws.{verdict-refuses, verdict-accepts}
 use Rattle.aff_open.specs.Opening.{nodesChecked, readerFor}
-use Rattle.aff_open.proofs.OpeningLaws.{places-by, distinct-by, checked-by, reader-by, pass-refuses, pass-accepts, refused-answers}
+use Rattle.aff_open.proofs.OpeningLaws.{places-by, distinct-by, checked-by, reader-by, refused-answers}
 use Rattle.aff_open.proofs.TableLaws.{span-inside}
 use Rattle.aff_open.proofs.opening.with_nodes.Statement.{statement}
 use Rattle.aff_open.proofs.opening.with_nodes.Tie as tie
@@ -36,9 +36,9 @@ returns c =
     let u = d .before .before .span2 in
     let a = s .args in
     refused-answers _ _ _ (c .refused .ensures)
-    (pass-refuses (nodesChecked (a .edition) (a .image .now)) (d .node-checks .result)
+    (sym (verdict-refuses (nodesChecked (a .edition) (a .image .now)) (d .node-checks .result)
     (d .node-checks .ensures ∙ checked-by (p .1) (p .2) (t .result) (u .result) (t .ensures) (u .ensures) tt)
-    (readerFor (a .edition) (a .image .now)) _ (c .before .before .refusal .given .1))
+    (readerFor (a .edition) (a .image .now)) _ (c .before .before .refusal .given .1)))
 
 returns-2 : tie.Need-returns-2
 returns-2 c =
@@ -48,10 +48,10 @@ returns-2 c =
     let t = d .before .before .before .span in
     let u = d .before .before .span2 in
     let a = s .args in (
-      ap accepted (c .«record» .ensures ∙ reader-by (p .1) (p .2) (t .result) (u .result) (t .ensures) (u .ensures))
-          ∙ sym (pass-accepts (nodesChecked (a .edition) (a .image .now)) (d .node-checks .result)
+      verdict-accepts (nodesChecked (a .edition) (a .image .now)) (d .node-checks .result)
           (d .node-checks .ensures ∙ checked-by (p .1) (p .2) (t .result) (u .result) (t .ensures) (u .ensures) tt)
-          (readerFor (a .edition) (a .image .now)) (c .before .enum-told .given .1)),
+          _ (readerFor (a .edition) (a .image .now)) (c .before .enum-told .given .1)
+          (c .«record» .ensures ∙ reader-by (p .1) (p .2) (t .result) (u .result) (t .ensures) (u .ensures)),
       refl,
     )
 

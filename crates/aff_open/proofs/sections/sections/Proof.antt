@@ -3,7 +3,7 @@ use mathlib.Core.Path.{sym, ap, _∙_}
 use borrow.Author.Needs.{needs}
 use Rattle.aff_format.specs.Verdict.{verdictTold}
 use Rattle.aff_open.specs.Opening.{insideChecks, sumChecks}
-use Rattle.aff_format.proofs.AnswerLaws.{refused-before, passed-before}
+use Rattle.aff_format.proofs.VerdictLaws.{verdict-refuses-more, verdict-leaves}
 use Rattle.aff_open.proofs.SectionLaws.{inside-clear}
 use Rattle.aff_open.proofs.sections.sections.Statement.{statement}
 use Rattle.aff_open.proofs.sections.sections.Tie as tie
@@ -18,16 +18,16 @@ returns : tie.Need-returns
 returns c =
     let r = c .before in
     let z = r .before .before .before .before in
-    sym (refused-before (insideChecks (z .args .edition) (z .args .image .now)) (sumChecks (z .args .edition) (z .args .image .now)) tt tt
-    (sym (r .before .before .inside .ensures) ∙ ap verdictTold (r .refusal .given .1)))
+    verdict-refuses-more (insideChecks (z .args .edition) (z .args .image .now)) (r .before .before .inside .result) (r .before .before .inside .ensures)
+    (sumChecks (z .args .edition) (z .args .image .now)) tt _ (r .refusal .given .1)
 
 returns-2 : tie.Need-returns-2
 returns-2 c =
     let r = c .before in
     let z = r .before .before .before .before in
     c .sums .ensures
-    ∙ sym (passed-before (insideChecks (z .args .edition) (z .args .image .now)) (sumChecks (z .args .edition) (z .args .image .now)) tt tt
-    (sym (r .before .before .inside .ensures) ∙ ap verdictTold (r .enum-told .given .1)))
+    ∙ verdict-leaves (insideChecks (z .args .edition) (z .args .image .now)) (r .before .before .inside .result) (r .before .before .inside .ensures)
+    (sumChecks (z .args .edition) (z .args .image .now)) tt (r .enum-told .given .1)
 
 pub sections-spec : {M : Type 1} → statement M
 sections-spec = tie.close (tie.spec (λ c κs. search needs) (λ c. search needs) (λ c. search needs) sums-requires returns returns-2)

@@ -5,8 +5,10 @@ use mathlib.Core.List.{[], _∷_}
 use lib.Dec.{ltb}
 use lib.ListN.{length}
 use Rattle.aff_format.specs.Answer.{check, refusal}
+use Rattle.aff_format.proofs.VerdictLaws.{verdict-refuses-more, verdict-leaves}
+use Rattle.aff_read.specs.Answers.{nodeChecks}
 use Rattle.aff_read.specs.Calls.{lineAt, lineAnswer}
-use Rattle.aff_read.proofs.JudgeLaws.{judge-refuses-more, judge-belongs, judge-leaves}
+use Rattle.aff_read.proofs.JudgeLaws.{judge-belongs}
 use Rattle.aff_read.proofs.lister.line.Statement.{statement}
 use Rattle.aff_read.proofs.lister.line.Tie as tie
 
@@ -22,7 +24,7 @@ returns c =
     let j = c .before .before .before in
     let a = j .before .before .before .before .before .args in
     let l = length (lineAt (a .image .now) (a .reader) (a .strings .now) (a .entries .now) (a .node)) in (
-      judge-refuses-more (a .image .now) (a .reader) (a .strings .now) (a .entries .now) (a .node) (j .judge .result) (j .judge .ensures)
+      verdict-refuses-more (nodeChecks (a .image .now) (a .reader) (a .strings .now) (a .entries .now) (a .node)) (j .judge .result) (j .judge .ensures)
           (check (ltb (length (a .out .now)) l) (refusal 21) ∷ []) l _ (c .before .refusal .given .1),
       refl,
     )
@@ -34,7 +36,7 @@ returns-2 c =
     let a = j .before .before .before .before .before .args in
     let l = length (lineAt (a .image .now) (a .reader) (a .strings .now) (a .entries .now) (a .node)) in (
       c .before .before .line-of .ensures .0
-          ∙ judge-leaves (a .image .now) (a .reader) (a .strings .now) (a .entries .now) (a .node) (j .judge .result) (j .judge .ensures)
+          ∙ verdict-leaves (nodeChecks (a .image .now) (a .reader) (a .strings .now) (a .entries .now) (a .node)) (j .judge .result) (j .judge .ensures)
           (check (ltb (length (a .out .now)) l) (refusal 21) ∷ []) l (c .before .before .before .before .enum-told .given .1),
       c .before .before .line-of .ensures .1,
     )

@@ -2,8 +2,8 @@
 use borrow.Author.Needs.{needs}
 use mathlib.Core.Path.{ap}
 use Rattle.aff_format.specs.declared.entry.Entry.{Entry}
-use Rattle.aff_read.specs.Answers.{countAnswer}
-use Rattle.aff_read.proofs.JudgeLaws.{judge-refuses, judge-accepts}
+use Rattle.aff_format.proofs.VerdictLaws.{verdict-refuses, verdict-accepts}
+use Rattle.aff_read.specs.Answers.{nodeChecks, countAnswer}
 use Rattle.aff_read.proofs.node.count.Statement.{statement}
 use Rattle.aff_read.proofs.node.count.Tie as tie
 
@@ -12,7 +12,7 @@ unfolding countAnswer
 returns c =
     let j = c .before .before .before in
     let a = j .before .before .before .before .args in
-    judge-refuses (a .image .now) (a .reader) (a .strings .now) (a .entries .now) (a .node) (j .judge .result) (j .judge .ensures) _ _ (c .before .refusal .given .1)
+    verdict-refuses (nodeChecks (a .image .now) (a .reader) (a .strings .now) (a .entries .now) (a .node)) (j .judge .result) (j .judge .ensures) _ _ (c .before .refusal .given .1)
 
 returns-2 : tie.Need-returns-2
 unfolding countAnswer
@@ -20,7 +20,7 @@ returns-2 c =
     let e = c .before in
     let j = e .before .before .before in
     let a = j .before .before .before .before .args in
-    judge-accepts (a .image .now) (a .reader) (a .strings .now) (a .entries .now) (a .node) (j .judge .result) (j .judge .ensures) _ _ (e .before .enum-told .given .1) (ap (λ (x : Entry). x .count) (e .recorded-entry .ensures))
+    verdict-accepts (nodeChecks (a .image .now) (a .reader) (a .strings .now) (a .entries .now) (a .node)) (j .judge .result) (j .judge .ensures) _ _ (e .before .enum-told .given .1) (ap (λ (x : Entry). x .count) (e .recorded-entry .ensures))
 
 pub count-spec : {M : Type 1} → statement M
 count-spec =

@@ -1,7 +1,8 @@
 -- `name_bounds` meets its contract: the judgement, then the span.
 use borrow.Author.Needs.{needs}
-use Rattle.aff_read.specs.Answers.{nameAnswer}
-use Rattle.aff_read.proofs.JudgeLaws.{judge-refuses, judge-accepts, judge-belongs}
+use Rattle.aff_format.proofs.VerdictLaws.{verdict-refuses, verdict-accepts}
+use Rattle.aff_read.specs.Answers.{nodeChecks, nameAnswer}
+use Rattle.aff_read.proofs.JudgeLaws.{judge-belongs}
 use Rattle.aff_read.proofs.node.name_bounds.Statement.{statement}
 use Rattle.aff_read.proofs.node.name_bounds.Tie as tie
 
@@ -16,14 +17,14 @@ unfolding nameAnswer
 returns c =
     let j = c .before .before .before in
     let a = j .before .before .before .before .args in
-    judge-refuses (a .image .now) (a .reader) (a .strings .now) (a .entries .now) (a .node) (j .judge .result) (j .judge .ensures) _ _ (c .before .refusal .given .1)
+    verdict-refuses (nodeChecks (a .image .now) (a .reader) (a .strings .now) (a .entries .now) (a .node)) (j .judge .result) (j .judge .ensures) _ _ (c .before .refusal .given .1)
 
 returns-2 : tie.Need-returns-2
 unfolding nameAnswer
 returns-2 c =
     let j = c .before .before .before in
     let a = j .before .before .before .before .args in
-    judge-accepts (a .image .now) (a .reader) (a .strings .now) (a .entries .now) (a .node) (j .judge .result) (j .judge .ensures) _ _ (c .before .enum-told .given .1) (c .name-span .ensures)
+    verdict-accepts (nodeChecks (a .image .now) (a .reader) (a .strings .now) (a .entries .now) (a .node)) (j .judge .result) (j .judge .ensures) _ _ (c .before .enum-told .given .1) (c .name-span .ensures)
 
 pub name-bounds-spec : {M : Type 1} → statement M
 name-bounds-spec =

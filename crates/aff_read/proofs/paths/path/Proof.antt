@@ -5,9 +5,11 @@ use mathlib.Core.List.{[], _∷_}
 use lib.Dec.{ltb}
 use lib.ListN.{length}
 use Rattle.aff_format.specs.Answer.{check, refusal}
+use Rattle.aff_format.proofs.VerdictLaws.{verdict-refuses-more, verdict-leaves}
+use Rattle.aff_read.specs.Answers.{nodeChecks}
 use Rattle.aff_read.specs.Calls.{pathAnswer}
 use Rattle.aff_read.specs.Recall.{pathAt}
-use Rattle.aff_read.proofs.JudgeLaws.{judge-refuses-more, judge-belongs, judge-leaves}
+use Rattle.aff_read.proofs.JudgeLaws.{judge-belongs}
 use Rattle.aff_read.proofs.paths.path.Statement.{statement}
 use Rattle.aff_read.proofs.paths.path.Tie as tie
 
@@ -23,7 +25,7 @@ returns c =
     let j = c .before .before .before in
     let a = j .before .before .before .before .before .args in
     let size = length (pathAt (a .image .now) (a .reader) (a .strings .now) (a .entries .now) (a .node)) in (
-      judge-refuses-more (a .image .now) (a .reader) (a .strings .now) (a .entries .now) (a .node) (j .judge .result) (j .judge .ensures)
+      verdict-refuses-more (nodeChecks (a .image .now) (a .reader) (a .strings .now) (a .entries .now) (a .node)) (j .judge .result) (j .judge .ensures)
           (check (ltb (length (a .out .now)) size) (refusal 21) ∷ []) size _ (c .before .refusal .given .1),
       refl,
     )
@@ -36,7 +38,7 @@ returns-2 c =
     let a = j .before .before .before .before .before .args in
     let size = length (pathAt (a .image .now) (a .reader) (a .strings .now) (a .entries .now) (a .node)) in (
       p .path-of .ensures .0
-          ∙ judge-leaves (a .image .now) (a .reader) (a .strings .now) (a .entries .now) (a .node) (j .judge .result) (j .judge .ensures)
+          ∙ verdict-leaves (nodeChecks (a .image .now) (a .reader) (a .strings .now) (a .entries .now) (a .node)) (j .judge .result) (j .judge .ensures)
           (check (ltb (length (a .out .now)) size) (refusal 21) ∷ []) size (p .before .before .enum-told .given .1),
       p .path-of .ensures .1,
     )

@@ -1,14 +1,12 @@
 -- `put_own` meets its contract: a slash stored, then the name copied behind it.
 use borrow.Author.Needs.{needs}
-use mathlib.Core.Path.{ap, _∙_}
-use mathlib.Core.List.{List}
-use Prim.Native.Nat.{ℕ, _+_, _-_, _≤_}
+use Prim.Native.Nat.{_+_, _-_, _≤_}
 use native.Mathlib.Omega.{arith}
-use lib.ListN.{length, set, length-set}
-use Rattle.aff_format.specs.Bytes.{spliced}
+use lib.ListN.{length, length-set}
 use Rattle.aff_read.specs.Recall.{nameAt}
-use Rattle.aff_read.proofs.FrontLaws.{span-within, span-text, span-size}
+use Rattle.aff_read.proofs.FrontLaws.{span-within, span-text}
 use Rattle.aff_read.proofs.WriteLaws.{slash-name}
+use Rattle.aff_read.proofs.WrittenLaws.{written-same}
 use Rattle.aff_read.proofs.paths.put_own.Statement.{statement}
 use Rattle.aff_read.proofs.paths.put_own.Tie as tie
 
@@ -24,7 +22,7 @@ add-end : tie.Need-add-end
 add-end c = omega (arith, within c)
 
 part-put-end : tie.Need-part-put-end
-part-put-end c = omega (arith, within (c .before))
+part-put-end c = omega (arith, within c)
 
 put-requires : tie.Need-put-requires
 put-requires c κs =
@@ -33,28 +31,22 @@ put-requires c κs =
     let a = s .args in
     rw (span-text (a .image .now) (a .reader) (a .strings .now) (a .entries .now) (s .pre .0 .0) (a .node) (s .pre .0 .1) _ (n .name-span .ensures), length-set) (omega (arith, s .pre .1))
 
-add-result-2 : tie.Need-add-result-2
-add-result-2 c =
-    let n = c .before .before .before .before .before .before .before in
-    let s = n .before .before .before .before .before in
-    let a = s .args in
-    omega (arith, span-size (a .image .now) (a .reader) (a .strings .now) (a .entries .now) (a .node) _ (n .name-span .ensures), s .pre .1, s .good)
-
 same-length : tie.Need-same-length
 same-length c =
-    let s = c .before .before .before .before .before .before .before .before .before .before .before .before in
-    c .before .before .before .put .kept .0 ∙ length-set (s .args .out .now) (s .args .at) 47
+    let p = c .before .before in
+    let s = p .before .before .before .before .before .before .before .before .before in
+    omega (arith, p .put .kept, length-set (s .args .out .now) (s .args .at) 47)
 
 returns : tie.Need-returns
 returns c =
-    let p = c .before .before .before in
+    let p = c .before .before in
     let n = p .before .before .before .before in
     let s = n .before .before .before .before .before in
     let a = s .args in
     let name = nameAt (a .image .now) (a .reader) (a .strings .now) (a .entries .now) (a .node) in
-    let l = span-size (a .image .now) (a .reader) (a .strings .now) (a .entries .now) (a .node) _ (n .name-span .ensures) in
     let t = span-text (a .image .now) (a .reader) (a .strings .now) (a .entries .now) (s .pre .0 .0) (a .node) (s .pre .0 .1) _ (n .name-span .ensures) in
-    (omega (arith, l), slash-name (a .at) name (a .out .now) _ (omega (arith, s .pre .1)) (p .put .ensures ∙ ap (λ (x : List ℕ). spliced (a .at + 1) x (set (a .out .now) (a .at) 47)) t))
+    let w = written-same t (p .put .ensures) in
+    (omega (arith, w .ends), slash-name (a .at) name (a .out .now) _ (omega (arith, s .pre .1)) (w .area))
 
 pub put-own-spec : {M : Type 1} → statement M
 put-own-spec =
@@ -65,10 +57,8 @@ put-own-spec =
     (λ c. search needs)
     (λ c. search needs)
     (λ c. search needs)
-    (λ c. search needs)
     part-put-end
-    put-requires
     (λ c. search needs)
-    add-result-2
+    put-requires
     same-length
     returns)

@@ -1,0 +1,69 @@
+-- The table of document 01, 'Cases on each side': (P1) to (P10), as data, and what it is that a row holds. The statements are of the definitions that
+-- the contracts cite; the edition is any.
+use mathlib.Core.Path.{_≡_}
+use mathlib.Core.Bool.{true, false}
+use mathlib.Core.List.{List, [], _∷_}
+use Prim.Native.Nat.{ℕ}
+use lib.IntN.{ℤ, pos, negsuc}
+use lib.ListN.{length}
+use Rattle.aff_format.specs.Answer.{Answer, accepted, refused, refusal}
+use Rattle.aff_format.specs.Element.{decoded}
+use Rattle.aff_format.specs.Entry.{entryBytes}
+use Rattle.aff_format.specs.Subkey.{isSubkey}
+use Rattle.aff_format.specs.declared.edition.Edition.{Edition}
+use Rattle.aff_format.specs.declared.element.Element.the-variants as element
+use Rattle.aff_format.specs.declared.entry.Entry.{Entry}
+use Rattle.aff_format.specs.declared.kind.Kind.{Kind}
+use Rattle.aff_format.specs.declared.kind.Kind.the-variants.{Void, Int}
+use Rattle.aff_open.specs.Belongs.{belongs}
+use Rattle.aff_open.specs.declared.reader.Reader.{Reader}
+use Rattle.aff_read.specs.Calls.{lookupAnswer}
+
+pub data Case : Type 0 where
+  -- A path, and what a lookup of it answers.
+  pathCase : List ℕ → Answer ℕ → Case
+  -- A name that is a subkey, and one that is none.
+  subkeyCase : List ℕ → Case
+  notSubkeyCase : List ℕ → Case
+  -- The bytes of an Int, and the number.
+  intCase : List ℕ → ℤ → Case
+  -- The bytes of a Void entry and of an Int entry.
+  entryCase : ℕ → ℕ → Case
+
+-- The lookup of a path, by any record that belongs to what is lent.
+abbrev pub LookupIs : List ℕ → Answer ℕ → Type 0
+LookupIs path answer =
+    (image : List ℕ) (reader : Reader) (strings entries : List ℕ) → belongs image reader strings entries ≡ true
+    → lookupAnswer image reader strings entries path ≡ answer
+
+-- The bytes of each entry of a kind.
+abbrev pub EntryTakes : Kind → ℕ → Type 0
+EntryTakes kind size = (e : Entry) → e .kind ≡ kind → length (entryBytes e) ≡ size
+
+-- What a row says. A name that is no subkey is 14 as a path's.
+abbrev pub Holds : Case → Type 0
+Holds (pathCase path answer) = LookupIs path answer
+Holds (subkeyCase name) = (e : Edition) → isSubkey e name ≡ true
+Holds (notSubkeyCase name) = ((e : Edition) → isSubkey e name ≡ false) × LookupIs (47 ∷ name) (refused (refusal 14))
+Holds (intCase bytes value) = decoded Int bytes 0 ≡ accepted (element.Int value)
+Holds (entryCase void int) = EntryTakes Void void × EntryTakes Int int
+
+-- Each row holds.
+abbrev pub AllHold : List Case → Type 0
+AllHold [] = Unit {0}
+AllHold (row ∷ rows) = Holds row × AllHold rows
+
+-- (P1) `/` is the root, (P2) the empty path, (P3) `//a`, (P4) `/a/`, (P5) `9a`, (P6) `_`, (P7) -70, (P8) -2147483648, (P9) 2147483647, (P10).
+abbrev pub caseTable : List Case
+caseTable =
+    pathCase (47 ∷ []) (accepted 0)
+    ∷ pathCase [] (refused (refusal 14))
+    ∷ pathCase (47 ∷ 47 ∷ 97 ∷ []) (refused (refusal 14))
+    ∷ pathCase (47 ∷ 97 ∷ 47 ∷ []) (refused (refusal 14))
+    ∷ notSubkeyCase (57 ∷ 97 ∷ [])
+    ∷ subkeyCase (95 ∷ [])
+    ∷ intCase (0xff ∷ 0xff ∷ 0xff ∷ 0xba ∷ []) (negsuc 69)
+    ∷ intCase (0x80 ∷ 0x00 ∷ 0x00 ∷ 0x00 ∷ []) (negsuc 2147483647)
+    ∷ intCase (0x7f ∷ 0xff ∷ 0xff ∷ 0xff ∷ []) (pos 2147483647)
+    ∷ entryCase 13 25
+    ∷ []
