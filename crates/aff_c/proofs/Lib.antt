@@ -1,3 +1,2 @@
 -- Laws that several proofs cite.
-mod Copying
 mod OutputLaws

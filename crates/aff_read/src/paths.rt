@@ -12,11 +12,9 @@ use aff_open::Reader;
 use aff_open::belongs;
 use aff_open::recorded;
 ghost use mathlib.Core.Path.{_≡_};
-ghost use mathlib.Core.List.{[], _∷_};
+ghost use mathlib.Core.List.{_∷_};
 ghost use Prim.Native.Nat.{_+_, _-_, _^_, _≤_, _<_};
-ghost use lib.Dec.{ltb};
 ghost use lib.ListN.{length};
-ghost use Rattle.aff_format.specs.Answer.{check, refusal, firstWrong};
 ghost use Rattle.aff_format.specs.Bytes.{part, spliced, sameBytes};
 ghost use Rattle.aff_format.specs.Edition.{editionOf};
 ghost use Rattle.aff_format.specs.Path.{isPath};
@@ -27,7 +25,7 @@ ghost use Rattle.aff_open.specs.Tables.{nameFrom};
 ghost use Rattle.aff_read.specs.Answers.{numberTold};
 ghost use Rattle.aff_read.specs.Calls.{capped, EndsWith, pathAnswer, frontWritten, found, lookupAnswer};
 ghost use Rattle.aff_read.specs.Recall.{parentAt, nameAt, nameSpan, pathAt};
-ghost use Rattle.aff_read.specs.Written.{Written};
+ghost use Rattle.aff_read.specs.Written.{Written, textAnswer};
 
 // The length of the string that begins at a place, counted no further than one past a limit. At most that many bytes are read.
 fn name_length(image: &[u8], from: usize, end: usize, limit: usize) -> usize
@@ -182,7 +180,7 @@ pub fn path_of(
     out: &mut [u8],
 ) -> NumberAnswer
     requires { ⌜ Belongs (now image) reader (now strings) (now entries) × (node ≤ reader .nodes) ⌝ }
-    ensures answer { λ r. ⌜ numberTold r ≡ firstWrong (check (ltb (length (now (out .entry))) (length (pathAt (now (image .entry)) reader (now (strings .entry)) (now (entries .entry)) node))) (refusal 21) ∷ []) (length (pathAt (now (image .entry)) reader (now (strings .entry)) (now (entries .entry)) node)) ⌝ }
+    ensures answer { λ r. ⌜ numberTold r ≡ textAnswer (length (now (out .entry))) (pathAt (now (image .entry)) reader (now (strings .entry)) (now (entries .entry)) node) ⌝ }
     ensures output { λ r. ⌜ now (out .exit) ≡ frontWritten (numberTold r) (pathAt (now (image .entry)) reader (now (strings .entry)) (now (entries .entry)) node) (now (out .entry)) ⌝ }
 {
     let room = out.len();

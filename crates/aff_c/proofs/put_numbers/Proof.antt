@@ -1,38 +1,32 @@
--- `aff_c::put_numbers` meets its contract. Assumes nothing.
+-- `aff_c::put_numbers` meets its contract: the first i elements are copied, `Copied`. Assumes nothing.
 use borrow.Author.Needs.{needs}
-use mathlib.Core.Path.{_≡_, refl, _∙_, ap}
-use mathlib.Core.List.{_++_}
-use Prim.Native.Nat.{_≤_, _-_}
+use mathlib.Core.Path.{_≡_}
+use Prim.Native.Nat.{_-_}
 use native.Mathlib.Omega.{arith}
-use lib.ListN.{length, take, drop, length-set}
-use lib.Seq.{take-all}
-use Rattle.aff_c.proofs.Copying.{copied}
+use lib.ListN.{length}
+use Rattle.md5.proofs.Copying.{Copied, copied-none, copied-next, copied-all}
 use Rattle.aff_c.proofs.put_numbers.Statement.{statement}
 use Rattle.aff_c.proofs.put_numbers.Tie as tie
 
 abbrev Inv-loop : tie.InvT-loop
-Inv-loop output₀ given i₀ output i =
-    (i ≤ 12) × (length output ≡ length output₀) × (output ≡ take i given ++ drop i output₀)
+Inv-loop output₀ numbers i₀ output i = Copied 12 numbers output₀ output i
 
 abbrev μ-loop : tie.MeasureT-loop
-μ-loop output₀ given i₀ output i = 12 - i
+μ-loop output₀ numbers i₀ output i = 12 - i
 
 loop-holds : tie.Need-loop-holds Inv-loop μ-loop
-loop-holds c = (omega arith, refl, refl)
+loop-holds c = copied-none
 
 loop-again : tie.Need-loop-again Inv-loop μ-loop
 loop-again c =
-    let a = c .before .before .args in
-    let l = c .before .loop in
-    (omega arith, simp length-set (omega arith), copied (a .t2) (a .output .now) (l .output) (l .i) (omega arith) (omega arith) (l .inv .2))
+    let s = c .before .before in
+    let whole : length (s .args .t2) ≡ 12 = omega arith in
+    copied-next whole (c .before .loop .inv) (s .pre) (c .loop-test .taken)
 
 returns : tie.Need-returns Inv-loop μ-loop
 returns c =
-    let a = c .before .before .args in
-    let l = c .before .loop in
-    let e : l .i ≡ 12 = omega arith in
-    let f : length (a .t2) ≤ 12 = omega arith in
-    rw (e, take-all 12 (a .t2) f) at (l .inv .2)
+    let whole : length (c .before .before .args .t2) ≡ 12 = omega arith in
+    copied-all whole (c .before .loop .inv) (c .loop-test .left)
 
 pub put-numbers-spec : {M : Type 1} → statement M
 put-numbers-spec =

@@ -27,21 +27,6 @@ abbrev μ-loop : tie.MeasureT-loop
 loop-holds : tie.Need-loop-holds Inv-loop μ-loop
 loop-holds c = (omega arith, refl, rw sub-zero, record { parent = λ k l h. absurd (omega arith) })
 
-add-k : tie.Need-add-k Inv-loop μ-loop
-add-k c = search needs
-
-found-entry-requires : tie.Need-found-entry-requires Inv-loop μ-loop
-found-entry-requires c κs = search needs
-
-enum-known-entry : tie.Need-enum-known-entry Inv-loop μ-loop
-enum-known-entry c = search needs
-
-entry-lost-requires : tie.Need-entry-lost-requires Inv-loop μ-loop
-entry-lost-requires c κs = search needs
-
-same-length : tie.Need-same-length Inv-loop μ-loop
-same-length c = search needs
-
 returns : tie.Need-returns Inv-loop μ-loop
 returns c =
     let e = c .before .before .before in
@@ -57,15 +42,6 @@ cast-parents c =
     let e = c .before .before .before .before in
     let k = entry-kept _ _ _ (Whole (e .entry .given .0 .0)) (sym (c .before .before .entry-lost .ensures) ∙ c .before .if1 .left) in
     omega (arith, k .1 .parent)
-
-mul-parents : tie.Need-mul-parents Inv-loop μ-loop
-mul-parents c = search needs
-
-slice-write-parents : tie.Need-slice-write-parents Inv-loop μ-loop
-slice-write-parents c = search needs
-
-loop-less : tie.Need-loop-less Inv-loop μ-loop
-loop-less c = search needs
 
 loop-again : tie.Need-loop-again Inv-loop μ-loop
 loop-again c =
@@ -83,12 +59,6 @@ loop-again c =
       copied-more (inv .3) (omega (arith, inv .1)) p,
     )
 
-enum-told : tie.Need-enum-told Inv-loop μ-loop
-enum-told c = search needs
-
-same-length-2 : tie.Need-same-length-2 Inv-loop μ-loop
-same-length-2 c = search needs
-
 returns-2 : tie.Need-returns-2 Inv-loop μ-loop
 returns-2 c =
     let turn = c .before .before .before in (
@@ -96,9 +66,6 @@ returns-2 c =
           ∙ turn .before .loop .inv .2,
       λ q. absurd (let z : _≡_ {A = ℕ} 0 1 = cc in omega arith),
     )
-
-same-length-3 : tie.Need-same-length-3 Inv-loop μ-loop
-same-length-3 c = search needs
 
 returns-3 : tie.Need-returns-3 Inv-loop μ-loop
 returns-3 c =
@@ -112,19 +79,12 @@ lost-node-spec =
     Inv-loop
     μ-loop
     loop-holds
-    add-k
-    found-entry-requires
-    enum-known-entry
-    entry-lost-requires
-    same-length
+    (λ c. search needs) (λ c κs. search needs) (λ c. search needs) (λ c κs. search needs) (λ c. search needs)
     returns
     cast-parents
-    mul-parents
-    slice-write-parents
-    loop-less
+    (λ c. search needs) (λ c. search needs) (λ c. search needs)
     loop-again
-    enum-told
-    same-length-2
+    (λ c. search needs) (λ c. search needs)
     returns-2
-    same-length-3
+    (λ c. search needs)
     returns-3)

@@ -23,33 +23,12 @@ decided c e =
     sym (climbs-decide (start c .args .image .now) (start c .args .reader) (start c .args .entries .now)
     (sym (n .lost-node .ensures .0) ∙ none) (n .lost-node .ensures .1 none) _ (sym (c .climbs .ensures) ∙ e))
 
-slice-aggregate-lost-node : tie.Need-slice-aggregate-lost-node
-slice-aggregate-lost-node c = search needs
-
-lost-node-requires : tie.Need-lost-node-requires
-lost-node-requires c κs = search needs
-
-enum-told : tie.Need-enum-told
-enum-told c = search needs
-
-enum-told-2 : tie.Need-enum-told-2
-enum-told-2 c = search needs
-
-slice-aggregate-climbs : tie.Need-slice-aggregate-climbs
-slice-aggregate-climbs c = search needs
-
 climbs-requires : tie.Need-climbs-requires
 climbs-requires c κs =
     let n = c .before .before .before .before in
     let none = c .before .enum-told2 .given .1 in
     copied-linked _ _ _ _ (sym (n .lost-node .ensures .0) ∙ none) (n .lost-node .ensures .1 none)
     (n .before .before .before .before .pre .1) (omega (arith, n .lost-node .kept .1 .1 .1 .1 .0 ∙ length-replicate {A = ℕ} 2049 0))
-
-enum-told-3 : tie.Need-enum-told-3
-enum-told-3 c = search needs
-
-enum-told-4 : tie.Need-enum-told-4
-enum-told-4 c = search needs
 
 returns : tie.Need-returns
 unfolding nodesBelong
@@ -65,14 +44,9 @@ pub nodes-belong-spec : {M : Type 1} → statement M
 nodes-belong-spec =
     tie.close
     (tie.spec
-    slice-aggregate-lost-node
-    lost-node-requires
-    enum-told
-    enum-told-2
-    slice-aggregate-climbs
+    (λ c. search needs) (λ c κs. search needs) (λ c. search needs) (λ c. search needs) (λ c. search needs)
     climbs-requires
-    enum-told-3
-    enum-told-4
+    (λ c. search needs) (λ c. search needs)
     returns
     returns-2
     returns-3)

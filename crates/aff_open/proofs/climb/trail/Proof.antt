@@ -16,46 +16,13 @@ abbrev μ-loop : tie.MeasureT-loop
 loop-holds : tie.Need-loop-holds Inv-loop μ-loop
 loop-holds c = let p = c .before .before .pre in on-start (p .links .linked) (p .start) (p .node) (p .marked)
 
-mul-index : tie.Need-mul-index Inv-loop μ-loop
-mul-index c = search needs
-
-slice-read-index : tie.Need-slice-read-index Inv-loop μ-loop
-slice-read-index c = search needs
-
-index-requires : tie.Need-index-requires Inv-loop μ-loop
-index-requires c κs = search needs
-
-same-length : tie.Need-same-length Inv-loop μ-loop
-same-length c = search needs
-
 returns : tie.Need-returns Inv-loop μ-loop
 returns c = at-mine (c .before .before .before .before .loop .inv) (sym (c .before .index .ensures) ∙ c .if1 .taken)
-
-same-length-2 : tie.Need-same-length-2 Inv-loop μ-loop
-same-length-2 c = search needs
 
 returns-2 : tie.Need-returns-2 Inv-loop μ-loop
 returns-2 c =
     let e = c .before .before .index .ensures in
     at-good (c .before .before .before .before .before .loop .inv) (λ q. c .before .if1 .left (e ∙ q)) (λ q. c .if2 .taken (e ∙ q))
-
-cast-marks : tie.Need-cast-marks Inv-loop μ-loop
-cast-marks c = search needs
-
-mul-marks : tie.Need-mul-marks Inv-loop μ-loop
-mul-marks c = search needs
-
-slice-write-marks : tie.Need-slice-write-marks Inv-loop μ-loop
-slice-write-marks c = search needs
-
-mul-index-2 : tie.Need-mul-index-2 Inv-loop μ-loop
-mul-index-2 c = search needs
-
-shared-slice-read-index : tie.Need-shared-slice-read-index Inv-loop μ-loop
-shared-slice-read-index c = search needs
-
-index-requires-2 : tie.Need-index-requires-2 Inv-loop μ-loop
-index-requires-2 c κs = search needs
 
 loop-less : tie.Need-loop-less Inv-loop μ-loop
 loop-less c =
@@ -68,9 +35,6 @@ loop-again c =
     let turn = t .before .before .before .before in
     on-step (turn .before .loop .inv) _ (turn .loop-test .taken) (sym (t .before .before .index .ensures) ∙ t .if2 .left) (c .index2 .ensures)
 
-same-length-3 : tie.Need-same-length-3 Inv-loop μ-loop
-same-length-3 c = search needs
-
 returns-3 : tie.Need-returns-3 Inv-loop μ-loop
 returns-3 c = at-root (c .before .loop .inv) (c .loop-test .left)
 
@@ -81,20 +45,12 @@ trail-spec =
     Inv-loop
     μ-loop
     loop-holds
-    mul-index
-    slice-read-index
-    index-requires
-    same-length
+    (λ c. search needs) (λ c. search needs) (λ c κs. search needs) (λ c. search needs)
     returns
-    same-length-2
+    (λ c. search needs)
     returns-2
-    cast-marks
-    mul-marks
-    slice-write-marks
-    mul-index-2
-    shared-slice-read-index
-    index-requires-2
+    (λ c. search needs) (λ c. search needs) (λ c. search needs) (λ c. search needs) (λ c. search needs) (λ c κs. search needs)
     loop-less
     loop-again
-    same-length-3
+    (λ c. search needs)
     returns-3)
