@@ -108,8 +108,9 @@ module _ (line o : List ℕ) (used : ℕ) (room : used < length o) {r : Answer �
     pub row-written : (used + n + 1 ≡ endBehind used row o) × (set (putMid used k o q) (used + n) 10 ≡ putBehind used row o)
     row-written =
         let fits = behind-fits used row o (omega (arith, row-length, line-fits .1)) in
-        let at : used + n ≡ used + length line = omega (arith, line-fits .0) in
-        (omega (arith, at, row-length) ∙ fits .0,
-        set-spliced (used + n) 10 (putMid used k o q) feed-inside
-        ∙ rw (line-put, at) (spliced-more used line (10 ∷ []) o (omega (arith, line-fits .1)))
-        ∙ fits .1)
+        let at : used + n ≡ used + length line = omega (arith, line-fits .0) in (
+          omega (arith, at, row-length) ∙ fits .0,
+          set-spliced (used + n) 10 (putMid used k o q) feed-inside
+              ∙ rw (line-put, at) (spliced-more used line (10 ∷ []) o (omega (arith, line-fits .1)))
+              ∙ fits .1,
+        )

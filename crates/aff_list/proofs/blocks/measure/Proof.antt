@@ -12,8 +12,8 @@ use Rattle.aff_format.proofs.LowestLaws.{lowest-here, lowest-on, lowest-end}
 use Rattle.aff_read.specs.Recall.{pathAt}
 use Rattle.aff_read.proofs.CappedLaws.{capped-over, capped-exact}
 use Rattle.aff_list.specs.Lister.{pathTooLong}
-use Rattle.aff_list.proofs.measure.Statement.{statement}
-use Rattle.aff_list.proofs.measure.Tie as tie
+use Rattle.aff_list.proofs.blocks.measure.Statement.{statement}
+use Rattle.aff_list.proofs.blocks.measure.Tie as tie
 
 abbrev Inv-loop : tie.InvT-loop
 Inv-loop image reader strings entries k₀ k =

@@ -9,8 +9,8 @@ use Rattle.aff_read.specs.Answers.{numberTold}
 use Rattle.aff_read.specs.Calls.{lineAt}
 use Rattle.aff_list.specs.Lister.{row}
 use Rattle.aff_list.proofs.RowLaws.{behind-full, row-refused, row-room, feed-inside, row-written}
-use Rattle.aff_list.proofs.put_row.Statement.{statement}
-use Rattle.aff_list.proofs.put_row.Tie as tie
+use Rattle.aff_list.proofs.blocks.put_row.Statement.{statement}
+use Rattle.aff_list.proofs.blocks.put_row.Tie as tie
 
 returns : tie.Need-returns
 unfolding row

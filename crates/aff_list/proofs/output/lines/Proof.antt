@@ -1,17 +1,17 @@
--- `list::lines` meets its contract: each block takes one line more at least.
+-- `lines` meets its contract: each block takes one line more at least.
 use borrow.Author.Needs.{needs}
 use mathlib.Core.Path.{sym}
 use Prim.Native.Nat.{_+_, _-_}
 use native.Mathlib.Omega.{arith}
 use lib.Seq.{length-take-le}
-use Rattle.list.proofs.lines.Statement.{statement}
-use Rattle.list.proofs.lines.Tie as tie
+use Rattle.aff_list.proofs.output.lines.Statement.{statement}
+use Rattle.aff_list.proofs.output.lines.Tie as tie
 
 abbrev Inv-loop : tie.InvT-loop
-Inv-loop image reader strings entries order block₀ at₀ block at = Unit {0}
+Inv-loop image reader strings entries order brief block₀ at₀ block at = Unit {0}
 
 abbrev μ-loop : tie.MeasureT-loop
-μ-loop image reader strings entries order block₀ at₀ block at = reader .nodes + 1 - at
+μ-loop image reader strings entries order brief block₀ at₀ block at = reader .nodes + 1 - at
 
 fill-requires : tie.Need-fill-requires Inv-loop μ-loop
 fill-requires c κs = (c .before .before .before .before .before .pre, c .before .if1 .taken)
@@ -19,8 +19,8 @@ fill-requires c κs = (c .before .before .before .before .before .pre, c .before
 array-share-prefix-block : tie.Need-array-share-prefix-block Inv-loop μ-loop
 array-share-prefix-block c = c .fill .ensures .inside
 
-slice-aggregate-text : tie.Need-slice-aggregate-text Inv-loop μ-loop
-slice-aggregate-text c = sym (length-take-le _ _ (c .before .fill .ensures .inside))
+slice-aggregate-block-text : tie.Need-slice-aggregate-block-text Inv-loop μ-loop
+slice-aggregate-block-text c = sym (length-take-le _ _ (c .before .fill .ensures .inside))
 
 loop-less : tie.Need-loop-less Inv-loop μ-loop
 loop-less c =
@@ -30,4 +30,4 @@ loop-less c =
 pub lines-spec : {M : Type 1} → statement M
 lines-spec =
     tie.close
-    (tie.spec Inv-loop μ-loop (λ c. tt) fill-requires array-share-prefix-block slice-aggregate-text (λ c κs. search needs) loop-less (λ c. tt) (λ c. search needs))
+    (tie.spec Inv-loop μ-loop (λ c. tt) fill-requires array-share-prefix-block slice-aggregate-block-text (λ c κs. search needs) loop-less (λ c. tt) (λ c. search needs))

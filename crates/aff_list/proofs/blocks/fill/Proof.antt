@@ -5,8 +5,8 @@ use native.Mathlib.Omega.{arith}
 use lib.ListN.{length}
 use Rattle.aff_list.specs.Lister.{rowLimit}
 use Rattle.aff_list.proofs.FillLaws.{Filling, number-within, filling-none, filled-all, filled-full, filling-next}
-use Rattle.aff_list.proofs.fill.Statement.{statement}
-use Rattle.aff_list.proofs.fill.Tie as tie
+use Rattle.aff_list.proofs.blocks.fill.Statement.{statement}
+use Rattle.aff_list.proofs.blocks.fill.Tie as tie
 
 abbrev Inv-loop : tie.InvT-loop
 Inv-loop image reader strings entries order from block₀ next₀ used₀ block next used = Filling image reader strings entries from block₀ block next used

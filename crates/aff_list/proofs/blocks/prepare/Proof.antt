@@ -2,8 +2,8 @@
 use borrow.Author.Needs.{needs}
 use mathlib.Core.Path.{sym, _∙_}
 use Rattle.aff_list.proofs.ReadyLaws.{paths-judged, paths-ready}
-use Rattle.aff_list.proofs.prepare.Statement.{statement}
-use Rattle.aff_list.proofs.prepare.Tie as tie
+use Rattle.aff_list.proofs.blocks.prepare.Statement.{statement}
+use Rattle.aff_list.proofs.blocks.prepare.Tie as tie
 
 returns : tie.Need-returns
 returns c =
