@@ -2,19 +2,8 @@
 // nodes and data record count, or the refusal's number and place; then the sums of the two areas. tests/make_images.py makes images and
 // answers; it shares no code with the library. Last, areas and forms of wrong lengths are lent: nothing changes.
 use aff_format::Verdict;
-use aff_format::number;
 use aff_open::Opening;
-use libc::STDIN_FILENO;
-use libc::STDOUT_FILENO;
 ghost use Prim.Native.Nat.{_≤_};
-
-fn text(bytes: &[u8]) {
-    io::write_all(STDOUT_FILENO, bytes);
-}
-
-fn number_of(n: u64) {
-    io::print_decimal(STDOUT_FILENO, n);
-}
 
 fn wide(x: u32) -> u64 {
     x as u64
@@ -36,20 +25,17 @@ fn show(opening: Opening) {
     match verdict {
         Verdict::Accepted => {
             let reader = opening.reader;
-            text(b"opened ");
-            number_of(reader.edition as u64);
-            text(b" ");
-            number_of(reader.strings as u64);
-            text(b" ");
-            number_of(reader.nodes as u64);
-            text(b" ");
-            number_of(reader.records);
+            console::text(b"opened ");
+            console::decimal(reader.edition as u64);
+            console::text(b" ");
+            console::decimal(reader.strings as u64);
+            console::text(b" ");
+            console::decimal(reader.nodes as u64);
+            console::text(b" ");
+            console::decimal(reader.records);
         }
         Verdict::Refused(refusal) => {
-            text(b"refused ");
-            number_of(refusal.number() as u64);
-            text(b" ");
-            number_of(refusal.place() as u64);
+            console::refusal(refusal);
         }
     }
 }
@@ -60,37 +46,26 @@ fn one(k: usize, image: &[u8]) {
     let mut entries = [9u32; 2048];
     let form = aff_open::form_for(image);
     let opening = aff_open::open(image, &form, &mut strings, &mut entries);
-    number_of(k as u64);
-    text(b" ");
+    console::decimal(k as u64);
+    console::text(b" ");
     show(opening);
-    text(b" areas ");
-    number_of(total(&strings));
-    text(b" ");
-    number_of(total(&entries));
-    text(b"\n");
-}
-
-// Image k, if all its bytes are there.
-fn take(k: usize, image: &mut [u8]) -> bool {
-    if io::read_full(STDIN_FILENO, image) < image.len() {
-        return false;
-    }
-    one(k, image);
-    true
+    console::text(b" areas ");
+    console::decimal(total(&strings));
+    console::text(b" ");
+    console::decimal(total(&entries));
+    console::text(b"\n");
 }
 
 // The next image of standard input, number k; false where there is none.
 fn next(k: usize) -> bool {
-    let mut head = [0u8; 4];
-    let mut image = [0u8; 65536];
-    if io::read_full(STDIN_FILENO, &mut head) < 4 {
+    let mut image = [0u8; 65537];
+    let next = console::next_image(&mut image);
+    if !next.found {
         return false;
     }
-    let n = number::be32(&head, 0) as usize;
-    if 65536 < n {
-        return false;
-    }
-    take(k, &mut image[..n])
+    let size = next.size;
+    one(k, &image[..size]);
+    true
 }
 
 fn images() {
@@ -108,14 +83,14 @@ fn lend(form: &[u8], strings: &mut [u32], entries: &mut [u32]) {
     let first = total(strings);
     let second = total(entries);
     let opening = aff_open::open(b"", form, strings, entries);
-    text(b"lent ");
+    console::text(b"lent ");
     show(opening);
     if total(strings) == first {
         if total(entries) == second {
-            text(b" unchanged");
+            console::text(b" unchanged");
         }
     }
-    text(b"\n");
+    console::text(b"\n");
 }
 
 // Areas and a form of some lengths.

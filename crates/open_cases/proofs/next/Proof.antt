@@ -1,8 +1,12 @@
 -- `open_cases::next` meets its contract: the part that it hands over is as long as the image. Assumes nothing.
 use borrow.Author.Needs.{needs}
-use Rattle.open_cases.proofs.Parts.{part-long}
+use mathlib.Core.Path.{sym}
+use lib.Seq.{length-take-le}
 use Rattle.open_cases.proofs.next.Statement.{statement}
 use Rattle.open_cases.proofs.next.Tie as tie
+
+slice-aggregate-one : tie.Need-slice-aggregate-one
+slice-aggregate-one c = sym (length-take-le _ _ (c .before .before .before .before .next-image .ensures))
 
 pub next-spec : {M : Type 1} → statement M
 next-spec =
@@ -12,10 +16,6 @@ next-spec =
     (λ c κs. search needs)
     (λ c. search needs)
     (λ c. search needs)
-    (λ c κs. search needs)
-    (λ c. search needs)
-    (λ c. search needs)
-    (λ c. search needs)
-    (λ c. part-long 65536 _ 0 (c .before .if2 .left))
+    slice-aggregate-one
     (λ c κs. search needs)
     (λ c. search needs))

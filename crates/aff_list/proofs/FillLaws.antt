@@ -1,0 +1,121 @@
+-- A block that is filled with line after line: what is filled and the lines that are left are the lines from the first on. Assumes nothing.
+use mathlib.Core.Path.{_≡_, refl, sym, ap, _∙_}
+use mathlib.Core.List.{List, [], _∷_, _++_, append-assoc}
+use mathlib.Core.Logic.{⊎-elim}
+use Prim.Native.Nat.{ℕ, zero, suc, _+_, _≤_, _<_}
+use native.Mathlib.Numerals.{add-one}
+use native.Mathlib.Omega.{arith}
+use lib.ListN.{length, getD, take, drop, length-append}
+use lib.Seq.{drop-cons, getD-take, take-at, length-take-le}
+use borrow.Author.Tests.{ltb-false, eq-eqb}
+use Rattle.aff_format.specs.Bytes.{spliced}
+use Rattle.aff_format.proofs.BytesLaws.{length-spliced}
+use Rattle.aff_format.proofs.LowestLaws.{none-holds}
+use Rattle.aff_open.specs.declared.reader.Reader.{Reader}
+use Rattle.aff_open.proofs.OrderLaws.{split}
+use Rattle.aff_read.specs.Calls.{order, lineAt, decimal, kindWord}
+use Rattle.aff_read.specs.Once.{hit, occurrences}
+use Rattle.aff_read.specs.Recall.{kindAt, countAt, pathAt}
+use Rattle.aff_read.proofs.LineLaws.{tail-length}
+use Rattle.aff_read.proofs.OnceLaws.{order-only, order-length}
+use Rattle.aff_list.specs.Lister.{pathLimit, rowLimit, pathTooLong, row, rows, rowsFrom, Ready, endBehind, putBehind, Fills}
+use Rattle.aff_list.proofs.RowLaws.{behind-stays, behind-put}
+
+-- Text put behind the first bytes of a block ends where those and the text are.
+taken-behind : (used : ℕ) (text l : List ℕ) → used ≤ length l → take (used + length text) (spliced used text l) ≡ take used l ++ text
+unfolding spliced
+taken-behind used text l h =
+    ap (take (used + length text)) (sym (append-assoc (take used l) text (drop (used + length text) l)))
+    ∙ take-at (take used l ++ text) _ (used + length text) (length-append (take used l) text ∙ ap (λ (n : ℕ). n + length text) (length-take-le used l h))
+
+-- A number that stands in a list occurs in it.
+occurs : (l : List ℕ) (k : ℕ) → k < length l → 0 < occurrences (getD l k 0) l
+unfolding occurrences hit
+occurs [] k h = absurd (omega arith)
+occurs (x ∷ l) zero h = rw (eq-eqb x x refl) (omega arith)
+occurs (x ∷ l) (suc k) h = omega (arith, occurs l k (omega arith))
+
+-- The lines from place `from` on were put into a block, up to place `next`.
+pub record Filling (image : List ℕ) (reader : Reader) (strings entries : List ℕ) (from : ℕ) (block₀ block : List ℕ) (next used : ℕ) : Type 0 where
+  pub least : from ≤ next
+  pub most : next ≤ reader .nodes + 1
+  pub inside : used ≤ length block
+  pub text : rowsFrom image reader strings entries from ≡ take used block ++ rowsFrom image reader strings entries next
+  pub sized : length block ≡ length block₀
+  pub first : next ≤ from → used ≡ 0
+
+module _ {image : List ℕ} {reader : Reader} {strings entries numbers : List ℕ} (ready : Ready image reader strings entries numbers) where
+  abbrev all : List ℕ
+  all = order image reader strings entries
+
+  abbrev rowAt : ℕ → List ℕ
+  rowAt = row image reader strings entries
+
+  abbrev rest : ℕ → List ℕ
+  rest = rowsFrom image reader strings entries
+
+  number-at : (k : ℕ) → k ≤ reader .nodes → getD all k 0 ≡ getD numbers k 0
+  number-at k h = ap (λ (l : List ℕ). getD l k 0) (sym (ready .ordered)) ∙ getD-take (reader .nodes + 1) numbers k 0 (omega arith)
+
+  placed : (k : ℕ) → k ≤ reader .nodes → k < length all
+  placed k h = omega (arith, order-length (ready .belongs))
+
+  pub number-within : (k : ℕ) → k ≤ reader .nodes → getD numbers k 0 ≤ reader .nodes
+  number-within k h =
+      ⊎-elim (λ (q : reader .nodes < getD numbers k 0). absurd (omega (arith, occurs all k (placed k h), order-only (ready .belongs) (getD all k 0) (omega (arith, number-at k h)))))
+      (λ q. q) (split (reader .nodes) (getD numbers k 0))
+
+  rest-next : (k n : ℕ) → k ≤ reader .nodes → n ≡ getD numbers k 0 → rest k ≡ rowAt n ++ rest (k + 1)
+  unfolding rows
+  rest-next k n h is = ap (rows image reader strings entries) (drop-cons all k 0 (placed k h)) ∙ rw (number-at k h, is, add-one k)
+
+  row-length : (n : ℕ) → length (rowAt n) ≡ length (lineAt image reader strings entries n) + 1
+  unfolding row
+  row-length n = length-append (lineAt image reader strings entries n) (10 ∷ [])
+
+  row-small : (n : ℕ) → n ≤ reader .nodes → length (rowAt n) ≤ rowLimit
+  unfolding pathTooLong lineAt
+  row-small n h =
+      let path = pathAt image reader strings entries n in
+      let short : length path ≤ pathLimit = ltb-false pathLimit (length path) (none-holds (pathTooLong image reader strings entries) (reader .nodes + 1) 0 (ready .fits) n (omega arith) (omega arith)) in
+      omega (arith, row-length n, length-append path (32 ∷ (kindWord (kindAt image entries n) ++ (32 ∷ decimal 10 (countAt image entries n)))), tail-length (kindAt image entries n) (countAt image entries n), short)
+
+  module _ {from : ℕ} {o : List ℕ} (some : from ≤ reader .nodes) where
+    pub filling-none : Filling image reader strings entries from o o from 0
+    filling-none = record { least = omega arith; most = omega arith; inside = omega arith; text = refl; sized = refl; first = λ h. refl }
+
+    module _ {block : List ℕ} {next used : ℕ} (v : Filling image reader strings entries from o block next used) where
+      pub filled-all : reader .nodes < next → Fills rest (reader .nodes + 1) from next used block
+      filled-all h = record { more = omega arith; most = v .most; inside = v .inside; text = v .text }
+
+      module _ (h : next ≤ reader .nodes) {n end : ℕ} {p : List ℕ} (is : n ≡ getD numbers next 0)
+          (ends : end ≡ endBehind used (rowAt n) block) (puts : p ≡ putBehind used (rowAt n) block) where
+        within : n ≤ reader .nodes
+        within = omega (arith, is, number-within next h)
+
+        pub filled-full : rowLimit ≤ length o → end ≡ used → Fills rest (reader .nodes + 1) from next used p
+        filled-full room e =
+            let stays = behind-stays used (rowAt n) block ends puts (omega (arith, row-length n)) e in
+            record {
+              more = ⊎-elim (λ q. q) (λ (q : next ≤ from). absurd (omega (arith, stays .0, v .first q, v .sized, row-small n within))) (split from next);
+              most = v .most;
+              inside = rw (stays .1) (v .inside);
+              text = rw (stays .1) (v .text);
+            }
+
+        pub filling-next : (end ≡ used → ⊥) → Filling image reader strings entries from o p (next + 1) end
+        filling-next other =
+            let (fits, at, area) = behind-put used (rowAt n) block ends puts other in
+            let taken : take end p ≡ take used block ++ rowAt n = rw (area, at) (taken-behind used (rowAt n) block (v .inside)) in
+            let long : length p ≡ length block = ap length area ∙ length-spliced used (rowAt n) block fits in
+            record {
+              least = omega (arith, v .least);
+              most = omega arith;
+              inside = omega (arith, fits, at, long);
+              text =
+                  v .text ∙ ap (λ (l : List ℕ). take used block ++ l) (rest-next next n h is)
+                  ∙ sym (append-assoc (take used block) (rowAt n) (rest (next + 1)))
+                  ∙ ap (λ (l : List ℕ). l ++ rest (next + 1)) (sym taken);
+              sized = long ∙ v .sized;
+              first = λ g. absurd (omega (arith, v .least));
+            }

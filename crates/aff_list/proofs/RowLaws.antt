@@ -1,0 +1,116 @@
+-- A line and its line feed put behind the first bytes of a block. Assumes nothing.
+use mathlib.Core.Path.{_≡_, refl, sym, ap, _∙_}
+use mathlib.Core.Bool.{Bool, true, false}
+use mathlib.Core.List.{List, [], _∷_, _++_, append-assoc}
+use Prim.Native.Nat.{ℕ, _+_, _-_, _≤_, _<_}
+use native.Mathlib.Omega.{arith}
+use lib.Dec.{ltb, leb}
+use lib.ListN.{length, take, drop, set, length-append, take-append-drop}
+use lib.Seq.{drop-append-le, drop-drop}
+use borrow.Author.Tests.{ltb-true, ltb-false, leb-true, leb-false, le-leb, lt-leb}
+use borrow.Rule.Slice.PartMut.{midOf, putMid, put-same, mid-len}
+use Rattle.aff_format.specs.Answer.{Answer, accepted, refused, refusal, unless}
+use Rattle.aff_format.specs.Bytes.{spliced}
+use Rattle.aff_format.specs.declared.refusal.Told.{Told}
+use Rattle.aff_format.proofs.AnswerLaws.{not-both}
+use Rattle.aff_format.proofs.BytesLaws.{length-spliced, set-spliced, spliced-more}
+use Rattle.aff_read.specs.Calls.{frontWritten}
+use Rattle.aff_read.specs.Written.{textAnswer}
+use Rattle.aff_list.specs.Lister.{endBehind, putBehind}
+
+-- Text that has room, and text that has none.
+pub behind-fits : (used : ℕ) (text o : List ℕ) → used + length text ≤ length o
+    → (used + length text ≡ endBehind used text o) × (spliced used text o ≡ putBehind used text o)
+unfolding endBehind putBehind
+behind-fits used text o h = rw (le-leb (used + length text) (length o) h) (refl, refl)
+
+pub behind-full : (used : ℕ) (text o : List ℕ) → length o < used + length text
+    → (used ≡ endBehind used text o) × (o ≡ putBehind used text o)
+unfolding endBehind putBehind
+behind-full used text o h = rw (lt-leb (used + length text) (length o) h) (refl, refl)
+
+-- What the end of the text says of the block.
+module _ (used : ℕ) (text o : List ℕ) {end : ℕ} {p : List ℕ} (ends : end ≡ endBehind used text o) (block : p ≡ putBehind used text o) where
+  pub behind-stays : 0 < length text → end ≡ used → (length o < used + length text) × (p ≡ o)
+  unfolding endBehind putBehind
+  behind-stays some e = go (leb (used + length text) (length o)) refl
+    where
+      go : (b : Bool) → leb (used + length text) (length o) ≡ b → (length o < used + length text) × (p ≡ o)
+      go true t = let x : end ≡ used + length text = ends ∙ rw t in absurd (omega arith)
+      go false t = (leb-false (used + length text) (length o) t, block ∙ rw t)
+
+  pub behind-put : (end ≡ used → ⊥) → (used + length text ≤ length o) × (end ≡ used + length text) × (p ≡ spliced used text o)
+  unfolding endBehind putBehind
+  behind-put other = go (leb (used + length text) (length o)) refl
+    where
+      go : (b : Bool) → leb (used + length text) (length o) ≡ b → (used + length text ≤ length o) × (end ≡ used + length text) × (p ≡ spliced used text o)
+      go true t = (leb-true (used + length text) (length o) t, ends ∙ rw t, block ∙ rw t)
+      go false t = absurd (other (ends ∙ rw t))
+
+-- A line written, or refused, in what is left of a block but its last byte; then the line feed.
+module _ (line o : List ℕ) (used : ℕ) (room : used < length o) {r : Answer ℕ} {q : List ℕ}
+    (answer : r ≡ textAnswer (length (midOf used (length o - 1 - used) o)) line)
+    (output : q ≡ frontWritten r line (midOf used (length o - 1 - used) o)) where
+  abbrev k : ℕ
+  k = length o - 1 - used
+
+  abbrev mid : List ℕ
+  mid = midOf used k o
+
+  mid-length : length mid ≡ k
+  mid-length = mid-len used (length o - 1) o (omega arith)
+
+  abbrev row : List ℕ
+  row = line ++ (10 ∷ [])
+
+  row-length : length row ≡ length line + 1
+  row-length = length-append line (10 ∷ [])
+
+  pub row-refused : (t : Told) → r ≡ refused t → (used ≡ endBehind used row o) × (putMid used k o q ≡ putBehind used row o)
+  row-refused t e =
+      let stays : putMid used k o q ≡ o = ap (putMid used k o) (output ∙ ap (λ (a : Answer ℕ). frontWritten a line mid) e) ∙ put-same used k o in
+      let full = behind-full used row o (go (ltb (length mid) (length line)) refl (sym answer ∙ e)) in
+      (full .0, stays ∙ full .1)
+    where
+      go : (b : Bool) → ltb (length mid) (length line) ≡ b → unless b (refusal 21) (accepted (length line)) ≡ refused t → length o < used + length row
+      go true h f = omega (arith, ltb-true (length mid) (length line) h, mid-length, row-length)
+      go false h f = not-both (sym f)
+
+  module _ {n : ℕ} (e : r ≡ accepted n) where
+    line-fits : (n ≡ length line) × (length line ≤ k)
+    line-fits = go (ltb (length mid) (length line)) refl (sym answer ∙ e)
+      where
+        go : (b : Bool) → ltb (length mid) (length line) ≡ b → unless b (refusal 21) (accepted (length line)) ≡ accepted n → (n ≡ length line) × (length line ≤ k)
+        go true h f = not-both f
+        go false h f = (cc, omega (arith, ltb-false (length mid) (length line) h, mid-length))
+
+    pub row-room : used + n < length o
+    row-room = omega (arith, line-fits .0, line-fits .1)
+
+    line-put : putMid used k o q ≡ spliced used line o
+    unfolding spliced
+    line-put =
+        let h : length line ≤ length mid = omega (arith, line-fits .1, mid-length) in
+        ap (putMid used k o) (output ∙ ap (λ (a : Answer ℕ). frontWritten a line mid) e)
+        ∙ ap (λ (l : List ℕ). take used o ++ l)
+        (append-assoc line (drop (length line) mid) (drop k (drop used o))
+        ∙ ap (λ (l : List ℕ). line ++ l)
+        (sym (drop-append-le (length line) mid (drop k (drop used o)) h)
+        ∙ ap (drop (length line)) (take-append-drop k (drop used o))
+        ∙ drop-drop (length line) used o))
+
+    block-length : length (putMid used k o q) ≡ length o
+    block-length = ap length line-put ∙ length-spliced used line o (omega (arith, line-fits .1))
+
+    pub feed-inside : used + n < length (putMid used k o q)
+    feed-inside = omega (arith, row-room, block-length)
+
+    pub row-written : (used + n + 1 ≡ endBehind used row o) × (set (putMid used k o q) (used + n) 10 ≡ putBehind used row o)
+    row-written =
+        let fits = behind-fits used row o (omega (arith, row-length, line-fits .1)) in
+        let at : used + n ≡ used + length line = omega (arith, line-fits .0) in (
+          omega (arith, at, row-length) ∙ fits .0,
+          set-spliced (used + n) 10 (putMid used k o q) feed-inside
+              ∙ rw (line-put, at) (spliced-more used line (10 ∷ []) o (omega (arith, line-fits .1)))
+              ∙ fits .1,
+        )

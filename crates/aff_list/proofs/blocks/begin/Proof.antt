@@ -1,0 +1,47 @@
+-- `begin` meets its contract: opening decides, then the paths.
+use borrow.Author.Needs.{needs}
+use mathlib.Core.Path.{_∙_}
+use Rattle.aff_format.proofs.AnswerLaws.{not-both}
+use Rattle.aff_list.proofs.ReadyLaws.{begun-refused, begun-judged, begun-belongs}
+use Rattle.aff_list.proofs.blocks.begin.Statement.{statement}
+use Rattle.aff_list.proofs.blocks.begin.Tie as tie
+
+prepare-requires : tie.Need-prepare-requires
+prepare-requires c κs =
+    let t = c .before .before .before .before .before in
+    let o = t .before .before .before in
+    let f = o .before .before .before .before in
+    let a = f .before .before .args in
+    begun-belongs (a .image .now) (a .strings .now) (a .entries .now) (o .«open» .result) (f .form-for .ensures) (o .«open» .ensures .0) (o .«open» .ensures .1 .1 .0) (o .«open» .ensures .1 .1 .1) (t .enum-told .given .1)
+
+returns : tie.Need-returns
+returns c =
+    let v = c .before in
+    let o = v .before .before .before in
+    let f = o .before .before .before .before in
+    let a = f .before .before .args in
+    (begun-refused (a .image .now) (a .strings .now) (a .entries .now) (o .«open» .result) (f .form-for .ensures) (o .«open» .ensures .0) (o .«open» .ensures .1 .1 .0) (o .«open» .ensures .1 .1 .1) _ (v .verdict .given .1), λ r h. not-both h)
+
+returns-2 : tie.Need-returns-2
+returns-2 c =
+    let t = c .before .before .before .before .before .before in
+    let o = t .before .before .before in
+    let f = o .before .before .before .before in
+    let a = f .before .before .args in (
+      c .prepare .ensures .0
+          ∙ begun-judged (a .image .now) (a .strings .now) (a .entries .now) (o .«open» .result) (f .form-for .ensures) (o .«open» .ensures .0) (o .«open» .ensures .1 .1 .0) (o .«open» .ensures .1 .1 .1) (t .enum-told .given .1),
+      c .prepare .ensures .1,
+    )
+
+pub begin-spec : {M : Type 1} → statement M
+begin-spec =
+    tie.close
+    (tie.spec
+    (λ c κs. search needs)
+    (λ c. search needs)
+    (λ c κs. search needs)
+    (λ c. search needs)
+    (λ c. search needs)
+    prepare-requires
+    returns
+    returns-2)

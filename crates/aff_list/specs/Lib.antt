@@ -1,0 +1,2 @@
+-- What the lister prints of an image: what the promises of this crate cite.
+pub mod Lister

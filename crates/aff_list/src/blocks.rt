@@ -1,0 +1,145 @@
+// The lines of an image, block by block. The image is opened and every path measured first; then one block is filled after another.
+use aff_format::Refusal;
+use aff_format::Verdict;
+use aff_open::Opening;
+use aff_open::Reader;
+use aff_open::recorded;
+use aff_read::NumberAnswer;
+use aff_read::lister;
+use aff_read::paths;
+ghost use mathlib.Core.Path.{_≡_};
+ghost use Prim.Native.Nat.{_+_, _≤_};
+ghost use lib.ListN.{length};
+ghost use Rattle.aff_format.specs.Answer.{accepted, firstWrong};
+ghost use Rattle.aff_format.specs.Verdict.{verdictTold};
+ghost use Rattle.aff_open.specs.Belongs.{Belongs};
+ghost use Rattle.aff_open.specs.Opening.{openingTold};
+ghost use Rattle.aff_open.specs.declared.reader.Reader.{Reader as ReaderOf};
+ghost use Rattle.aff_list.specs.Lister.{pathChecks, row, rowsFrom, Ready, judged, endBehind, putBehind, Fills};
+
+// 21 where a path is above 65,536 bytes, for a record that belongs. One climb a node.
+fn measure(image: &[u8], reader: Reader, strings: &[u32], entries: &[u32]) -> Verdict
+    requires { ⌜ Belongs (now image) reader (now strings) (now entries) ⌝ }
+    ensures { λ r. ⌜ verdictTold r ≡ firstWrong (pathChecks (now (image .entry)) reader (now (strings .entry)) (now (entries .entry))) tt ⌝ }
+{
+    let mut k: usize = 0;
+    while k <= reader.nodes {
+        if 65536 < paths::path_length(image, reader, strings, entries, k, 65536) {
+            return Verdict::Refused(Refusal::NoRoom);
+        }
+        k += 1;
+    }
+    Verdict::Accepted
+}
+
+// Behind an accepted opening: measures the paths, and writes listing order.
+fn prepare(
+    image: &[u8],
+    reader: Reader,
+    strings: &[u32],
+    entries: &[u32],
+    order: &mut [u32; 2049],
+) -> Opening
+    requires { ⌜ Belongs (now image) reader (now strings) (now entries) ⌝ }
+    ensures answer { λ r. ⌜ openingTold r ≡ firstWrong (pathChecks (now (image .entry)) reader (now (strings .entry)) (now (entries .entry))) reader ⌝ }
+    ensures ready { λ r. ⌜ ((a : ReaderOf) → openingTold r ≡ accepted a → Ready (now (image .entry)) a (now (strings .entry)) (now (entries .entry)) (now (order .exit))) ⌝ }
+{
+    lister::listing_of(image, reader, strings, entries, order);
+    Opening {
+        verdict: measure(image, reader, strings, entries),
+        reader,
+    }
+}
+
+// Opens an image, measures its paths, and writes listing order. A refusal is all that is printed of the image.
+pub fn begin(
+    image: &[u8],
+    strings: &mut [u32; 2048],
+    entries: &mut [u32; 2048],
+    order: &mut [u32; 2049],
+) -> Opening
+    ensures answer { λ r. ⌜ openingTold r ≡ judged (now (image .entry)) (now (strings .entry)) (now (entries .entry)) ⌝ }
+    ensures ready { λ r. ⌜ ((a : ReaderOf) → openingTold r ≡ accepted a → Ready (now (image .entry)) a (now (strings .exit)) (now (entries .exit)) (now (order .exit))) ⌝ }
+{
+    let form = aff_open::form_for(image);
+    let opening = aff_open::open(image, &form, strings, entries);
+    let verdict = opening.verdict;
+    let reader = opening.reader;
+    match verdict {
+        Verdict::Refused(refusal) => Opening {
+            verdict: Verdict::Refused(refusal),
+            reader,
+        },
+        Verdict::Accepted => prepare(image, reader, strings, entries, order),
+    }
+}
+
+// Puts a node's line and a line feed behind the first `used` bytes of a block, and answers where they end. A block that has no room for
+// them stays, and `used` is the answer.
+fn put_row(
+    image: &[u8],
+    reader: Reader,
+    strings: &[u32],
+    entries: &[u32],
+    node: usize,
+    used: usize,
+    block: &mut [u8],
+) -> usize
+    requires { ⌜ Belongs (now image) reader (now strings) (now entries) × (node ≤ reader .nodes) × (used ≤ length (now block)) ⌝ }
+    ensures { λ r. ⌜ r ≡ endBehind used (row (now (image .entry)) reader (now (strings .entry)) (now (entries .entry)) node) (now (block .entry)) ⌝ }
+    ensures { λ r. ⌜ now (block .exit) ≡ putBehind used (row (now (image .entry)) reader (now (strings .entry)) (now (entries .entry)) node) (now (block .entry)) ⌝ }
+{
+    let room = block.len();
+    if room == used {
+        return used;
+    }
+    let last = room - 1;
+    match lister::line_of(
+        image,
+        reader,
+        strings,
+        entries,
+        node,
+        &mut block[used..last],
+    ) {
+        NumberAnswer::Refused(_) => used,
+        NumberAnswer::Value(size) => {
+            let end = used + size;
+            block[end] = b'\n';
+            end + 1
+        }
+    }
+}
+
+// Where a filled block ends: the place in listing order of the line that comes next, and the bytes filled.
+pub struct Filled {
+    pub next: usize,
+    pub used: usize,
+}
+
+// Fills a block from its front with the lines from a place in listing order on, as many as it has room for.
+pub fn fill(
+    image: &[u8],
+    reader: Reader,
+    strings: &[u32; 2048],
+    entries: &[u32; 2048],
+    order: &[u32; 2049],
+    from: usize,
+    block: &mut [u8; 131072],
+) -> Filled
+    requires { ⌜ Ready (now image) reader (now strings) (now entries) (now order) × (from ≤ reader .nodes) ⌝ }
+    ensures { λ r. ⌜ Fills (rowsFrom (now (image .entry)) reader (now (strings .entry)) (now (entries .entry))) (reader .nodes + 1) from (r .next) (r .used) (now (block .exit)) ⌝ }
+{
+    let mut next = from;
+    let mut used: usize = 0;
+    while next <= reader.nodes {
+        let node = recorded::place(order, next);
+        let end = put_row(image, reader, strings, entries, node, used, block);
+        if end == used {
+            return Filled { next, used };
+        }
+        used = end;
+        next += 1;
+    }
+    Filled { next, used }
+}

@@ -1,0 +1,54 @@
+// What the programs share: text, numbers and refusals on standard output, and, for tests, images on standard input.
+use aff_format::Refusal;
+use aff_format::number;
+use libc::STDIN_FILENO;
+use libc::STDOUT_FILENO;
+ghost use Prim.Native.Nat.{_≤_};
+ghost use lib.ListN.{length};
+
+pub fn text(bytes: &[u8]) {
+    io::write_all(STDOUT_FILENO, bytes);
+}
+
+pub fn decimal(n: u64) {
+    io::print_decimal(STDOUT_FILENO, n);
+}
+
+// `refused N P`.
+pub fn refusal(refusal: Refusal) {
+    text(b"refused ");
+    decimal(refusal.number() as u64);
+    text(b" ");
+    decimal(refusal.place() as u64);
+}
+
+// Whether there was one more image, and its length.
+pub struct Next {
+    pub found: bool,
+    pub size: usize,
+}
+
+// Fills an area from standard input; false where that ends before.
+fn whole(area: &mut [u8]) -> bool {
+    io::read_full(STDIN_FILENO, area) == area.len()
+}
+
+// Reads the next image of standard input, which stands behind its length in 4 bytes, into the front of an area.
+pub fn next_image(area: &mut [u8]) -> Next
+    ensures { λ r. ⌜ r .size ≤ length (now (area .exit)) ⌝ }
+{
+    let mut head = [0u8; 4];
+    let none = Next {
+        found: false,
+        size: 0,
+    };
+    if io::read_full(STDIN_FILENO, &mut head) < 4 {
+        return none;
+    }
+    let size = number::be32(&head, 0) as usize;
+    if area.len() < size {
+        return none;
+    }
+    let found = whole(&mut area[..size]);
+    Next { found, size }
+}
