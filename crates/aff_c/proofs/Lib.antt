@@ -1,3 +1,4 @@
 -- Laws that several proofs cite.
 mod Copying
 mod OutputLaws
+mod ReadingLaws
