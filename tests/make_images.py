@@ -350,4 +350,5 @@ def main():
     print(len(CASES), "images")
 
 
-main()
+if __name__ == "__main__":
+    main()
