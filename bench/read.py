@@ -4,13 +4,15 @@
 Two shapes of tree, each of 256 and of 2,048 nodes: all nodes children of the root, with a name each; and three levels, as of ensemble, momentum
 and source time, whose names come again below each parent. Besides, lookups in images that are made to be slow. Nodes with data hold 64
 Doubles. Images and sums are made by tests/make_images.py. Keys are taken at random, the last among them. The run fails where an answer is
-not the expected one. A sample is a batch of calls that takes 10 ms at least; each time is the median of the samples.
+not the expected one. A sample is a batch of calls that takes 10 ms at least. In a round the two sizes take turns, seven samples each; a time
+is the median of the rounds' medians, and a growth the median of the rounds' ratios.
 
-Use, from anywhere: bench/read.py [SECONDS], where SECONDS is about how long each call is measured on each image.
+Use, from anywhere: bench/read.py [ROUNDS].
 It needs rt, a C compiler as cc, Linux on x86-64, and 3 MB of disk below target/ in a folder that it removes again.
 """
 import os
 import random
+import statistics
 import struct
 import subprocess
 import sys
@@ -18,7 +20,9 @@ import tempfile
 
 ROOT = os.path.dirname(os.path.dirname(os.path.abspath(__file__)))
 OUT = os.path.join(ROOT, "target", "bench")
+SIZES = (256, 2048)
 SAMPLE = 0.01
+SAMPLES = 7
 COUNT = 64
 DRAWN = 1000
 LONG = 2**13
@@ -88,82 +92,94 @@ def chain(nodes, name):
 
 
 class Bench:
-    """The calls on the image of a tree."""
+    """The calls on the image of a tree, by a folder of its own."""
 
-    def __init__(self, program, folder, seconds, tree):
-        self.program, self.seconds = program, seconds
-        self.image, self.keys = os.path.join(folder, "image"), os.path.join(folder, "keys")
-        with open(self.image, "wb") as file:
+    def __init__(self, program, tree):
+        self.program, self.tree = program, tree
+        self.folder = tempfile.TemporaryDirectory(dir=OUT)
+        with open(self.file("image"), "wb") as file:
             file.write(tree.image())
 
-    def timed(self, call, keys):
-        """The median time of a call for keys in turn."""
-        with open(self.keys, "wb") as file:
+    def file(self, name):
+        return os.path.join(self.folder.name, name)
+
+    def batched(self, call, keys):
+        """A function that measures a call for keys in turn: the median of some samples."""
+        with open(self.file("keys"), "wb") as file:
             file.write(b"".join(b"%d %s\n" % key for key in keys))
 
         def run(samples, batch):
-            words = [self.program, self.image, self.keys, call, str(samples), str(batch)]
+            words = [self.program, self.file("image"), self.file("keys"), call, str(samples), str(batch)]
             return float(subprocess.run(words, stdout=subprocess.PIPE, check=True, text=True).stdout)
 
         batch = 1
         while (found := run(3, batch)) * batch < SAMPLE:
             batch = max(batch * 2, min(batch * 1000, int(1.2 * SAMPLE / max(found, 1e-9))))
-        return run(max(7, int(self.seconds / (found * batch))), batch)
+        return lambda: run(SAMPLES, batch)
 
 
-def usual(program, folder, seconds, tree):
-    """The times of all calls, by what they are."""
-    last = tree.full[-1]
-    drawn = random.Random(1).choices(tree.full, k=DRAWN - 1) + [last]
-    present = [(node, tree.path(node)) for node in drawn]
-    absent = [(0, path[:-1] + b"x") for _, path in present]
-    bench = Bench(program, folder, seconds, tree)
-    return {
-        "24 alone: `view` of the root": bench.timed("judge", present),
-        "`lookup`, keys at random": bench.timed("lookup", present),
-        "`lookup`, the last key": bench.timed("lookup", present[-1:]),
-        "`lookup`, no such key": bench.timed("lookup", absent),
-        "`view`": bench.timed("view", present),
-        "`element`": bench.timed("element", present),
-        "decoding of a held view": bench.timed("decode", present),
-    }
+def compared(rounds, benches, call, keys):
+    """The times of a call at the two sizes, and the growth; `keys` are a function of the tree."""
+    few, many = [bench.batched(call, keys(bench.tree)) for bench in benches]
+    pairs = [(few(), many()) for _ in range(rounds)]
+    return [statistics.median(found) for found in (*zip(*pairs), [b / a for a, b in pairs])]
 
 
-def slow(program, folder, seconds, nodes):
-    """Lookups that are made to be slow."""
-    name = b"a" * LONG
-    deep = chain(nodes, b"a")
-    deepest = Bench(program, folder, seconds, deep).timed("lookup", [(nodes, deep.path(nodes))])
-    absent = Bench(program, folder, seconds, chain(nodes, name)).timed("lookup", [(0, b"/x/" + name)])
-    return {
-        "a chain of one name, `a`; `lookup` of its end, a path of two bytes a node": deepest,
-        "a chain of one name of 8 KiB; `lookup` of `/x/` and that name, no such key": absent,
-    }
+def drawn(tree):
+    nodes = random.Random(1).choices(tree.full, k=DRAWN - 1) + tree.full[-1:]
+    return [(node, tree.path(node)) for node in nodes]
+
+
+def last(tree):
+    return drawn(tree)[-1:]
+
+
+def absent(tree):
+    return [(0, path[:-1] + b"x") for _, path in drawn(tree)]
+
+
+# What is called, and for which keys.
+USUAL = [
+    ("24 alone: `view` of the root", "judge", last),
+    ("`lookup`, keys at random", "lookup", drawn),
+    ("`lookup`, the last key", "lookup", last),
+    ("`lookup`, no such key", "lookup", absent),
+    ("`view`", "view", drawn),
+    ("`element`", "element", drawn),
+    ("decoding of a held view", "decode", drawn),
+]
+
+# Lookups that are made to be slow: what they are, the name of each node of the chain, and the key.
+SLOW = [
+    ("a chain of one name, `a`; `lookup` of its end, a path of two bytes a node", b"a", last),
+    ("a chain of one name of 8 KiB; `lookup` of `/x/` and that name, no such key", b"a" * LONG, lambda tree: [(0, b"/x/" + b"a" * LONG)]),
+]
 
 
 def shown(seconds):
     return f"{seconds * 1e9:.1f} ns" if seconds < 1e-6 else f"{seconds * 1e6:.1f} µs" if seconds < 1e-3 else f"{seconds * 1e3:.1f} ms"
 
 
+def row(what, *found):
+    print(f"| {what} |", " ".join(f"{shown(few)} | {shown(many)} | {growth:.1f} |" for few, many, growth in found), flush=True)
+
+
 def main():
-    seconds = float(sys.argv[1]) if len(sys.argv) > 1 else 1
+    rounds = int(sys.argv[1]) if len(sys.argv) > 1 else 9
     os.makedirs(OUT, exist_ok=True)
     subprocess.run(["rt", "staticlib", "aff_c"], cwd=ROOT, check=True, stdout=subprocess.DEVNULL)
     library = os.path.join(ROOT, "target", "staticlib", "libaff_c.a")
     program = os.path.join(OUT, "read")
     subprocess.run(["cc", "-O2", os.path.join(ROOT, "bench", "read.c"), library, "-o", program], check=True)
-    with tempfile.TemporaryDirectory(dir=OUT) as folder:
-        columns = [usual(program, folder, seconds, shape(nodes)) for shape in (flat, levels) for nodes in (256, 2048)]
-        few, many = [slow(program, folder, seconds, nodes) for nodes in (256, 2048)]
+    shapes = [[Bench(program, shape(nodes)) for nodes in SIZES] for shape in (flat, levels)]
     print("| call | flat, 256 nodes | 2,048 | growth | three levels, 256 nodes | 2,048 | growth |")
     print("|---|---|---|---|---|---|---|")
-    for call in columns[0]:
-        a, b, c, d = [column[call] for column in columns]
-        print(f"| {call} | {shown(a)} | {shown(b)} | {b / a:.1f} | {shown(c)} | {shown(d)} | {d / c:.1f} |")
+    for what, call, keys in USUAL:
+        row(what, *(compared(rounds, benches, call, keys) for benches in shapes))
     print("\n| made to be slow | 256 nodes | 2,048 | growth |")
     print("|---|---|---|---|")
-    for call in few:
-        print(f"| {call} | {shown(few[call])} | {shown(many[call])} | {many[call] / few[call]:.1f} |")
+    for what, name, keys in SLOW:
+        row(what, compared(rounds, [Bench(program, chain(nodes, name)) for nodes in SIZES], "lookup", keys))
 
 
 main()
