@@ -1,2 +1,3 @@
 -- Laws that several proofs cite.
 mod OutputLaws
+mod ReadingLaws

@@ -4,6 +4,8 @@
 //         uint32_t *strings, size_t strings_length, uint32_t *entries, size_t entries_length, uint64_t *record, size_t record_length);
 //     bool aff_form_for(const uint8_t *image, size_t image_length, uint8_t *output, size_t output_length);
 // The caller sees to it that the pointers are valid for the lengths and that what is written overlaps nothing else that is lent.
+pub mod reading; // lookup, view, element
+
 use aff_format::Told;
 use aff_format::Verdict;
 use aff_open::Opening;

@@ -1,0 +1,192 @@
+// Reading for programs in C and Rust that link the static library of this crate: lookup, the place of a node's data, one element of them,
+// and one element of data whose place the caller holds. In C the functions are
+//     uint32_t aff_lookup(const uint8_t *image, size_t image_length, const uint64_t *record, const uint32_t *strings, size_t strings_length,
+//         const uint32_t *entries, size_t entries_length, const uint8_t *path, size_t path_length, uint64_t *node);
+//     uint32_t aff_view(.., uint64_t node, uint64_t *offset, uint64_t *size);
+//     uint32_t aff_element(.., uint64_t node, uint64_t index, double *value, double *imaginary);
+//     uint32_t aff_decode(uint64_t kind, const uint8_t *bytes, size_t bytes_length, uint64_t index, double *value, double *imaginary);
+// where `..` are image, record, strings and entries as in `aff_lookup`. The record has 12 numbers, as `aff_open_image` writes them. Each
+// function returns 0 where the call is accepted, else the refusal's number, and then leaves what it is lent.
+use aff_format::Element;
+use aff_format::ElementAnswer;
+use aff_format::FoundKind;
+use aff_format::Kind;
+use aff_format::element;
+use aff_open::Reader;
+use aff_open::Span;
+use aff_read::NumberAnswer;
+use aff_read::PartAnswer;
+ghost use mathlib.Core.Path.{_≡_};
+ghost use Prim.Native.Nat.{ℕ};
+ghost use Rattle.aff_format.specs.Element.{elementTold};
+ghost use Rattle.aff_open.specs.declared.reader.Span.{Span};
+ghost use Rattle.aff_read.specs.Answers.{viewAnswer, elementAnswer};
+ghost use Rattle.aff_read.specs.Calls.{lookupAnswer};
+ghost use Rattle.aff_c.specs.Reading.{editionIn, readerIn, numberBy, leftBy, realPart, imaginaryPart, decodedAnswer};
+
+fn edition_of(number: u64) -> u32
+    ensures { λ r. ⌜ r ≡ editionIn number ⌝ }
+{
+    if 4294967295 < number {
+        return 0;
+    }
+    number as u32
+}
+
+fn reader_of(numbers: &[u64; 12]) -> Reader
+    ensures { λ r. ⌜ r ≡ readerIn (now (numbers .entry)) ⌝ }
+{
+    Reader {
+        length: numbers[1] as usize,
+        edition: edition_of(numbers[2]),
+        symbols: Span {
+            offset: numbers[3] as usize,
+            size: numbers[4] as usize,
+        },
+        tree: Span {
+            offset: numbers[5] as usize,
+            size: numbers[6] as usize,
+        },
+        data: Span {
+            offset: numbers[7] as usize,
+            size: numbers[8] as usize,
+        },
+        strings: numbers[9] as usize,
+        nodes: numbers[10] as usize,
+        records: numbers[11],
+    }
+}
+
+fn real_part(element: Element) -> f64
+    ensures { λ r. ⌜ r ≡ realPart element ⌝ }
+{
+    match element {
+        Element::Byte(n) => n as f64,
+        Element::Int(n) => n as f64,
+        Element::Real(x) => x,
+        Element::Pair(x, _) => x,
+    }
+}
+
+fn imaginary_part(element: Element) -> f64
+    ensures { λ r. ⌜ r ≡ imaginaryPart element ⌝ }
+{
+    match element {
+        Element::Byte(_) => 0u8 as f64,
+        Element::Int(_) => 0u8 as f64,
+        Element::Real(_) => 0u8 as f64,
+        Element::Pair(_, y) => y,
+    }
+}
+
+fn put_element(answer: ElementAnswer, value: &mut f64, imaginary: &mut f64) -> u32
+    ensures number { λ r. ⌜ r ≡ numberBy (elementTold answer) ⌝ }
+    ensures value { λ _. ⌜ now (value .exit) ≡ leftBy realPart (now (value .entry)) (elementTold answer) ⌝ }
+    ensures imaginary { λ _. ⌜ now (imaginary .exit) ≡ leftBy imaginaryPart (now (imaginary .entry)) (elementTold answer) ⌝ }
+{
+    match answer {
+        ElementAnswer::Value(element) => {
+            *value = real_part(element);
+            *imaginary = imaginary_part(element);
+            0
+        }
+        ElementAnswer::Refused(refusal) => refusal.number(),
+    }
+}
+
+// The lowest node with a path, as `aff_read::paths::lookup` finds it.
+#[no_mangle]
+pub extern "C" fn aff_lookup(
+    image: &[u8],
+    record: &[u64; 12],
+    strings: &[u32],
+    entries: &[u32],
+    path: &[u8],
+    node: &mut u64,
+) -> u32
+    ensures number { λ r. ⌜ r ≡ numberBy (lookupAnswer (now (image .entry)) (readerIn (now («record» .entry))) (now (strings .entry)) (now (entries .entry)) (now (path .entry))) ⌝ }
+    ensures node { λ _. ⌜ now (node .exit) ≡ leftBy (λ (n : ℕ). n) (now (node .entry)) (lookupAnswer (now (image .entry)) (readerIn (now («record» .entry))) (now (strings .entry)) (now (entries .entry)) (now (path .entry))) ⌝ }
+{
+    match aff_read::paths::lookup(image, reader_of(record), strings, entries, path) {
+        NumberAnswer::Value(found) => {
+            *node = found as u64;
+            0
+        }
+        NumberAnswer::Refused(refusal) => refusal.number(),
+    }
+}
+
+// Where the data of a node stand in the image, as `aff_read::node::view_bounds` tells.
+#[no_mangle]
+pub extern "C" fn aff_view(
+    image: &[u8],
+    record: &[u64; 12],
+    strings: &[u32],
+    entries: &[u32],
+    node: u64,
+    offset: &mut u64,
+    size: &mut u64,
+) -> u32
+    ensures number { λ r. ⌜ r ≡ numberBy (viewAnswer (now (image .entry)) (readerIn (now («record» .entry))) (now (strings .entry)) (now (entries .entry)) node) ⌝ }
+    ensures offset { λ _. ⌜ now (offset .exit) ≡ leftBy (λ (s : Span). s .offset) (now (offset .entry)) (viewAnswer (now (image .entry)) (readerIn (now («record» .entry))) (now (strings .entry)) (now (entries .entry)) node) ⌝ }
+    ensures size { λ _. ⌜ now (size .exit) ≡ leftBy (λ (s : Span). s .size) (now (size .entry)) (viewAnswer (now (image .entry)) (readerIn (now («record» .entry))) (now (strings .entry)) (now (entries .entry)) node) ⌝ }
+{
+    match aff_read::node::view_bounds(image, reader_of(record), strings, entries, node as usize) {
+        PartAnswer::At(span) => {
+            *offset = span.offset as u64;
+            *size = span.size as u64;
+            0
+        }
+        PartAnswer::Refused(refusal) => refusal.number(),
+    }
+}
+
+// One element of a node's data, as `aff_read::node::element` tells.
+#[no_mangle]
+pub extern "C" fn aff_element(
+    image: &[u8],
+    record: &[u64; 12],
+    strings: &[u32],
+    entries: &[u32],
+    node: u64,
+    index: u64,
+    value: &mut f64,
+    imaginary: &mut f64,
+) -> u32
+    ensures number { λ r. ⌜ r ≡ numberBy (elementAnswer (now (image .entry)) (readerIn (now («record» .entry))) (now (strings .entry)) (now (entries .entry)) node index) ⌝ }
+    ensures value { λ _. ⌜ now (value .exit) ≡ leftBy realPart (now (value .entry)) (elementAnswer (now (image .entry)) (readerIn (now («record» .entry))) (now (strings .entry)) (now (entries .entry)) node index) ⌝ }
+    ensures imaginary { λ _. ⌜ now (imaginary .exit) ≡ leftBy imaginaryPart (now (imaginary .entry)) (elementAnswer (now (image .entry)) (readerIn (now («record» .entry))) (now (strings .entry)) (now (entries .entry)) node index) ⌝ }
+{
+    let answer = aff_read::node::element(
+        image,
+        reader_of(record),
+        strings,
+        entries,
+        node as usize,
+        index as usize,
+    );
+    put_element(answer, value, imaginary)
+}
+
+// One element of data that the caller holds, as `aff_format::element::decode` tells; 255 where no kind has the code.
+#[no_mangle]
+pub extern "C" fn aff_decode(
+    kind: u64,
+    bytes: &[u8],
+    index: u64,
+    value: &mut f64,
+    imaginary: &mut f64,
+) -> u32
+    ensures number { λ r. ⌜ r ≡ numberBy (decodedAnswer kind (now (bytes .entry)) index) ⌝ }
+    ensures value { λ _. ⌜ now (value .exit) ≡ leftBy realPart (now (value .entry)) (decodedAnswer kind (now (bytes .entry)) index) ⌝ }
+    ensures imaginary { λ _. ⌜ now (imaginary .exit) ≡ leftBy imaginaryPart (now (imaginary .entry)) (decodedAnswer kind (now (bytes .entry)) index) ⌝ }
+{
+    match Kind::from_code(kind) {
+        FoundKind::Known(known) => put_element(
+            element::decode(known, bytes, index as usize),
+            value,
+            imaginary,
+        ),
+        FoundKind::Unknown => 255,
+    }
+}
