@@ -4,6 +4,7 @@ pub mod VerdictLaws
 pub mod LowestLaws
 pub mod EditionLaws
 pub mod BytesLaws
+pub mod CopyLaws
 pub mod SameLaws
 pub mod NumberLaws
 pub mod KindLaws

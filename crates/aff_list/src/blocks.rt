@@ -1,10 +1,10 @@
 // The lines of an image, block by block. The image is opened and every path measured first; then one block is filled after another.
+use aff_format::NumberAnswer;
 use aff_format::Refusal;
 use aff_format::Verdict;
 use aff_open::Opening;
 use aff_open::Reader;
 use aff_open::recorded;
-use aff_read::NumberAnswer;
 use aff_read::lister;
 use aff_read::paths;
 ghost use mathlib.Core.Path.{_≡_};

@@ -31,7 +31,7 @@ use Rattle.aff_open.proofs.TreeTableLaws.{tree-bytes, bytes-tree, entri
 
 -- ---- Strings without a zero byte, byte by byte.
 
-without-at : (l : List ℕ) → Without 0 l → (k : ℕ) → k < length l → getD l k 0 ≡ 0 → ⊥
+pub without-at : (l : List ℕ) → Without 0 l → (k : ℕ) → k < length l → getD l k 0 ≡ 0 → ⊥
 without-at [] w k h = absurd (omega arith)
 without-at (x ∷ l) w zero h = eqb-false x 0 (w .0)
 without-at (x ∷ l) w (suc k) h = without-at l (w .1) k (omega arith)

@@ -40,20 +40,3 @@ written-front w = (omega (arith, w .ends), w .area ∙ rw zero-add)
 
 pub written-taken : {end : ℕ} {x o p : List ℕ} → Written 0 x o p end → take end p ≡ x
 written-taken {end} {x} {o} w = let f = written-front w in rw (f .1) (take-at x (drop (length x) o) end (sym (f .0)))
-
--- A copy, number by number.
-module _ (at : ℕ) (text o : List ℕ) where
-  pub copy-start : Written at (take 0 text) o o (at + 0)
-  copy-start = record { ends = refl; area = sym (spliced-nil at o) }
-
-  module _ {i : ℕ} {p : List ℕ} (w : Written at (take i text) o p (at + i)) where
-    pub copy-next : i < length text → at + length text ≤ length o → Written at (take (i + 1) text) o (set p (at + i) (getD text i 0)) (at + (i + 1))
-    copy-next h fits =
-        let n : length (take i text) ≡ i = length-take-le i text (omega arith) in
-        let room : at + length (take i text) ≤ length o = omega arith in
-        let v = written-more w room (written-one (at + i) (getD text i 0) p (omega (arith, written-length w room))) in
-        let e : take i text ++ (getD text i 0 ∷ []) ≡ take (i + 1) text = rw add-one (sym (take-suc text i 0 h)) in
-        record { ends = omega (arith, v .ends, ap length e); area = v .area ∙ rw e }
-
-    pub copy-done : i ≤ length text → length text ≤ i → Written at text o p (at + i)
-    copy-done h g = let e : i ≡ length text = omega arith in written-same (ap (λ (n : ℕ). take n text) e ∙ take-length text) w

@@ -15,8 +15,6 @@ use Rattle.aff_open.specs.declared.reader.Reader.{Reader}
 use Rattle.aff_read.specs.Recall.{kindAt, countAt, nameSpan, dataSpan, spanBytes, bytesAt}
 use Rattle.aff_read.specs.declared.answers.KindAnswer.{KindAnswer}
 use Rattle.aff_read.specs.declared.answers.KindAnswer.the-variants as kind
-use Rattle.aff_read.specs.declared.answers.NumberAnswer.{NumberAnswer}
-use Rattle.aff_read.specs.declared.answers.NumberAnswer.the-variants as number
 use Rattle.aff_read.specs.declared.answers.PartAnswer.{PartAnswer}
 use Rattle.aff_read.specs.declared.answers.PartAnswer.the-variants as part
 
@@ -24,10 +22,6 @@ use Rattle.aff_read.specs.declared.answers.PartAnswer.the-variants as pa
 abbrev pub kindTold : KindAnswer → Answer Kind
 kindTold (kind.Value k) = accepted k
 kindTold (kind.Refused r) = refused (toldRefusal r)
-
-abbrev pub numberTold : NumberAnswer → Answer ℕ
-numberTold (number.Value n) = accepted n
-numberTold (number.Refused r) = refused (toldRefusal r)
 
 abbrev pub partTold : PartAnswer → Answer Span
 partTold (part.At s) = accepted s

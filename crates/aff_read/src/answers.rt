@@ -8,11 +8,6 @@ pub enum KindAnswer {
     Refused(Refusal),
 }
 
-pub enum NumberAnswer {
-    Value(usize),
-    Refused(Refusal),
-}
-
 // Where a part of the image stands.
 pub enum PartAnswer {
     At(Span),

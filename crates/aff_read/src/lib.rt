@@ -6,5 +6,4 @@ pub mod paths; // the path of a node, and lookup by path
 pub mod lister; // listing order, and a line of the lister
 
 pub use answers::KindAnswer;
-pub use answers::NumberAnswer;
 pub use answers::PartAnswer;

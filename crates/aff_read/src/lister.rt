@@ -1,8 +1,8 @@
 // Listing order, and a line of the lister.
-use crate::answers::NumberAnswer;
 use crate::node;
 use crate::paths;
 use aff_format::Kind;
+use aff_format::NumberAnswer;
 use aff_format::Refusal;
 use aff_format::Verdict;
 use aff_open::Reader;
@@ -17,7 +17,7 @@ ghost use Rattle.aff_format.specs.Limits.{nodeLimit};
 ghost use Rattle.aff_open.specs.Belongs.{Belongs, ParentsCopied};
 ghost use Rattle.aff_open.specs.Climb.{parentAt as parentIn};
 ghost use Rattle.aff_open.specs.Recorded.{recordedEntry};
-ghost use Rattle.aff_read.specs.Answers.{numberTold};
+ghost use Rattle.aff_format.specs.Verdict.{numberTold};
 ghost use Rattle.aff_read.specs.Calls.{frontWritten, childOf, childrenTo, preorder, order, listingAnswer, kindWord, decimal, lineAt, lineAnswer};
 ghost use Rattle.aff_read.specs.Recall.{pathAt};
 ghost use Rattle.aff_read.specs.Written.{Written, textAnswer};

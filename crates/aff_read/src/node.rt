@@ -1,9 +1,9 @@
 // Name, kind, count and data of a node.
 use crate::answers::KindAnswer;
-use crate::answers::NumberAnswer;
 use crate::answers::PartAnswer;
 use aff_format::ElementAnswer;
 use aff_format::Kind;
+use aff_format::NumberAnswer;
 use aff_format::Refusal;
 use aff_format::Verdict;
 use aff_format::element;
@@ -18,7 +18,8 @@ ghost use Rattle.aff_format.specs.Answer.{firstWrong};
 ghost use Rattle.aff_format.specs.Element.{elementTold, decoded};
 ghost use Rattle.aff_format.specs.Verdict.{verdictTold};
 ghost use Rattle.aff_open.specs.Belongs.{Belongs};
-ghost use Rattle.aff_read.specs.Answers.{kindTold, numberTold, partTold, partOf, nodeChecks, nameAnswer, kindAnswer, countAnswer, viewAnswer, elementAnswer};
+ghost use Rattle.aff_format.specs.Verdict.{numberTold};
+ghost use Rattle.aff_read.specs.Answers.{kindTold, partTold, partOf, nodeChecks, nameAnswer, kindAnswer, countAnswer, viewAnswer, elementAnswer};
 ghost use Rattle.aff_read.specs.Recall.{kindAt, countAt, nameSpan, dataSpan, spanBytes, bytesAt};
 
 // 24, 15: what every call on a node judges first.

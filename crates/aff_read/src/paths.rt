@@ -1,10 +1,10 @@
 // The path of a node, and lookup by path. A path is its parent's front, a slash and its own name; the root's front is empty.
-use crate::answers::NumberAnswer;
 use crate::node;
 use aff_format::Edition;
 use aff_format::FoundEdition;
 use aff_format::Grammar;
 use aff_format::Lowest;
+use aff_format::NumberAnswer;
 use aff_format::Refusal;
 use aff_format::Verdict;
 use aff_format::bytes;
@@ -22,7 +22,7 @@ ghost use Rattle.aff_format.specs.Tree.{frontBy};
 ghost use Rattle.aff_open.specs.Belongs.{Belongs};
 ghost use Rattle.aff_open.specs.Sections.{orTwo};
 ghost use Rattle.aff_open.specs.Tables.{nameFrom};
-ghost use Rattle.aff_read.specs.Answers.{numberTold};
+ghost use Rattle.aff_format.specs.Verdict.{numberTold};
 ghost use Rattle.aff_read.specs.Calls.{capped, EndsWith, pathAnswer, frontWritten, found, lookupAnswer};
 ghost use Rattle.aff_read.specs.Recall.{parentAt, nameAt, nameSpan, pathAt};
 ghost use Rattle.aff_read.specs.Written.{Written, textAnswer};
@@ -113,12 +113,8 @@ pub fn put(text: &[u8], at: usize, out: &mut [u8]) -> usize
     requires { ⌜ at + length (now text) ≤ length (now out) ⌝ }
     ensures { λ r. ⌜ Written at (now (text .entry)) (now (out .entry)) (now (out .exit)) r ⌝ }
 {
-    let mut i: usize = 0;
-    while i < text.len() {
-        out[at + i] = text[i];
-        i += 1;
-    }
-    at + i
+    bytes::put(out, at, text);
+    at + text.len()
 }
 
 // Stores a slash and a node's name from a place on. It answers where they end.

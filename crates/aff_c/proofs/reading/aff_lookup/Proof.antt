@@ -3,7 +3,7 @@ use borrow.Author.Needs.{needs}
 use mathlib.Core.Path.{_≡_, sym, ap, _∙_}
 use Prim.Native.Nat.{ℕ}
 use Rattle.aff_open.specs.declared.reader.Reader.{Reader}
-use Rattle.aff_read.specs.Answers.{numberTold}
+use Rattle.aff_format.specs.Verdict.{numberTold}
 use Rattle.aff_read.specs.Calls.{lookupAnswer}
 use Rattle.aff_c.specs.Reading.{readerIn}
 use Rattle.aff_c.proofs.ReadingLaws.{no-refusal, stored, its-number, kept}

@@ -5,7 +5,7 @@ use mathlib.Core.List.{[], _∷_}
 use Prim.Native.Nat.{_+_, _<_}
 use native.Mathlib.Omega.{arith}
 use lib.ListN.{length, length-append}
-use Rattle.aff_read.specs.Answers.{numberTold}
+use Rattle.aff_format.specs.Verdict.{numberTold}
 use Rattle.aff_read.specs.Calls.{lineAt}
 use Rattle.aff_list.specs.Lister.{row}
 use Rattle.aff_list.proofs.RowLaws.{behind-full, row-refused, row-room, feed-inside, row-written}

@@ -7,7 +7,7 @@ use native.Mathlib.Omega.{arith}
 use Prim.Native.Nat.{_+_, _-_, _<_}
 use lib.ListN.{length, length-append}
 use lib.Seq.{length-take-le}
-use Rattle.aff_read.specs.Answers.{numberTold}
+use Rattle.aff_format.specs.Verdict.{numberTold}
 use Rattle.aff_read.specs.Recall.{pathAt}
 use Rattle.aff_read.proofs.LineLaws.{behind-refused, text-fits, behind-written}
 use Rattle.aff_read.proofs.lister.with_path.Statement.{statement}
