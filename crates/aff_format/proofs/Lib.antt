@@ -3,6 +3,7 @@ pub mod AnswerLaws
 pub mod LowestLaws
 pub mod EditionLaws
 pub mod BytesLaws
+pub mod CopyLaws
 pub mod SameLaws
 pub mod NumberLaws
 pub mod KindLaws

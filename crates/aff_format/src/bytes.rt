@@ -1,6 +1,8 @@
-// Runs of bytes compared.
+// Runs of bytes.
 ghost use mathlib.Core.Path.{_≡_};
-ghost use Rattle.aff_format.specs.Bytes.{sameBytes};
+ghost use Prim.Native.Nat.{_+_, _≤_};
+ghost use lib.ListN.{length};
+ghost use Rattle.aff_format.specs.Bytes.{sameBytes, spliced};
 
 // Whether two runs are the same bytes.
 pub fn same(a: &[u8], b: &[u8]) -> bool
@@ -17,4 +19,16 @@ pub fn same(a: &[u8], b: &[u8]) -> bool
         i += 1;
     }
     true
+}
+
+// Stores a run from a place on.
+pub fn put(out: &mut [u8], at: usize, run: &[u8])
+    requires { ⌜ at + length (now run) ≤ length (now out) ⌝ }
+    ensures { λ _. ⌜ now (out .exit) ≡ spliced at (now (run .entry)) (now (out .entry)) ⌝ }
+{
+    let mut i: usize = 0;
+    while i < run.len() {
+        out[at + i] = run[i];
+        i += 1;
+    }
 }

@@ -4,9 +4,9 @@ pub mod edition; // the layout of each edition
 pub mod kind; // the types of a node
 pub mod refusal; // the numbers handed back
 pub mod limits; // the sizes that the library takes
-pub mod verdict; // the answer of a call without a value
+pub mod verdict; // answers of calls
 pub mod lowest; // the lowest number of which something holds
-pub mod bytes; // runs of bytes compared
+pub mod bytes; // runs of bytes
 pub mod number; // numbers in a file
 pub mod element; // one element of a node's data
 pub mod subkey; // the rule for a subkey
@@ -26,4 +26,5 @@ pub use refusal::Refusal;
 pub use refusal::Told;
 pub use section::Section;
 pub use subkey::Grammar;
+pub use verdict::NumberAnswer;
 pub use verdict::Verdict;
