@@ -43,7 +43,8 @@ pub fn put_signature(out: &mut [u8], form: [u8; 12])
 }
 
 // The header sum behind the front of a header.
-pub fn put_sum(out: &mut [u8; 168])
+pub fn put_sum(out: &mut [u8])
+    requires { ⌜ length (now out) ≡ 168 ⌝ }
     ensures { λ _. ⌜ now (out .exit) ≡ withSum (take 152 (now (out .entry))) ⌝ }
 {
     let sum = md5::md5(&out[..152]);
