@@ -71,9 +71,10 @@ fn with_data(writer: Writer, size: usize) -> Writer
     requires { ⌜ writer .«data» + size < 2147483648 ⌝ }
     ensures { λ r. ⌜ r ≡ record { length = writer .length; form = writer .form; strings = writer .strings; text = writer .text; nodes = writer .nodes; «data» = writer .«data» + size; live = writer .live } ⌝ }
 {
+    let form = writer.form;
     Writer {
         length: writer.length,
-        form: writer.form,
+        form,
         strings: writer.strings,
         text: writer.text,
         nodes: writer.nodes,
