@@ -1,13 +1,13 @@
 -- Putting data: the tests on the code's numbers are those of the promises, check by check, and the data lie inside the room. Assumes nothing.
 use mathlib.Core.Path.{_≡_, refl, sym, ap, _∙_}
-use mathlib.Core.Bool.{Bool, true, false, not, _||_, true≢false}
-use mathlib.Core.List.{List, [], _∷_, _++_}
-use Prim.Native.Nat.{ℕ, zero, suc, _+_, _*_, _/_, _%_, _≤_, _<_}
+use mathlib.Core.Bool.{Bool, true, false, not, true≢false}
+use mathlib.Core.List.{List}
+use Prim.Native.Nat.{ℕ, zero, suc, _+_, _/_, _%_, _≤_, _<_}
 use native.Mathlib.Omega.{arith}
-use lib.Dec.{eqb, ltb}
+use lib.Dec.{eqb}
 use lib.ListN.{length, take}
 use borrow.Author.Tests.{eq-eqb, ne-eqb, lt-ltb, le-ltb}
-use Rattle.aff_format.specs.Answer.{Answer, accepted, refused, refusal, firstWrong}
+use Rattle.aff_format.specs.Answer.{Answer, refused, refusal, firstWrong}
 use Rattle.aff_format.specs.Bytes.{spliced}
 use Rattle.aff_format.specs.Element.{countIn}
 use Rattle.aff_format.specs.Entry.{slotBytes}
@@ -18,11 +18,11 @@ use Rattle.aff_format.specs.declared.entry.Entry.{Entry}
 use Rattle.aff_format.specs.declared.kind.Kind.{Kind}
 use Rattle.aff_format.specs.declared.kind.Kind.the-variants.{Void, Char, Int, Double, Complex}
 use Rattle.aff_format.specs.declared.kind.FoundKind.{FoundKind}
-use Rattle.aff_format.specs.declared.kind.FoundKind.the-variants.{Known, Unknown}
+use Rattle.aff_format.specs.declared.kind.FoundKind.the-variants.{Known}
 use Rattle.aff_format.specs.declared.refusal.Refusal.{Refusal}
 use Rattle.aff_format.specs.declared.verdict.NumberAnswer.the-variants as answered
 use Rattle.aff_format.proofs.KindLaws.{countIn-div}
-use Rattle.aff_write.specs.Areas.{slotAt, slotEntry, entrySizes, finishedSize}
+use Rattle.aff_write.specs.Areas.{slotAt, slotEntry, finishedSize}
 use Rattle.aff_write.specs.Belongs.{Belongs}
 use Rattle.aff_write.specs.Put.{takesNone, wrongData, dataKind, putPlace, putStores, storeCheck, roomChecks, dataChecks, putEntry, putTree}
 use Rattle.aff_write.specs.Stores.{applyStores, storesFrom}

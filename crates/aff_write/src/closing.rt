@@ -17,9 +17,9 @@ ghost use Prim.Native.Nat.{_+_, _≤_};
 ghost use lib.ListN.{length, take, drop};
 ghost use Rattle.aff_format.specs.Answer.{firstWrong};
 ghost use Rattle.aff_format.specs.Bytes.{spliced};
-ghost use Rattle.aff_format.specs.Limits.{imageLimit, nodeLimit, textArea};
+ghost use Rattle.aff_format.specs.Limits.{imageLimit, textArea};
 ghost use Rattle.aff_format.specs.Verdict.{numberTold};
-ghost use Rattle.aff_write.specs.Areas.{usedText, entriesOut};
+ghost use Rattle.aff_write.specs.Areas.{entriesOut};
 ghost use Rattle.aff_write.specs.Belongs.{Belongs};
 ghost use Rattle.aff_write.specs.Close.{symbolsPlace, treePlace, closeHeader, closeStores, storeChecks, closeAnswer};
 ghost use Rattle.aff_write.specs.Header.{sectionHeader};
@@ -27,8 +27,8 @@ ghost use Rattle.aff_write.specs.Stores.{applyStores, storesFrom, roomAf
 ghost use Rattle.aff_write.specs.Writer.{written, stopped, writerAfter};
 
 // The headers of symbol and tree section in a header.
-fn put_tables(out: &mut [u8; 168], writer: Writer, symbols: &[u8], entries: &[u8])
-    requires { ⌜ (writer .«data» ≤ imageLimit) × (writer .text ≤ textArea) ⌝ }
+fn put_tables(out: &mut [u8], writer: Writer, symbols: &[u8], entries: &[u8])
+    requires { ⌜ (112 ≤ length (now out)) × (writer .«data» ≤ imageLimit) × (writer .text ≤ textArea) ⌝ }
     ensures { λ _. ⌜ now (out .exit) ≡ spliced 32 (sectionHeader written (symbolsPlace writer) (writer .strings) (now (symbols .entry)) ++ sectionHeader written (treePlace writer) (writer .nodes) (now (entries .entry))) (now (out .entry)) ⌝ }
 {
     let two = Edition::Two;
@@ -59,8 +59,9 @@ fn close_header(image: &[u8], writer: Writer, text: &[u8], tree: &[u8], entries:
     let used = writer.text;
     let from = two.header_size();
     let end = from + writer.data;
+    let form = writer.form;
     let full = areas::data_nodes(tree, writer.nodes);
-    header::put_signature(&mut out, writer.form);
+    header::put_signature(&mut out, form);
     put_tables(&mut out, writer, &text[..used], entries);
     header::put_section(
         &mut out,
@@ -80,15 +81,35 @@ fn store_file(
     at: usize,
     symbols: &[u8],
     entries: &[u8],
-    header: &[u8; 168],
+    header: &[u8],
     allowance: usize,
 ) -> usize
-    requires { ⌜ (168 ≤ length (now room)) × (at + length (now symbols) + length (now entries) ≤ length (now room)) ⌝ }
+    requires { ⌜ (168 ≤ length (now room)) × (length (now header) ≡ 168) × (at + length (now symbols) + length (now entries) ≤ length (now room)) ⌝ }
     ensures made { λ r. ⌜ r ≡ length (take allowance ((storesFrom at (now (symbols .entry)) ++ storesFrom (at + length (now (symbols .entry))) (now (entries .entry))) ++ (storesFrom 1 (drop 1 (now (header .entry))) ++ storesFrom 0 (take 1 (now (header .entry)))))) ⌝ }
     ensures room { λ _. ⌜ now (room .exit) ≡ applyStores (now (room .entry)) (take allowance ((storesFrom at (now (symbols .entry)) ++ storesFrom (at + length (now (symbols .entry))) (now (entries .entry))) ++ (storesFrom 1 (drop 1 (now (header .entry))) ++ storesFrom 0 (take 1 (now (header .entry)))))) ⌝ }
 {
     let body = store::store_both(room, at, symbols, at + symbols.len(), entries, allowance);
     body + store::store_both(room, 1, &header[1..168], 0, &header[0..1], allowance - body)
+}
+
+// Makes the header and stores the file, at most as many bytes as allowed. It answers how many it stored.
+fn store_closed(
+    image: &mut [u8],
+    writer: Writer,
+    text: &[u8],
+    tree: &[u8],
+    entries: &[u8],
+    allowance: usize,
+) -> usize
+    requires { ⌜ Belongs (length (now image)) writer (now text) (now tree) × (now entries ≡ entriesOut (now tree) (writer .nodes)) ⌝ }
+    ensures made { λ r. ⌜ r ≡ length (take allowance (closeStores (now (image .entry)) writer (now (text .entry)) (now (tree .entry)))) ⌝ }
+    ensures room { λ _. ⌜ now (image .exit) ≡ applyStores (now (image .entry)) (take allowance (closeStores (now (image .entry)) writer (now (text .entry)) (now (tree .entry)))) ⌝ }
+    ensures needed { λ _. ⌜ length (closeStores (now (image .entry)) writer (now (text .entry)) (now (tree .entry))) ≡ writer .text + length (now (entries .entry)) + 168 ⌝ }
+{
+    let used = writer.text;
+    let at = Edition::Two.header_size() + writer.data;
+    let header = close_header(image, writer, text, tree, entries);
+    store_file(image, at, &text[..used], entries, &header, allowance)
 }
 
 // 23, for a record that belongs and is open. All that is stored is made first; then it is stored as far as allowed.
@@ -104,20 +125,10 @@ fn close_open(
     ensures record { λ r. ⌜ r .writer ≡ stopped writer ⌝ }
     ensures room { λ r. ⌜ now (image .exit) ≡ roomAfter (numberTold (r .answer)) (closeStores (now (image .entry)) writer (now (text .entry)) (now (tree .entry))) (now (image .entry)) ⌝ }
 {
-    let used = writer.text;
-    let at = Edition::Two.header_size() + writer.data;
     let mut entries = [0u8; 51200];
     let size = areas::entries_out(tree, writer.nodes, &mut entries);
-    let header = close_header(image, writer, text, tree, &entries[..size]);
-    let made = store_file(
-        image,
-        at,
-        &text[..used],
-        &entries[..size],
-        &header,
-        allowance,
-    );
-    if made < used + size + 168 {
+    let made = store_closed(image, writer, text, tree, &entries[..size], allowance);
+    if made < writer.text + size + 168 {
         return writer::refused(Refusal::AllowanceSpent(made), writer.stopped());
     }
     Writing {

@@ -10,7 +10,7 @@ ghost use Rattle.aff_format.specs.Bytes.{spliced};
 ghost use Rattle.aff_format.specs.Edition.{signatureText};
 ghost use Rattle.aff_format.specs.declared.edition.Edition.the-variants.{Two};
 ghost use Rattle.aff_format.specs.Number.{beBytes};
-ghost use Rattle.aff_write.specs.Header.{sectionHeader, headerFront, withSum};
+ghost use Rattle.aff_write.specs.Header.{sectionHeader, withSum};
 
 // Offset, size and record count of a section, at a place.
 fn put_numbers(out: &mut [u8], at: usize, offset: usize, size: usize, count: usize)
@@ -35,7 +35,8 @@ pub fn put_section(out: &mut [u8], at: usize, offset: usize, count: usize, secti
 // The signature: its text and the 12 bytes of form.
 pub fn put_signature(out: &mut [u8], form: [u8; 12])
     requires { ⌜ 32 ≤ length (now out) ⌝ }
-    ensures { λ _. ⌜ now (out .exit) ≡ spliced 0 (signatureText Two ++ form) (now (out .entry)) ⌝ }
+    ensures area { λ _. ⌜ now (out .exit) ≡ spliced 0 (signatureText Two ++ form) (now (out .entry)) ⌝ }
+    ensures form { λ _. ⌜ length form ≡ 12 ⌝ }
 {
     let text = Edition::Two.signature_text();
     bytes::put(out, 0, &text);

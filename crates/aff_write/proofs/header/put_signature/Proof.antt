@@ -1,5 +1,8 @@
 -- `put_signature` meets its contract: the text, and the form behind it. Assumes nothing.
 use borrow.Author.Needs.{needs}
+use mathlib.Core.Path.{_≡_}
+use native.Mathlib.Omega.{arith}
+use lib.ListN.{length}
 use Rattle.aff_write.proofs.HeaderLaws.{signature-over}
 use Rattle.aff_write.proofs.header.put_signature.Statement.{statement}
 use Rattle.aff_write.proofs.header.put_signature.Tie as tie
@@ -10,8 +13,11 @@ returns c =
     let q = p .before .before .before .before .before in
     let t = q .before .before .before in
     let z = t .before .before in
-    signature-over (t .signature-text .result) (z .args .t2) (z .args .out .now) (q .put .last .0) (p .put2 .last .0)
-    (z .pre) (t .signature-text .ensures) (q .put .ensures) (p .put2 .ensures)
+    let n : length (z .args .t2) ≡ 12 = omega arith in (
+      signature-over (t .signature-text .result) (z .args .t2) (z .args .out .now) (q .put .last .0) (p .put2 .last .0)
+    (z .pre) (t .signature-text .ensures) (q .put .ensures) (p .put2 .ensures),
+      n,
+    )
 
 pub put-signature-spec : {M : Type 1} → statement M
 put-signature-spec =
