@@ -58,9 +58,10 @@ fn begun(room: usize, form: &[u8]) -> Writer
     requires { ⌜ length (now form) ≡ 12 ⌝ }
     ensures { λ r. ⌜ r ≡ begunWriter room (now (form .entry)) ⌝ }
 {
+    let bytes = form_of(form);
     Writer {
         length: room,
-        form: form_of(form),
+        form: bytes,
         strings: 0,
         text: 0,
         nodes: 0,
