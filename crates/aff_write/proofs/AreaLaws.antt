@@ -1,8 +1,8 @@
 -- Laws of the strings and nodes so far: one node more, and the sizes of the entries. By induction on the nodes. Assumes nothing.
 use mathlib.Core.Path.{_≡_, refl, sym, ap, _∙_}
 use mathlib.Core.Bool.{Bool, true, false, cond}
-use mathlib.Core.List.{List, [], _∷_, _++_}
-use Prim.Native.Nat.{ℕ, zero, suc, _+_, _-_, _*_, _≤_, _<_}
+use mathlib.Core.List.{List, _++_}
+use Prim.Native.Nat.{ℕ, zero, suc, _+_, _*_, _≤_, _<_}
 use native.Mathlib.Numerals.{add-one}
 use native.Mathlib.Omega.{arith}
 use lib.ListN.{length, take, drop, length-append}
@@ -10,7 +10,6 @@ use borrow.Author.Tests.{ne-eqb}
 use Rattle.aff_format.specs.Bytes.{spliced}
 use Rattle.aff_format.specs.Kind.{entrySize, isVoid}
 use Rattle.aff_format.specs.Limits.{nodeLimit, treeArea}
-use Rattle.aff_format.specs.declared.kind.Kind.{Kind}
 use Rattle.aff_format.proofs.BytesLaws.{length-part, spliced-next}
 use Rattle.aff_format.proofs.KindLaws.{entry-size-bounds}
 use Rattle.aff_open.specs.Recorded.{orNone}

@@ -8,7 +8,7 @@ use native.Mathlib.Omega.{arith}
 use lib.Dec.{eqb, ltb, leb}
 use lib.ListN.{length}
 use borrow.Author.Tests.{eq-eqb, le-leb, lt-leb, le-ltb, eqb-true, leb-true, leb-false, not-false}
-use Rattle.aff_format.specs.Answer.{Answer, accepted, refused, Check, check, refusal, firstWrong}
+use Rattle.aff_format.specs.Answer.{accepted, refused, Check, check, refusal, firstWrong}
 use Rattle.aff_format.specs.Kind.{elementSize, isVoid}
 use Rattle.aff_format.specs.Limits.{imageLimit, stringLimit, nodeLimit, textArea, treeArea}
 use Rattle.aff_format.specs.Lowest.{lowestFrom}

@@ -1,5 +1,4 @@
 // Begin.
-use crate::store;
 use crate::writer;
 use crate::writer::Writer;
 use crate::writer::Writing;

@@ -1,6 +1,6 @@
 -- `entry_sizes` meets its contract: what is counted is the definition's value for the first k nodes. The measure is the nodes left. Assumes nothing.
 use mathlib.Core.Path.{_≡_, refl, ap, _∙_}
-use Prim.Native.Nat.{ℕ, _+_, _-_, _*_, _≤_}
+use Prim.Native.Nat.{_-_, _*_, _≤_}
 use native.Mathlib.Omega.{arith}
 use borrow.Author.Needs.{needs}
 use Rattle.aff_write.specs.Areas.{entrySizes}

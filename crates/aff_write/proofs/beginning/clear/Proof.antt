@@ -1,12 +1,12 @@
 -- `clear` meets its contract: the first i bytes are zero. The measure is what is left of the length. Assumes nothing.
-use mathlib.Core.Path.{_≡_, refl, sym, ap, _∙_}
+use mathlib.Core.Path.{_≡_, refl, _∙_}
 use mathlib.Core.List.{append-nil, _++_}
-use Prim.Native.Nat.{ℕ, _-_, _≤_, _<_}
+use Prim.Native.Nat.{_-_, _≤_}
 use native.Mathlib.Omega.{arith}
 use lib.Seq.{drop-length}
-use lib.ListN.{length, drop, replicate, length-set, drop-of-length-le}
+use lib.ListN.{length, drop, replicate, length-set}
 use borrow.Author.Needs.{needs}
-use borrow.Author.Fill.{fill-none, fill-more}
+use borrow.Author.Fill.{fill-more}
 use Rattle.aff_write.proofs.beginning.clear.Statement.{statement}
 use Rattle.aff_write.proofs.beginning.clear.Tie as tie
 
