@@ -3,6 +3,8 @@ pub mod AreaLaws
 pub mod BelongsLaws
 pub mod StoreLaws
 pub mod SpentLaws
-pub mod HeaderLaws
+pub mod NameLaws
+pub mod MakeLaws
 pub mod PutLaws
+pub mod HeaderLaws
 pub mod CloseLaws
