@@ -1,2 +1,3 @@
 -- Laws of the definitions in specs/, which proofs of this crate and of those above cite.
 pub mod StoreLaws
+pub mod NameLaws
