@@ -6,6 +6,7 @@ use crate::writer::Writing;
 use aff_format::Edition;
 use aff_format::NumberAnswer;
 use aff_format::Refusal;
+use aff_format::bytes;
 use aff_format::limits;
 ghost use mathlib.Core.Path.{_≡_};
 ghost use lib.ListN.{length, replicate};
@@ -45,11 +46,7 @@ fn form_of(form: &[u8]) -> [u8; 12]
     ensures { λ r. ⌜ r ≡ now (form .entry) ⌝ }
 {
     let mut out = [0u8; 12];
-    let mut i: usize = 0;
-    while i < 12 {
-        out[i] = form[i];
-        i += 1;
-    }
+    bytes::put(&mut out, 0, form);
     out
 }
 
@@ -58,9 +55,10 @@ fn begun(room: usize, form: &[u8]) -> Writer
     requires { ⌜ length (now form) ≡ 12 ⌝ }
     ensures { λ r. ⌜ r ≡ begunWriter room (now (form .entry)) ⌝ }
 {
+    let bytes = form_of(form);
     Writer {
         length: room,
-        form: form_of(form),
+        form: bytes,
         strings: 0,
         text: 0,
         nodes: 0,

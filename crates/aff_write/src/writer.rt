@@ -43,9 +43,10 @@ impl Writer {
     pub fn stopped(self) -> Writer
         ensures { λ r. ⌜ r ≡ stopped self ⌝ }
     {
+        let form = self.form;
         Writer {
             length: self.length,
-            form: self.form,
+            form,
             strings: self.strings,
             text: self.text,
             nodes: self.nodes,
