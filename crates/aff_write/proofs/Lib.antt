@@ -1,4 +1,4 @@
--- Laws of the definitions in specs/, which the proofs of this crate cite.
+-- Laws of the definitions in specs/, which proofs of this crate and of those above cite.
 pub mod AreaLaws
 pub mod BelongsLaws
 pub mod StoreLaws

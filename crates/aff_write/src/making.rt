@@ -96,9 +96,10 @@ fn grown(writer: Writer, strings: usize, text: usize) -> Writer
     requires { ⌜ (writer .nodes < nodeLimit) × (writer .strings + strings < 2 ^ 63) × (writer .text + text < 2 ^ 63) ⌝ }
     ensures { λ r. ⌜ r ≡ record { length = writer .length; form = writer .form; strings = writer .strings + strings; text = writer .text + text; nodes = writer .nodes + 1; «data» = writer .«data»; live = writer .live } ⌝ }
 {
+    let form = writer.form;
     Writer {
         length: writer.length,
-        form: writer.form,
+        form,
         strings: writer.strings + strings,
         text: writer.text + text,
         nodes: writer.nodes + 1,

@@ -51,7 +51,7 @@ pub fn first_mark(marks: &[u8], count: usize) -> usize
 }
 
 // Whether a node is a child of the parent and its string is marked.
-fn is_marked(marks: &[u8; 2048], tree: &[u8], parent: usize, node: usize) -> bool
+fn is_marked(marks: &[u8], tree: &[u8], parent: usize, node: usize) -> bool
     requires { ⌜ node ≤ nodeLimit ⌝ }
     ensures { λ r. ⌜ r ≡ isMarked (now (marks .entry)) (now (tree .entry)) parent node ⌝ }
 {
@@ -60,14 +60,14 @@ fn is_marked(marks: &[u8; 2048], tree: &[u8], parent: usize, node: usize) -> boo
         return false;
     }
     let string = entry.string as usize;
-    if 2048 <= string {
+    if marks.len() <= string {
         return false;
     }
     marks[string] == 1
 }
 
 // Whether some node is a child of the parent and its string is marked. One entry read a node.
-pub fn any_marked(marks: &[u8; 2048], tree: &[u8], nodes: usize, parent: usize) -> bool
+pub fn any_marked(marks: &[u8], tree: &[u8], nodes: usize, parent: usize) -> bool
     requires { ⌜ nodes ≤ nodeLimit ⌝ }
     ensures { λ r. ⌜ r ≡ isAt (lowestFrom (isMarked (now (marks .entry)) (now (tree .entry)) parent) nodes 1) ⌝ }
 {
