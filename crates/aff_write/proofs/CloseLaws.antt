@@ -57,9 +57,9 @@ module _ (image : List ℕ) (writer : Writer) (text tree : List ℕ) where
       → l₁ ≡ spliced 0 (signatureText Two ++ writer .form) l₀
       → l₂
       ≡ spliced 32
-        (sectionHeader written (symbolsPlace writer) (writer .strings) (usedText writer text)
-        ++ sectionHeader written (treePlace writer) (writer .nodes) entries)
-        l₁
+      (sectionHeader written (symbolsPlace writer) (writer .strings) (usedText writer text)
+      ++ sectionHeader written (treePlace writer) (writer .nodes) entries)
+      l₁
       → l₃ ≡ spliced p (sectionHeader Two from full bytes) l₂ → l₄ ≡ withSum (take 152 l₃) → l₄ ≡ closeHeader image writer text tree
   unfolding closeHeader
   header-over entries bytes p from full l₀ l₁ l₂ l₃ l₄ f n he hb hp hf hn h₁ h₂ h₃ h₄ =
@@ -152,11 +152,12 @@ module _ (at : ℕ) (symbols entries header : List ℕ) (allowance first second 
   second-room : room₂ ≡ applyStores room₁ (take (allowance - first) (headStores header))
   second-room = r₂ ∙ ap (λ (s : List Store). applyStores room₁ (take (allowance - first) s)) behind-first
 
-  pub file-made : first + second ≡ length (take allowance (bodyStores at symbols entries ++ headStores header))
-  file-made = two-made (bodyStores at symbols entries) (headStores header) allowance first second room₀ room₁ room₂ m₁ r₁ second-made second-room
-
-  pub file-room : room₂ ≡ applyStores room₀ (take allowance (bodyStores at symbols entries ++ headStores header))
-  file-room = two-room (bodyStores at symbols entries) (headStores header) allowance first second room₀ room₁ room₂ m₁ r₁ second-made second-room
+  pub file-stored : (first + second ≡ length (take allowance (bodyStores at symbols entries ++ headStores header)))
+      × (room₂ ≡ applyStores room₀ (take allowance (bodyStores at symbols entries ++ headStores header)))
+  file-stored = (
+    two-made (bodyStores at symbols entries) (headStores header) allowance first second room₀ room₁ room₂ m₁ r₁ second-made second-room,
+    two-room (bodyStores at symbols entries) (headStores header) allowance first second room₀ room₁ room₂ m₁ r₁ second-made second-room,
+  )
 
   pub file-most : first + second ≤ allowance
-  file-most = omega (arith, file-made, length-take-most allowance (bodyStores at symbols entries ++ headStores header))
+  file-most = omega (arith, file-stored .0, length-take-most allowance (bodyStores at symbols entries ++ headStores header))

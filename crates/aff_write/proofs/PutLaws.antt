@@ -7,12 +7,13 @@ use native.Mathlib.Omega.{arith}
 use lib.Dec.{eqb}
 use lib.ListN.{length, take}
 use borrow.Author.Tests.{eq-eqb, ne-eqb, lt-ltb, le-ltb}
-use Rattle.aff_format.specs.Answer.{Answer, refused, refusal, firstWrong}
+use Rattle.aff_format.specs.Answer.{Answer, refused, Check, refusal, firstWrong}
 use Rattle.aff_format.specs.Bytes.{spliced}
 use Rattle.aff_format.specs.Element.{countIn}
 use Rattle.aff_format.specs.Entry.{slotBytes}
 use Rattle.aff_format.specs.Kind.{kindOf, elementSize, isVoid}
 use Rattle.aff_format.specs.Limits.{imageLimit, nodeLimit, textArea}
+use Rattle.aff_format.specs.Refusal.{toldRefusal}
 use Rattle.aff_format.specs.Verdict.{numberTold}
 use Rattle.aff_format.specs.declared.entry.Entry.{Entry}
 use Rattle.aff_format.specs.declared.kind.Kind.{Kind}
@@ -25,10 +26,11 @@ use Rattle.aff_format.proofs.KindLaws.{countIn-div}
 use Rattle.aff_write.specs.Areas.{slotAt, slotEntry, finishedSize}
 use Rattle.aff_write.specs.Belongs.{Belongs}
 use Rattle.aff_write.specs.Put.{takesNone, wrongData, dataKind, putPlace, putStores, storeCheck, roomChecks, dataChecks, putEntry, putTree}
-use Rattle.aff_write.specs.Stores.{applyStores, storesFrom}
-use Rattle.aff_write.specs.Writer.{areaAfter}
+use Rattle.aff_write.specs.Stores.{Store, applyStores, storesFrom, roomAfter}
+use Rattle.aff_write.specs.Writer.{writerAfter, areaAfter}
 use Rattle.aff_write.specs.declared.writer.Writer.{Writer}
 use Rattle.aff_write.specs.declared.writer.Writing.{Writing}
+use Rattle.aff_write.proofs.SpentLaws.{told-refused}
 use Rattle.aff_write.proofs.StoreLaws.{length-storesFrom, take-storesFrom}
 
 -- 18.
@@ -141,3 +143,14 @@ stores-room writer at allowance bytes room₀ room₁ e r = r ∙ ap (λ (n : �
 pub area-kept : (q : Refusal) (given : Writer) (w : Writing) (area next : List ℕ) → w ≡ record { answer = answered.Refused q; writer = given }
     → area ≡ areaAfter (numberTold (w .answer)) next area
 area-kept q given w area next e = rw e
+
+-- A refusal other than 23 leaves record, room and tree area.
+pub put-refused : (checks : List Check) (stores : List Store) (next given : Writer) (room tree nextTree : List ℕ) (q : Refusal) (w : Writing)
+    → w ≡ record { answer = answered.Refused q; writer = given } → eqb (toldRefusal q .number) 23 ≡ false
+    → refused (toldRefusal q) ≡ firstWrong checks (length stores)
+    → (numberTold (w .answer) ≡ firstWrong checks (length stores))
+    × ((w .writer ≡ writerAfter (numberTold (w .answer)) next given)
+    × ((room ≡ roomAfter (numberTold (w .answer)) stores room) × (tree ≡ areaAfter (numberTold (w .answer)) nextTree tree)))
+put-refused checks stores next given room tree nextTree q w e o h =
+    let g = told-refused checks stores next given room q w e o h in
+    (g .0, (g .1 .0, (g .1 .1, area-kept q given w tree nextTree e)))

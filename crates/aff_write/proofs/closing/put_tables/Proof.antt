@@ -8,15 +8,21 @@ use Rattle.aff_write.proofs.closing.put_tables.Tie as tie
 
 returns : tie.Need-returns
 returns c =
-    let z = c .before .before .before .before .before .before .before .before .before .before .before .before .before .before .before .before in
-    let w = z .args .writer in
-    let s = c .before .before .before .before .before .before .before .before in
-    let t = c .before .before in
-    let h = c .before .before .before .before .before .before .before .before .before .before .before .before .header-size in
-    tables-over w (z .args .symbols .now) (z .args .entries .now) (c .before .before .before .before .before .before .before .before .before .section-header-at .result) (c .before .before .before .before .section-header-at2 .result)
-    (h .result + w .«data») (z .args .out .now) (s .put-section .last .0) (t .put-section2 .last .0) (z .pre .0)
-    (c .before .before .before .before .before .before .before .before .before .section-header-at .ensures) (c .before .before .before .before .section-header-at2 .ensures) (ap (λ (n : ℕ). n + w .«data») (h .ensures))
-    (s .put-section .ensures) (t .put-section2 .ensures)
+    let c2 = c .before .before in
+    let c4 = c2 .before .before in
+    let c8 = c4 .before .before .before .before in
+    let c9 = c8 .before in
+    let c12 = c9 .before .before .before in
+    let c16 = c12 .before .before .before .before in
+    let w = c16 .args .writer in
+    let h = c12 .header-size in
+    tables-over w (c16 .args .symbols .now) (c16 .args .entries .now) (c9 .section-header-at .result) (c4 .section-header-at2 .result)
+    (h .result + w .«data») (c16 .args .out .now) (c8 .put-section .last .0) (c2 .put-section2 .last .0) (c16 .pre .0)
+    (c9 .section-header-at .ensures) (c4 .section-header-at2 .ensures) (ap (λ (n : ℕ). n + w .«data») (h .ensures))
+    (c8 .put-section .ensures) (c2 .put-section2 .ensures)
 
 pub put-tables-spec : {M : Type 1} → statement M
-put-tables-spec = tie.close (tie.spec (λ c κs. search needs) (λ c. search needs) (λ c κs. search needs) (λ c κs. search needs) (λ c κs. search needs) (λ c. search needs) (λ c κs. search needs) (λ c. search needs) returns)
+put-tables-spec =
+    tie.close
+    (tie.spec (λ c κs. search needs) (λ c. search needs) (λ c κs. search needs) (λ c κs. search needs) (λ c κs. search needs)
+    (λ c. search needs) (λ c κs. search needs) (λ c. search needs) returns)

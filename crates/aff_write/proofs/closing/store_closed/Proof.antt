@@ -13,39 +13,53 @@ use Rattle.aff_write.proofs.closing.store_closed.Tie as tie
 
 add-at : tie.Need-add-at
 add-at c =
-    omega (arith, c .before .header-size .ensures, sizes-small (c .before .before .before .before .before .before .pre .0) .0)
+    let c6 = c .before .before .before .before .before .before in
+    omega (arith, c .before .header-size .ensures, sizes-small (c6 .pre .0) .0)
 
 slice-aggregate-store-file : tie.Need-slice-aggregate-store-file
 slice-aggregate-store-file c =
-    sym (used-length (c .before .before .before .before .before .before .before .before .before .before .pre .0))
+    let c10 = c .before .before .before .before .before .before .before .before .before .before in
+    sym (used-length (c10 .pre .0))
 
 store-file-requires : tie.Need-store-file-requires
 store-file-requires c κs =
-    let z = c .before .before .before .before .before .before .before .before .before .before .before in
-    let w = z .args .writer in
-    let b = z .pre .0 in
+    let c3 = c .before .before .before in
+    let c6 = c3 .before .before .before in
+    let c11 = c6 .before .before .before .before .before in
+    let w = c11 .args .writer in
+    let b = c11 .pre .0 in
     let f = closed-fits b in
-    let h = c .before .before .before .before .before .before .header-size in
+    let h = c6 .header-size in
     let u = used-length b in
-    let i : 168 ≤ length (z .args .image .now) = omega (arith, f .0) in
-    let k : length (c .before .before .before .close-header .result) ≡ 168 = omega arith in
-    let n : h .result + w .«data» + length (take (w .text) (z .args .text .now)) + length (z .args .entries .now) ≤ length (z .args .image .now) =
-    omega (arith, f .0, u, h .ensures, ap length (z .pre .1)) in
+    let i : 168 ≤ length (c11 .args .image .now) = omega (arith, f .0) in
+    let k : length (c3 .close-header .result) ≡ 168 = omega arith in
+    let n : h .result + w .«data» + length (take (w .text) (c11 .args .text .now)) + length (c11 .args .entries .now) ≤ length (c11 .args .image .now) =
+    omega (arith, f .0, u, h .ensures, ap length (c11 .pre .1)) in
     (i, k, n)
 
 returns : tie.Need-returns
 returns c =
-    let z = c .before .before .before .before .before .before .before .before .before .before .before .before .before .before in
-    let w = z .args .writer in
-    let i = z .args .image .now in
-    let e = c .before .before .store-file .ensures in
-    let h = c .before .before .before .before .before .before .before .before .before .header-size in
-    let s = stores-closed i w (z .args .text .now) (z .args .tree .now) (h .result + w .«data») (take (w .text) (z .args .text .now)) (z .args .entries .now)
-    (c .before .before .before .before .before .before .close-header .result) (ap (λ (n : ℕ). n + w .«data») (h .ensures)) refl (used-length (z .pre .0)) (z .pre .1) (c .before .before .before .before .before .before .close-header .ensures) in
-    let k : length (c .before .before .before .before .before .before .close-header .result) ≡ 168 = omega arith in
-    let n = length-closeStores i w (z .args .text .now) (z .args .tree .now) (used-length (z .pre .0)) (sym (ap length (c .before .before .before .before .before .before .close-header .ensures)) ∙ k) in
-    (e .0 ∙ ap (λ (x : List Store). length (take (z .args .allowance) x)) s, (e .1 ∙ ap (λ (x : List Store). applyStores i (take (z .args .allowance) x)) s,
-    n ∙ ap (λ (x : List ℕ). w .text + length x + 168) (sym (z .pre .1))))
+    let c2 = c .before .before in
+    let c6 = c2 .before .before .before .before in
+    let c9 = c6 .before .before .before in
+    let c14 = c9 .before .before .before .before .before in
+    let w = c14 .args .writer in
+    let i = c14 .args .image .now in
+    let e = c2 .store-file .ensures in
+    let h = c9 .header-size in
+    let s = stores-closed i w (c14 .args .text .now) (c14 .args .tree .now) (h .result + w .«data») (take (w .text) (c14 .args .text .now)) (c14 .args .entries .now)
+    (c6 .close-header .result) (ap (λ (n : ℕ). n + w .«data») (h .ensures)) refl (used-length (c14 .pre .0)) (c14 .pre .1) (c6 .close-header .ensures) in
+    let k : length (c6 .close-header .result) ≡ 168 = omega arith in
+    let n = length-closeStores i w (c14 .args .text .now) (c14 .args .tree .now) (used-length (c14 .pre .0)) (sym (ap length (c6 .close-header .ensures)) ∙ k) in (
+      e .0 ∙ ap (λ (x : List Store). length (take (c14 .args .allowance) x)) s,
+      (
+        e .1 ∙ ap (λ (x : List Store). applyStores i (take (c14 .args .allowance) x)) s,
+        n ∙ ap (λ (x : List ℕ). w .text + length x + 168) (sym (c14 .pre .1)),
+      ),
+    )
 
 pub store-closed-spec : {M : Type 1} → statement M
-store-closed-spec = tie.close (tie.spec (λ c κs. search needs) add-at (λ c κs. search needs) slice-aggregate-store-file (λ c. search needs) store-file-requires (λ c. search needs) returns)
+store-closed-spec =
+    tie.close
+    (tie.spec (λ c κs. search needs) add-at (λ c κs. search needs) slice-aggregate-store-file (λ c. search needs)
+    store-file-requires (λ c. search needs) returns)

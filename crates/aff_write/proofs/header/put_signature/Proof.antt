@@ -15,10 +15,12 @@ returns c =
     let z = t .before .before in
     let n : length (z .args .t2) ≡ 12 = omega arith in (
       signature-over (t .signature-text .result) (z .args .t2) (z .args .out .now) (q .put .last .0) (p .put2 .last .0)
-    (z .pre) (t .signature-text .ensures) (q .put .ensures) (p .put2 .ensures),
+          (z .pre) (t .signature-text .ensures) (q .put .ensures) (p .put2 .ensures),
       n,
     )
 
 pub put-signature-spec : {M : Type 1} → statement M
 put-signature-spec =
-    tie.close (tie.spec (λ c κs. search needs) (λ c. search needs) (λ c κs. search needs) (λ c. search needs) (λ c κs. search needs) (λ c. search needs) returns)
+    tie.close
+    (tie.spec (λ c κs. search needs) (λ c. search needs) (λ c κs. search needs) (λ c. search needs) (λ c κs. search needs)
+    (λ c. search needs) returns)

@@ -21,4 +21,6 @@ returns c =
 
 pub put-sum-spec : {M : Type 1} → statement M
 put-sum-spec =
-    tie.close (tie.spec (λ c. search needs) slice-aggregate-md5 (λ c κs. search needs) (λ c. search needs) (λ c κs. search needs) (λ c. search needs) returns)
+    tie.close
+    (tie.spec (λ c. search needs) slice-aggregate-md5 (λ c κs. search needs) (λ c. search needs) (λ c κs. search needs)
+    (λ c. search needs) returns)

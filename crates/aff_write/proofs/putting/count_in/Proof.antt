@@ -12,7 +12,8 @@ div-result c =
 
 returns : tie.Need-returns
 returns c =
-    count-divided (c .before .before .args .kind) (c .before .before .args .bytes .now) (c .element-size .result) (c .before .before .pre) (c .element-size .ensures)
+    let c2 = c .before .before in
+    count-divided (c2 .args .kind) (c2 .args .bytes .now) (c .element-size .result) (c2 .pre) (c .element-size .ensures)
 
 pub count-in-spec : {M : Type 1} → statement M
 count-in-spec = tie.close (tie.spec (λ c κs. search needs) div-result returns)

@@ -12,14 +12,22 @@ use Rattle.aff_write.proofs.putting.fill_slot.Tie as tie
 
 returns : tie.Need-returns
 returns c =
-    let a = c .before .before .before .before .before .before .before .before .before .before .before .args in
-    let h = c .before .before .before .before .before .header-size in
-    let n = c .before .before .before .before .before .before .count-in in
-    let s = c .before .before .before .before .before .before .before .slot-entry in
-    c .before .before .put-slot .ensures
+    let c2 = c .before .before in
+    let c5 = c2 .before .before .before in
+    let c6 = c5 .before in
+    let c7 = c6 .before in
+    let c11 = c7 .before .before .before .before in
+    let a = c11 .args in
+    let h = c5 .header-size in
+    let n = c6 .count-in in
+    let s = c7 .slot-entry in
+    c2 .put-slot .ensures
     ∙ ap (λ (e : Entry). spliced (slotAt (a .node)) (slotBytes e) (a .tree .now))
     (entry-filled (a .writer) (a .tree .now) (a .node) (a .kind) (a .bytes .now) (s .result) (n .result) (h .result + a .writer .«data»)
     (s .ensures) (n .ensures .0) (ap (λ (k : ℕ). k + a .writer .«data») (h .ensures)))
 
 pub fill-slot-spec : {M : Type 1} → statement M
-fill-slot-spec = tie.close (tie.spec (λ c κs. search needs) (λ c κs. search needs) (λ c. search needs) (λ c κs. search needs) (λ c. search needs) (λ c κs. search needs) (λ c. search needs) returns)
+fill-slot-spec =
+    tie.close
+    (tie.spec (λ c κs. search needs) (λ c κs. search needs) (λ c. search needs) (λ c κs. search needs) (λ c. search needs)
+    (λ c κs. search needs) (λ c. search needs) returns)
