@@ -1,0 +1,270 @@
+-- 24 for the writer: the test in the order of the passes, the test and document 01's clauses (both ways), and what `judge` says to its
+-- callers. Node by node: an entry is lost, or has all that the clauses ask. Assumes nothing.
+use mathlib.Core.Path.{_≡_, refl, sym, ap, _∙_}
+use mathlib.Core.Bool.{Bool, true, false, not, _&&_, _||_, and-false, and-eq-true-iff, true≢false, false≢true}
+use mathlib.Core.List.{List, [], _∷_, _++_}
+use Prim.Native.Nat.{ℕ, _+_, _*_, _≤_, _<_}
+use native.Mathlib.Omega.{arith}
+use lib.Dec.{eqb, ltb, leb}
+use lib.ListN.{length}
+use borrow.Author.Tests.{eq-eqb, le-leb, lt-leb, le-ltb, eqb-true, leb-true, leb-false, not-false}
+use Rattle.aff_format.specs.Answer.{accepted, refused, Check, check, refusal, firstWrong}
+use Rattle.aff_format.specs.Kind.{elementSize, isVoid}
+use Rattle.aff_format.specs.Limits.{imageLimit, stringLimit, nodeLimit, textArea, treeArea}
+use Rattle.aff_format.specs.Lowest.{lowestFrom}
+use Rattle.aff_format.specs.Refusal.{toldRefusal}
+use Rattle.aff_format.specs.Strings.{endsInZero, zerosIn}
+use Rattle.aff_format.specs.Verdict.{verdictTold}
+use Rattle.aff_format.specs.declared.entry.Entry.{Entry}
+use Rattle.aff_format.specs.declared.entry.FoundEntry.{FoundEntry}
+use Rattle.aff_format.specs.declared.entry.FoundEntry.the-variants.{Whole, Broken}
+use Rattle.aff_format.specs.declared.lowest.Lowest.{Lowest}
+use Rattle.aff_format.specs.declared.lowest.Lowest.the-variants.{Nothing, At}
+use Rattle.aff_format.specs.declared.refusal.Refusal.{Refusal}
+use Rattle.aff_format.specs.declared.refusal.Told.{Told}
+use Rattle.aff_format.specs.declared.verdict.Verdict.{Verdict}
+use Rattle.aff_format.specs.declared.verdict.Verdict.the-variants.{Accepted, Refused}
+use Rattle.aff_format.proofs.AnswerLaws.{not-both, passed, refused-before, passed-before}
+use Rattle.aff_format.proofs.LowestLaws.{none-holds, holds-none}
+use Rattle.aff_format.proofs.StringsLaws.{strings-zeros}
+use Rattle.aff_open.specs.Belongs.{noneLost}
+use Rattle.aff_open.specs.Nodes.{isAt, noString, outside}
+use Rattle.aff_open.specs.Recorded.{orNone}
+use Rattle.aff_open.proofs.LostLaws.{data-within}
+use Rattle.aff_write.specs.Areas.{usedText, namesIn, foundSlot, slotEntry, entrySizes, finishedSize}
+use Rattle.aff_write.specs.Belongs.{belongs, Belongs, sizesBelong, textBelongs, slotLost, nodeLost, nodesBelong, writerChecks}
+use Rattle.aff_write.specs.Stores.{Store, applyStores, roomAfter}
+use Rattle.aff_write.specs.Writer.{dataPlace, noWriter, writerAfter}
+use Rattle.aff_write.specs.declared.writer.Writer.{Writer}
+use Rattle.aff_write.proofs.AreaLaws.{slot-found}
+
+-- ---- Tests in a row.
+
+both : (a b : Bool) → (a && b) ≡ true → (a ≡ true) × (b ≡ true)
+both a b = and-eq-true-iff a b .0
+
+all-seven : (a b c d e f g : Bool) → (a && (b && (c && (d && (e && (f && g)))))) ≡ true
+    → (a ≡ true) × (b ≡ true) × (c ≡ true) × (d ≡ true) × (e ≡ true) × (f ≡ true) × (g ≡ true)
+all-seven a b c d e f g h =
+    let p = both a (b && (c && (d && (e && (f && g))))) h in
+    let q = both b (c && (d && (e && (f && g)))) (p .1) in
+    let r = both c (d && (e && (f && g))) (q .1) in
+    let s = both d (e && (f && g)) (r .1) in
+    let t = both e (f && g) (s .1) in
+    let u = both f g (t .1) in
+    (p .0, q .0, r .0, s .0, t .0, u .0, u .1)
+
+none-lost : (l : Lowest) → not (isAt l) ≡ true → l ≡ Nothing
+none-lost Nothing h = refl
+none-lost (At k) h = absurd (false≢true h)
+
+-- ---- The test in the order of the passes.
+
+module _ (room : ℕ) (writer : Writer) (text tree : List ℕ) where
+  pub sizes-decide : sizesBelong room writer text tree ≡ false → belongs room writer text tree ≡ false
+  unfolding belongs
+  sizes-decide h = rw h
+
+  pub text-decides : textBelongs writer text ≡ false → belongs room writer text tree ≡ false
+  unfolding belongs
+  text-decides h = rw (h, and-false)
+
+  pub nodes-decide : sizesBelong room writer text tree ≡ true → textBelongs writer text ≡ true → belongs room writer text tree ≡ nodesBelong writer tree
+  unfolding belongs
+  nodes-decide h g = rw (h, g)
+
+  pub count-decides : room ≡ writer .length → writer .length ≤ imageLimit → length text ≡ textArea → length tree ≡ treeArea
+      → writer .strings ≤ stringLimit → writer .text ≤ textArea → sizesBelong room writer text tree ≡ leb (writer .nodes) nodeLimit
+  unfolding sizesBelong
+  count-decides a b c d e f =
+      rw (
+        eq-eqb room (writer .length) a,
+        le-leb (writer .length) imageLimit b,
+        eq-eqb (length text) textArea c,
+        eq-eqb (length tree) treeArea d,
+        le-leb (writer .strings) stringLimit e,
+        le-leb (writer .text) textArea f,
+      )
+
+  pub sizes-hold : sizesBelong room writer text tree ≡ true
+      → (room ≡ writer .length) × (writer .length ≤ imageLimit) × (length text ≡ textArea) × (length tree ≡ treeArea)
+      × (writer .strings ≤ stringLimit) × (writer .text ≤ textArea) × (writer .nodes ≤ nodeLimit)
+  unfolding sizesBelong
+  sizes-hold h =
+      let p = all-seven (eqb room (writer .length)) (leb (writer .length) imageLimit) (eqb (length text) textArea)
+      (eqb (length tree) treeArea) (leb (writer .strings) stringLimit) (leb (writer .text) textArea) (leb (writer .nodes) nodeLimit) h in
+      (eqb-true _ _ (p .0), leb-true _ _ (p .1), eqb-true _ _ (p .2), eqb-true _ _ (p .3), leb-true _ _ (p .4), leb-true _ _ (p .5), leb-true _ _ (p .6))
+
+-- The zeros are counted where the text ends in one.
+pub unended-decides : (writer : Writer) (text : List ℕ) → endsInZero (usedText writer text) ≡ false → textBelongs writer text ≡ false
+unfolding textBelongs
+unended-decides writer text h = rw h
+
+pub zeros-decide : (writer : Writer) (text : List ℕ) → endsInZero (usedText writer text) ≡ true
+    → textBelongs writer text ≡ eqb (zerosIn (usedText writer text)) (writer .strings)
+unfolding textBelongs
+zeros-decide writer text h = rw (h, strings-zeros (usedText writer text) h)
+
+module _ (writer : Writer) (tree : List ℕ) where
+  pub lost-decides : {k : ℕ} → lowestFrom (nodeLost (writer .strings) (writer .«data») tree) (writer .nodes) 1 ≡ At k → nodesBelong writer tree ≡ false
+  unfolding nodesBelong
+  lost-decides h = rw h
+
+  pub size-decides : lowestFrom (nodeLost (writer .strings) (writer .«data») tree) (writer .nodes) 1 ≡ Nothing
+      → nodesBelong writer tree ≡ leb (finishedSize writer tree) (writer .length)
+  unfolding nodesBelong
+  size-decides h = rw h
+
+  -- The finished size has no room where header and data have none.
+  pub data-decide : writer .length < dataPlace + writer .«data» → nodesBelong writer tree ≡ false
+  unfolding nodesBelong finishedSize
+  data-decide h =
+      rw (lt-leb (dataPlace + writer .«data» + writer .text + entrySizes tree (writer .nodes)) (writer .length) (omega arith), and-false)
+
+-- ---- Nodes.
+
+-- What an entry has that is not lost, and back.
+pub record Kept (strings size k : ℕ) (e : Entry) : Type 0 where
+  pub parent : e .parent < k
+  pub string : e .string < strings
+  pub inside : isVoid (e .kind) ≡ false → (dataPlace ≤ e .offset) × (e .offset + e .count * elementSize (e .kind) ≤ dataPlace + size)
+
+module _ (strings size k : ℕ) (e : Entry) where
+  slot-facts : (p s : Bool) → leb k (e .parent) ≡ p → noString strings e ≡ s → (p || (s || outside dataPlace size e)) ≡ false → Kept strings size k e
+  slot-facts true s p q h = absurd (true≢false h)
+  slot-facts false true p q h = absurd (true≢false h)
+  slot-facts false false p q h = record { parent = leb-false _ _ p; string = leb-false _ _ q; inside = data-within dataPlace size e h }
+
+  within : (v : Bool) → isVoid (e .kind) ≡ v
+      → (isVoid (e .kind) ≡ false → (dataPlace ≤ e .offset) × (e .offset + e .count * elementSize (e .kind) ≤ dataPlace + size))
+      → (not v && (ltb (e .offset) dataPlace || ltb (dataPlace + size) (e .offset + e .count * elementSize (e .kind)))) ≡ false
+  within true v h = refl
+  within false v h =
+      let q = h v in
+      rw (le-ltb (e .offset) dataPlace (q .0), le-ltb (dataPlace + size) (e .offset + e .count * elementSize (e .kind)) (q .1))
+
+  pub kept-slot : (f : FoundEntry) → f ≡ Whole e → Kept strings size k e → slotLost strings size k f ≡ false
+  unfolding outside
+  kept-slot f q w =
+      rw (q, lt-leb k (e .parent) (w .parent), lt-leb strings (e .string) (w .string)) (within (isVoid (e .kind)) refl (w .inside))
+
+pub slot-kept : (strings size k : ℕ) (f : FoundEntry) → slotLost strings size k f ≡ false
+    → (f ≡ Whole (orNone f)) × Kept strings size k (orNone f)
+slot-kept strings size k Broken h = absurd (true≢false h)
+slot-kept strings size k (Whole e) h =
+    (refl, slot-facts strings size k e (leb k (e .parent)) (noString strings e) refl refl h)
+
+-- A node by what stands in its slot.
+pub node-judged : (strings size : ℕ) (tree : List ℕ) (k : ℕ) {f : FoundEntry} {r b : Bool} → f ≡ foundSlot tree k → r ≡ slotLost strings size k f → r ≡ b
+    → nodeLost strings size tree k ≡ b
+unfolding nodeLost
+node-judged strings size tree k found t h = rw (← found) (sym t ∙ h)
+
+-- Where the lowest that is lost is none, each entry is whole and has no fault.
+pub nodes-kept : (strings size nodes : ℕ) (tree : List ℕ) → lowestFrom (nodeLost strings size tree) nodes 1 ≡ Nothing → (k : ℕ) → 0 < k → k ≤ nodes
+    → (foundSlot tree k ≡ Whole (slotEntry tree k)) × Kept strings size k (slotEntry tree k)
+unfolding nodeLost
+nodes-kept strings size nodes tree none k l h =
+    rw (slot-found tree k l)
+    (slot-kept strings size k (foundSlot tree k) (none-holds (nodeLost strings size tree) nodes 1 none k (omega arith) (omega arith)))
+
+-- ---- The test and the clauses.
+
+pub belongs-record : {room : ℕ} {writer : Writer} {text tree : List ℕ} → belongs room writer text tree ≡ true → Belongs room writer text tree
+unfolding belongs textBelongs nodesBelong
+belongs-record {room} {writer} {text} {tree} h =
+    let p = both (sizesBelong room writer text tree) (textBelongs writer text && nodesBelong writer tree) h in
+    let q = both (textBelongs writer text) (nodesBelong writer tree) (p .1) in
+    let t = both (endsInZero (usedText writer text)) (eqb (length (namesIn writer text)) (writer .strings)) (q .0) in
+    let n = both (noneLost (nodeLost (writer .strings) (writer .«data») tree) (writer .nodes) 1) (leb (finishedSize writer tree) (writer .length)) (q .1) in
+    let s = sizes-hold room writer text tree (p .0) in
+    let node = nodes-kept (writer .strings) (writer .«data») (writer .nodes) tree (none-lost _ (n .0)) in
+    record {
+      length-recorded = s .0;
+      length-allowed = s .1;
+      text-area = s .2;
+      tree-area = s .3;
+      few-strings = s .4;
+      text-inside = s .5;
+      few-nodes = s .6;
+      text-ends = t .0;
+      text-strings = eqb-true _ _ (t .1);
+      slot-whole = λ k l m. node k l m .0;
+      parent-lower = λ k l m. node k l m .1 .parent;
+      string-exists = λ k l m. node k l m .1 .string;
+      data-begins = λ k l m v. node k l m .1 .inside v .0;
+      data-ends = λ k l m v. node k l m .1 .inside v .1;
+      size-fits = leb-true _ _ (n .1);
+    }
+
+module _ {room : ℕ} {writer : Writer} {text tree : List ℕ} (b : Belongs room writer text tree) where
+  sizes-true : sizesBelong room writer text tree ≡ true
+  sizes-true =
+      count-decides room writer text tree (b .length-recorded) (b .length-allowed) (b .text-area) (b .tree-area) (b .few-strings) (b .text-inside)
+      ∙ le-leb (writer .nodes) nodeLimit (b .few-nodes)
+
+  text-true : textBelongs writer text ≡ true
+  unfolding textBelongs
+  text-true = rw (b .text-ends) (eq-eqb _ _ (b .text-strings))
+
+  nodes-none : lowestFrom (nodeLost (writer .strings) (writer .«data») tree) (writer .nodes) 1 ≡ Nothing
+  unfolding nodeLost
+  nodes-none =
+      holds-none _ (writer .nodes) 1
+      (λ k l m.
+      let h : k ≤ writer .nodes = omega arith in
+      kept-slot (writer .strings) (writer .«data») k (slotEntry tree k) (foundSlot tree k) (b .slot-whole k l h)
+      (record {
+        parent = b .parent-lower k l h;
+        string = b .string-exists k l h;
+        inside = λ v. (b .data-begins k l h v, b .data-ends k l h v);
+      }))
+
+  pub record-belongs : belongs room writer text tree ≡ true
+  record-belongs =
+      nodes-decide room writer text tree sizes-true text-true
+      ∙ size-decides writer tree nodes-none
+      ∙ le-leb (finishedSize writer tree) (writer .length) (b .size-fits)
+
+-- The all-zero record never belongs: a header has no room in it.
+pub none-belongs : (room : ℕ) (text tree : List ℕ) → belongs room noWriter text tree ≡ false
+unfolding belongs
+none-belongs room text tree = rw (data-decide noWriter tree (omega arith)) (simp and-false)
+
+-- ---- What `judge` says decides every call that judges first.
+
+pub judged : {room : ℕ} {writer : Writer} {text tree : List ℕ} → firstWrong (writerChecks room writer text tree) (tt {0}) ≡ accepted (tt {0})
+    → Belongs room writer text tree × (writer .live ≡ true)
+judged {room} {writer} {text} {tree} h =
+    let (b, (l, _)) = passed (writerChecks room writer text tree) (tt {0}) h in
+    (belongs-record (not-false (belongs room writer text tree) b), not-false (writer .live) l)
+
+other-number : (b l : Bool) (t : Told) → refused t ≡ firstWrong (check (not b) (refusal 24) ∷ check (not l) (refusal 22) ∷ []) (tt {0})
+    → eqb (t .number) 23 ≡ false
+other-number false l t h = let e : t ≡ refusal 24 = cc in rw e
+other-number true false t h = let e : t ≡ refusal 22 = cc in rw e
+other-number true true t h = not-both h
+
+module _ (room : ℕ) (writer : Writer) (text tree : List ℕ) (v : Verdict)
+    (told : verdictTold v ≡ firstWrong (writerChecks room writer text tree) (tt {0})) where
+  -- Accepted: the record belongs and is live, and the checks behind decide.
+  pub judge-belongs : v ≡ Accepted → Belongs room writer text tree × (writer .live ≡ true)
+  judge-belongs e = judged (sym told ∙ ap verdictTold e)
+
+  pub judge-leaves : {A : Type 0} (more : List Check) (a : A) → v ≡ Accepted → firstWrong more a ≡ firstWrong (writerChecks room writer text tree ++ more) a
+  judge-leaves more a e = sym (passed-before (writerChecks room writer text tree) more (tt {0}) a (sym told ∙ ap verdictTold e))
+
+  -- Refused: the refusal is the call's, and it is 24 or 22, so neither record nor room change.
+  pub judge-refuses : {A : Type 0} (more : List Check) (a : A) (q : Refusal) → v ≡ Refused q
+      → refused (toldRefusal q) ≡ firstWrong (writerChecks room writer text tree ++ more) a
+  judge-refuses more a q e = sym (refused-before (writerChecks room writer text tree) more (tt {0}) a (sym told ∙ ap verdictTold e))
+
+  pub judged-other : (q : Refusal) → v ≡ Refused q → eqb (toldRefusal q .number) 23 ≡ false
+  judged-other q e = other-number (belongs room writer text tree) (writer .live) (toldRefusal q) (sym (ap verdictTold e) ∙ told)
+
+  pub judged-record : (q : Refusal) (next given : Writer) → v ≡ Refused q → writerAfter (refused (toldRefusal q)) next given ≡ given
+  judged-record q next given e = rw (judged-other q e)
+
+  pub judged-room : (q : Refusal) (stores : List Store) (image : List ℕ) → v ≡ Refused q → roomAfter (refused (toldRefusal q)) stores image ≡ image
+  unfolding applyStores
+  judged-room q stores image e = rw (judged-other q e)

@@ -1,0 +1,156 @@
+-- Putting data: the tests on the code's numbers are those of the promises, check by check, and the data lie inside the room. Assumes nothing.
+use mathlib.Core.Path.{_≡_, refl, sym, ap, _∙_}
+use mathlib.Core.Bool.{Bool, true, false, not, true≢false}
+use mathlib.Core.List.{List}
+use Prim.Native.Nat.{ℕ, zero, suc, _+_, _/_, _%_, _≤_, _<_}
+use native.Mathlib.Omega.{arith}
+use lib.Dec.{eqb}
+use lib.ListN.{length, take}
+use borrow.Author.Tests.{eq-eqb, ne-eqb, lt-ltb, le-ltb}
+use Rattle.aff_format.specs.Answer.{Answer, refused, Check, refusal, firstWrong}
+use Rattle.aff_format.specs.Bytes.{spliced}
+use Rattle.aff_format.specs.Element.{countIn}
+use Rattle.aff_format.specs.Entry.{slotBytes}
+use Rattle.aff_format.specs.Kind.{kindOf, elementSize, isVoid}
+use Rattle.aff_format.specs.Limits.{imageLimit, nodeLimit, textArea}
+use Rattle.aff_format.specs.Refusal.{toldRefusal}
+use Rattle.aff_format.specs.Verdict.{numberTold}
+use Rattle.aff_format.specs.declared.entry.Entry.{Entry}
+use Rattle.aff_format.specs.declared.kind.Kind.{Kind}
+use Rattle.aff_format.specs.declared.kind.Kind.the-variants.{Void, Char, Int, Double, Complex}
+use Rattle.aff_format.specs.declared.kind.FoundKind.{FoundKind}
+use Rattle.aff_format.specs.declared.kind.FoundKind.the-variants.{Known}
+use Rattle.aff_format.specs.declared.refusal.Refusal.{Refusal}
+use Rattle.aff_format.specs.declared.verdict.NumberAnswer.the-variants as answered
+use Rattle.aff_format.proofs.KindLaws.{countIn-div}
+use Rattle.aff_write.specs.Areas.{slotAt, slotEntry, finishedSize}
+use Rattle.aff_write.specs.Belongs.{Belongs}
+use Rattle.aff_write.specs.Put.{takesNone, wrongData, dataKind, putPlace, putStores, storeCheck, roomChecks, dataChecks, putEntry, putTree}
+use Rattle.aff_write.specs.Stores.{Store, applyStores, storesFrom, roomAfter}
+use Rattle.aff_write.specs.Writer.{writerAfter, areaAfter}
+use Rattle.aff_write.specs.declared.writer.Writer.{Writer}
+use Rattle.aff_write.specs.declared.writer.Writing.{Writing}
+use Rattle.aff_write.proofs.SpentLaws.{told-refused}
+use Rattle.aff_write.proofs.StoreLaws.{length-storesFrom, take-storesFrom}
+
+-- 18.
+pub takes-root : (tree : List ℕ) (node : ℕ) → node ≡ 0 → true ≡ takesNone tree node
+unfolding takesNone
+takes-root tree node e = rw (eq-eqb node 0 e)
+
+pub takes-kind : (tree : List ℕ) (node : ℕ) (entry : Entry) (v : Bool) → (node ≡ 0 → ⊥) → entry ≡ slotEntry tree node → v ≡ isVoid (entry .kind)
+    → not v ≡ takesNone tree node
+unfolding takesNone
+takes-kind tree node entry v n e h = rw (ne-eqb node 0 n, ← e, h)
+
+pub takes-some : (tree : List ℕ) (node : ℕ) → takesNone tree node ≡ false → 0 < node
+unfolding takesNone
+takes-some tree zero h = absurd (true≢false h)
+takes-some tree (suc n) h = omega arith
+
+-- 19.
+pub wrong-rest : (found : FoundKind) (kind : Kind) (size element : ℕ) → found ≡ Known kind → isVoid kind ≡ false → element ≡ elementSize kind
+    → not (eqb (size % element) 0) ≡ wrongData found size
+wrong-rest found kind size element f v s = rw (f, v, s)
+
+pub data-kind : (k : Kind) (n : ℕ) → wrongData (Known k) n ≡ false → isVoid k ≡ false
+data-kind Void n h = absurd (true≢false h)
+data-kind Char n h = refl
+data-kind Int n h = refl
+data-kind Double n h = refl
+data-kind Complex n h = refl
+
+count-most : (k : Kind) (l : List ℕ) → countIn k l ≤ length l
+count-most Void l = omega arith
+count-most Char l = omega arith
+count-most Int l = omega arith
+count-most Double l = omega arith
+count-most Complex l = omega arith
+
+pub count-divided : (k : Kind) (l : List ℕ) (n : ℕ) → isVoid k ≡ false → n ≡ elementSize k → (length l / n ≡ countIn k l) × (length l / n ≤ length l)
+count-divided k l n v e =
+    let d : length l / n ≡ countIn k l = ap (λ (m : ℕ). length l / m) e ∙ sym (countIn-div k l v) in
+    let f = count-most k l in
+    (d, omega arith)
+
+-- The finished size holds the header, the data and more.
+pub size-least : (writer : Writer) (tree : List ℕ) → putPlace writer ≤ finishedSize writer tree
+unfolding finishedSize
+size-least writer tree = omega arith
+
+pub sizes-small : {room : ℕ} {writer : Writer} {text tree : List ℕ} → Belongs room writer text tree
+    → (writer .«data» ≤ imageLimit) × (writer .text ≤ textArea) × (writer .nodes ≤ nodeLimit)
+sizes-small {room} {writer} {text} {tree} b =
+    (omega (arith, size-least writer tree, b .size-fits, b .length-allowed), b .text-inside, b .few-nodes)
+
+module _ (writer : Writer) (tree : List ℕ) where
+  -- 21, 23.
+  module _ (bytes : List ℕ) (allowance : ℕ) where
+    pub no-room : writer .length < finishedSize writer tree + 12 + length bytes
+        → _≡_ {A = Answer ℕ} (refused (refusal 21)) (firstWrong (roomChecks writer tree bytes allowance) (length (putStores writer bytes)))
+    no-room h = rw (lt-ltb (writer .length) (finishedSize writer tree + 12 + length bytes) h)
+
+    pub has-room : finishedSize writer tree + 12 + length bytes ≤ writer .length
+        → firstWrong (storeCheck writer bytes allowance) (length (putStores writer bytes))
+        ≡ firstWrong (roomChecks writer tree bytes allowance) (length (putStores writer bytes))
+    has-room h = rw (le-ltb (writer .length) (finishedSize writer tree + 12 + length bytes) h)
+
+    -- 15, 18, 19.
+    module _ (node type : ℕ) where
+      pub no-node : writer .nodes < node
+          → _≡_ {A = Answer ℕ} (refused (refusal 15)) (firstWrong (dataChecks writer tree node type bytes allowance) (length (putStores writer bytes)))
+      no-node h = rw (lt-ltb (writer .nodes) node h)
+
+      pub data-taken : node ≤ writer .nodes → takesNone tree node ≡ true
+          → _≡_ {A = Answer ℕ} (refused (refusal 18)) (firstWrong (dataChecks writer tree node type bytes allowance) (length (putStores writer bytes)))
+      data-taken h t = rw (le-ltb (writer .nodes) node h, t)
+
+      pub data-wrong : node ≤ writer .nodes → takesNone tree node ≡ false → (f : FoundKind) → f ≡ kindOf type → wrongData f (length bytes) ≡ true
+          → _≡_ {A = Answer ℕ} (refused (refusal 19)) (firstWrong (dataChecks writer tree node type bytes allowance) (length (putStores writer bytes)))
+      data-wrong h t f e d =
+          let q : wrongData (kindOf type) (length bytes) ≡ true = ap (λ (g : FoundKind). wrongData g (length bytes)) (sym e) ∙ d in
+          rw (le-ltb (writer .nodes) node h, t, q)
+
+      pub data-right : node ≤ writer .nodes → takesNone tree node ≡ false → (f : FoundKind) → f ≡ kindOf type → wrongData f (length bytes) ≡ false
+          → firstWrong (roomChecks writer tree bytes allowance) (length (putStores writer bytes))
+          ≡ firstWrong (dataChecks writer tree node type bytes allowance) (length (putStores writer bytes))
+      data-right h t f e d =
+          let q : wrongData (kindOf type) (length bytes) ≡ false = ap (λ (g : FoundKind). wrongData g (length bytes)) (sym e) ∙ d in
+          rw (le-ltb (writer .nodes) node h, t, q)
+
+  -- The entry that is filled in.
+  pub entry-filled : (node : ℕ) (kind : Kind) (bytes : List ℕ) (old : Entry) (count offset : ℕ)
+      → old ≡ slotEntry tree node → count ≡ countIn kind bytes → offset ≡ putPlace writer
+      → record { kind = kind; parent = old .parent; string = old .string; count = count; offset = offset } ≡ putEntry writer tree node kind bytes
+  entry-filled node kind bytes old count offset e c o = rw (e, c, o)
+
+  pub tree-put : (node type : ℕ) (bytes : List ℕ) (k : Kind) → kindOf type ≡ Known k
+      → spliced (slotAt node) (slotBytes (putEntry writer tree node k bytes)) tree ≡ putTree writer tree node type bytes
+  unfolding putTree
+  tree-put node type bytes k h =
+      ap (λ (f : FoundKind). spliced (slotAt node) (slotBytes (putEntry writer tree node (dataKind f) bytes)) tree) (sym h)
+
+-- The stores of the data, as the code counts them.
+pub stores-made : (at allowance made : ℕ) (bytes : List ℕ) → made ≡ length (take allowance bytes) → made ≡ length (take allowance (storesFrom at bytes))
+stores-made at allowance made bytes m =
+    m ∙ sym (ap length (take-storesFrom allowance at bytes) ∙ length-storesFrom at (take allowance bytes))
+
+pub stores-room : (writer : Writer) (at allowance : ℕ) (bytes room₀ room₁ : List ℕ) → at ≡ putPlace writer
+    → room₁ ≡ applyStores room₀ (take allowance (storesFrom at bytes)) → room₁ ≡ applyStores room₀ (take allowance (putStores writer bytes))
+stores-room writer at allowance bytes room₀ room₁ e r = r ∙ ap (λ (n : ℕ). applyStores room₀ (take allowance (storesFrom n bytes))) e
+
+-- A refused call leaves the tree area.
+pub area-kept : (q : Refusal) (given : Writer) (w : Writing) (area next : List ℕ) → w ≡ record { answer = answered.Refused q; writer = given }
+    → area ≡ areaAfter (numberTold (w .answer)) next area
+area-kept q given w area next e = rw e
+
+-- A refusal other than 23 leaves record, room and tree area.
+pub put-refused : (checks : List Check) (stores : List Store) (next given : Writer) (room tree nextTree : List ℕ) (q : Refusal) (w : Writing)
+    → w ≡ record { answer = answered.Refused q; writer = given } → eqb (toldRefusal q .number) 23 ≡ false
+    → refused (toldRefusal q) ≡ firstWrong checks (length stores)
+    → (numberTold (w .answer) ≡ firstWrong checks (length stores))
+    × ((w .writer ≡ writerAfter (numberTold (w .answer)) next given)
+    × ((room ≡ roomAfter (numberTold (w .answer)) stores room) × (tree ≡ areaAfter (numberTold (w .answer)) nextTree tree)))
+put-refused checks stores next given room tree nextTree q w e o h =
+    let g = told-refused checks stores next given room q w e o h in
+    (g .0, (g .1 .0, (g .1 .1, area-kept q given w tree nextTree e)))

@@ -1,0 +1,58 @@
+-- `data_nodes` meets its contract: what is counted is the definition's value for the first k nodes. The measure is the nodes left. Assumes nothing.
+use mathlib.Core.Path.{_≡_, refl, ap, _∙_}
+use Prim.Native.Nat.{_-_, _≤_}
+use native.Mathlib.Omega.{arith}
+use borrow.Author.Needs.{needs}
+use Rattle.aff_write.specs.Areas.{dataNodes}
+use Rattle.aff_write.proofs.AreaLaws.{dataNodes-more}
+use Rattle.aff_write.proofs.areas.data_nodes.Statement.{statement}
+use Rattle.aff_write.proofs.areas.data_nodes.Tie as tie
+
+abbrev Inv-loop : tie.InvT-loop
+Inv-loop tree nodes count₀ k₀ count k = (k ≤ nodes) × (count ≡ dataNodes tree k) × (count ≤ k)
+
+abbrev μ-loop : tie.MeasureT-loop
+μ-loop tree nodes count₀ k₀ count k = nodes - k
+
+loop-holds : tie.Need-loop-holds Inv-loop μ-loop
+unfolding dataNodes
+loop-holds c = (omega arith, refl, omega arith)
+
+add-k : tie.Need-add-k Inv-loop μ-loop
+add-k c = search needs
+
+one-with-data-requires : tie.Need-one-with-data-requires Inv-loop μ-loop
+one-with-data-requires c κs = search needs
+
+add-count : tie.Need-add-count Inv-loop μ-loop
+add-count c = search needs
+
+loop-less : tie.Need-loop-less Inv-loop μ-loop
+loop-less c = search needs
+
+loop-again : tie.Need-loop-again Inv-loop μ-loop
+loop-again c =
+    let lp = c .before .before in
+    let z = lp .before .before .args in
+    (omega arith, omega (arith, lp .loop .inv .1, c .one-with-data .ensures .0, dataNodes-more (z .tree .now) (lp .loop .k)), omega arith)
+
+returns : tie.Need-returns Inv-loop μ-loop
+returns c =
+    let lp = c .before in
+    let z = lp .before .before .args in
+    let e : lp .loop .k ≡ z .nodes = omega arith in
+    (lp .loop .inv .1 ∙ ap (dataNodes (z .tree .now)) e, omega arith)
+
+pub data-nodes-spec : {M : Type 1} → statement M
+data-nodes-spec =
+    tie.close
+    (tie.spec
+    Inv-loop
+    μ-loop
+    loop-holds
+    add-k
+    one-with-data-requires
+    add-count
+    loop-less
+    loop-again
+    returns)

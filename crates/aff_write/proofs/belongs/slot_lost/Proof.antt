@@ -1,0 +1,55 @@
+-- `slot_lost` meets its contract: the type, the parent, the string, the data. Assumes nothing.
+use mathlib.Core.Bool.{or-true}
+use borrow.Author.Tests.{le-leb, lt-leb}
+use borrow.Author.Needs.{needs}
+use Rattle.aff_write.proofs.belongs.slot_lost.Statement.{statement}
+use Rattle.aff_write.proofs.belongs.slot_lost.Tie as tie
+
+enum-told : tie.Need-enum-told
+enum-told c = search needs
+
+enum-known-found : tie.Need-enum-known-found
+enum-known-found c = search needs
+
+returns : tie.Need-returns
+returns c = simp (c .before .before .before .found .given .1, le-leb _ _ (c .if1 .taken))
+
+cast-if2 : tie.Need-cast-if2
+cast-if2 c = search needs
+
+returns-2 : tie.Need-returns-2
+returns-2 c = simp (c .before .before .before .before .before .found .given .1, le-leb _ _ (c .if2 .taken), or-true)
+
+header-size-requires : tie.Need-header-size-requires
+header-size-requires c κs = search needs
+
+is-outside-requires : tie.Need-is-outside-requires
+is-outside-requires c κs = search needs
+
+returns-3 : tie.Need-returns-3
+returns-3 c = search needs
+
+returns-4 : tie.Need-returns-4
+returns-4 c =
+    let b = c .before .before .before .before in
+    simp (
+      b .before .before .before .found .given .1,
+      lt-leb _ _ (b .if1 .left),
+      lt-leb _ _ (c .before .before .if2 .left),
+      c .is-outside .ensures,
+      c .before .header-size .ensures,
+    )
+
+pub slot-lost-spec : {M : Type 1} → statement M
+slot-lost-spec =
+    tie.close
+    (tie.spec
+    enum-told
+    enum-known-found
+    returns
+    cast-if2
+    returns-2
+    header-size-requires
+    is-outside-requires
+    returns-3
+    returns-4)

@@ -1,0 +1,40 @@
+-- `text_belongs` meets its contract: where the text ends in a zero, its zeros are its strings. Assumes nothing.
+use mathlib.Core.Path.{sym, _∙_}
+use lib.Seq.{length-take-le}
+use Rattle.aff_write.proofs.BelongsLaws.{unended-decides, zeros-decide}
+use borrow.Author.Needs.{needs}
+use Rattle.aff_write.proofs.belongs.text_belongs.Statement.{statement}
+use Rattle.aff_write.proofs.belongs.text_belongs.Tie as tie
+
+slice-aggregate-ends-in-zero : tie.Need-slice-aggregate-ends-in-zero
+slice-aggregate-ends-in-zero c = let s = c .before .before in sym (length-take-le (s .args .writer .text) (s .args .text .now) (s .pre))
+
+ends-in-zero-requires : tie.Need-ends-in-zero-requires
+ends-in-zero-requires c κs = search needs
+
+returns : tie.Need-returns
+returns c = sym (unended-decides _ _ (sym (c .before .ends-in-zero .ensures) ∙ c .if1 .left))
+
+slice-aggregate-zeros : tie.Need-slice-aggregate-zeros
+slice-aggregate-zeros c =
+    let s = c .before .before .before .before .before in
+    sym (length-take-le (s .args .writer .text) (s .args .text .now) (s .pre))
+
+zeros-requires : tie.Need-zeros-requires
+zeros-requires c κs = search needs
+
+returns-2 : tie.Need-returns-2
+returns-2 c =
+    let t = c .before .before .before in
+    rw (c .before .zeros .ensures) (sym (zeros-decide _ _ (sym (t .before .ends-in-zero .ensures) ∙ t .if1 .taken)))
+
+pub text-belongs-spec : {M : Type 1} → statement M
+text-belongs-spec =
+    tie.close
+    (tie.spec
+    slice-aggregate-ends-in-zero
+    ends-in-zero-requires
+    returns
+    slice-aggregate-zeros
+    zeros-requires
+    returns-2)

@@ -1,0 +1,35 @@
+-- `make_child` meets its contract: 15, then 14, then `make_named`.
+use borrow.Author.Needs.{needs}
+use mathlib.Core.Path.{refl, sym, _∙_}
+use borrow.Author.Tests.{lt-ltb, le-ltb}
+use Rattle.aff_format.specs.declared.refusal.Refusal.the-variants.{Absent, Malformed}
+use Rattle.aff_write.specs.Make.{childChecks, namedChecks}
+use Rattle.aff_write.proofs.MakeLaws.{refuses, passes}
+use Rattle.aff_write.proofs.making.make_child.Statement.{statement}
+use Rattle.aff_write.proofs.making.make_child.Tie as tie
+
+returns : tie.Need-returns
+returns c =
+    let z = c .before .before .before .before .before .before in
+    refuses (childChecks (z .args .writer) (z .args .text .now) (z .args .tree .now) (z .args .parent) (z .args .name .now)) (z .args .writer) (z .args .text .now) (z .args .tree .now) (z .args .parent) (z .args .name .now) Absent refl (c .refused .ensures) (rw (lt-ltb _ _ (c .before .if1 .taken)))
+
+returns-2 : tie.Need-returns-2
+returns-2 c =
+    let k = c .before .before .before in
+    let z = k .before .before .before .before .before .before in
+    refuses (childChecks (z .args .writer) (z .args .text .now) (z .args .tree .now) (z .args .parent) (z .args .name .now)) (z .args .writer) (z .args .text .now) (z .args .tree .now) (z .args .parent) (z .args .name .now) (Malformed 0) refl (c .refused2 .ensures)
+    (rw (le-ltb _ _ (k .before .if1 .left), sym (k .subkey .ensures) ∙ c .before .enum-told .given .1))
+
+returns-3 : tie.Need-returns-3
+returns-3 c =
+    let m = c .before .before .before .before in
+    let t = m .before .before .before in
+    let k = t .before .before in
+    let z = k .before .before .before .before .before .before in
+    passes (childChecks (z .args .writer) (z .args .text .now) (z .args .tree .now) (z .args .parent) (z .args .name .now)) (z .args .writer) (z .args .text .now) (z .args .tree .now) (z .args .parent) (z .args .name .now) (namedChecks (z .args .writer) (z .args .text .now) (z .args .tree .now) (z .args .parent) (z .args .name .now)) (m .make-named .result)
+    (rw (le-ltb _ _ (k .before .if1 .left), sym (k .subkey .ensures) ∙ t .enum-told2 .given .1)) (m .make-named .ensures)
+
+pub make-child-spec : {M : Type 1} → statement M
+make-child-spec =
+    tie.close
+    (tie.spec (λ c κs. search needs) returns (λ c κs. search needs) (λ c. search needs) (λ c κs. search needs) (λ c. search needs) (λ c κs. search needs) returns-2 (λ c. search needs) (λ c. search needs) returns-3)

@@ -1,0 +1,92 @@
+-- Put data: document 01, 'Writing keys', and 'Order': 24, 22, 15, 18, 19, 21, 23.
+use mathlib.Core.Bool.{Bool, true, false, not, _||_}
+use mathlib.Core.List.{List, [], _∷_, _++_}
+use Prim.Native.Nat.{ℕ, _+_, _%_}
+use lib.Dec.{eqb, ltb}
+use lib.ListN.{length}
+use Rattle.aff_format.specs.Answer.{Answer, Check, check, refusal, refusalAt, firstWrong}
+use Rattle.aff_format.specs.Bytes.{spliced}
+use Rattle.aff_format.specs.Element.{countIn}
+use Rattle.aff_format.specs.Entry.{slotBytes}
+use Rattle.aff_format.specs.Kind.{kindOf, elementSize, isVoid}
+use Rattle.aff_format.specs.declared.entry.Entry.{Entry}
+use Rattle.aff_format.specs.declared.kind.Kind.{Kind}
+use Rattle.aff_format.specs.declared.kind.Kind.the-variants.{Void}
+use Rattle.aff_format.specs.declared.kind.FoundKind.{FoundKind}
+use Rattle.aff_format.specs.declared.kind.FoundKind.the-variants.{Known, Unknown}
+use Rattle.aff_write.specs.Areas.{slotAt, slotEntry, finishedSize}
+use Rattle.aff_write.specs.Belongs.{writerChecks}
+use Rattle.aff_write.specs.Stores.{Store, storesFrom}
+use Rattle.aff_write.specs.Writer.{dataPlace}
+use Rattle.aff_write.specs.declared.writer.Writer.{Writer}
+
+-- 18: the root, or a node that has data.
+unfoldable pub takesNone : List ℕ → ℕ → Bool
+takesNone tree node = eqb node 0 || not (isVoid (slotEntry tree node .kind))
+
+-- 19: a type that holds no data, or so many bytes are no multiple of its element.
+abbrev pub wrongData : FoundKind → ℕ → Bool
+wrongData Unknown n = true
+wrongData (Known k) n = isVoid k || not (eqb (n % elementSize k) 0)
+
+-- The kind of a type that holds data.
+abbrev pub dataKind : FoundKind → Kind
+dataKind Unknown = Void
+dataKind (Known k) = k
+
+-- Where the next data begin: behind those that were put.
+abbrev pub putPlace : Writer → ℕ
+putPlace writer = dataPlace + writer .«data»
+
+abbrev pub putStores : Writer → List ℕ → List Store
+putStores writer bytes = storesFrom (putPlace writer) bytes
+
+-- 23.
+abbrev pub storeCheck : Writer → List ℕ → ℕ → List Check
+storeCheck writer bytes allowance = check (ltb allowance (length (putStores writer bytes))) (refusalAt 23 allowance) ∷ []
+
+-- The record that an accepted put leaves.
+abbrev pub putWriter : Writer → List ℕ → Writer
+putWriter writer bytes =
+    record {
+      length = writer .length;
+      form = writer .form;
+      strings = writer .strings;
+      text = writer .text;
+      nodes = writer .nodes;
+      «data» = writer .«data» + length bytes;
+      live = writer .live;
+    }
+
+module _ (writer : Writer) (tree : List ℕ) where
+  -- 21, 23: the entry grows from 13 bytes to 25.
+  abbrev pub roomChecks : List ℕ → ℕ → List Check
+  roomChecks bytes allowance =
+      check (ltb (writer .length) (finishedSize writer tree + 12 + length bytes)) (refusal 21) ∷ storeCheck writer bytes allowance
+
+  -- 15, 18, 19, 21, 23.
+  abbrev pub dataChecks : ℕ → ℕ → List ℕ → ℕ → List Check
+  dataChecks node type bytes allowance =
+      check (ltb (writer .nodes) node) (refusal 15)
+      ∷ check (takesNone tree node) (refusal 18)
+      ∷ check (wrongData (kindOf type) (length bytes)) (refusal 19)
+      ∷ roomChecks bytes allowance
+
+  -- The tree area that it leaves: the node has kind, count and data offset.
+  abbrev pub putEntry : ℕ → Kind → List ℕ → Entry
+  putEntry node kind bytes =
+      record {
+        kind = kind;
+        parent = slotEntry tree node .parent;
+        string = slotEntry tree node .string;
+        count = countIn kind bytes;
+        offset = putPlace writer;
+      }
+
+  unfoldable pub putTree : ℕ → ℕ → List ℕ → List ℕ
+  putTree node type bytes = spliced (slotAt node) (slotBytes (putEntry node (dataKind (kindOf type)) bytes)) tree
+
+-- The answer tells the stores made.
+unfoldable pub putAnswer : ℕ → Writer → List ℕ → List ℕ → ℕ → ℕ → List ℕ → ℕ → Answer ℕ
+putAnswer room writer text tree node type bytes allowance =
+    firstWrong (writerChecks room writer text tree ++ dataChecks writer tree node type bytes allowance) (length (putStores writer bytes))
