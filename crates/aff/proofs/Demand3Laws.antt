@@ -1,0 +1,184 @@
+-- Demand 3 from the laws of runs: the tree by `run-shows`, the kill by `run-shape`, since a room with a zero at place 0 is refused by 3. A begin
+-- that is refused stores nothing. Assumes nothing.
+use mathlib.Core.Path.{_≡_, refl, sym, ap, ap₂, _∙_, subst}
+use mathlib.Core.Bool.{Bool, true, false, cond, not, _||_, true≢false}
+use mathlib.Core.List.{List, [], _∷_, _++_}
+use Prim.Native.Nat.{ℕ, zero, suc, _+_, _-_, _≤_, _<_}
+use native.Mathlib.Omega.{arith}
+use lib.Dec.{eqb, ltb}
+use lib.ListN.{length, getD, set, take, length-set}
+use lib.Seq.{take-length, getD-set-same}
+use borrow.Author.Tests.{eq-eqb, le-ltb, ltb-true}
+use Rattle.aff_format.specs.Answer.{Answer, accepted, refused, check, refusal, refusalAt, firstWrong}
+use Rattle.aff_format.specs.Edition.{signatureText}
+use Rattle.aff_format.specs.Bytes.{sameBytes}
+use Rattle.aff_format.specs.Limits.{imageLimit, stringLimit, nodeLimit}
+use Rattle.aff_format.specs.declared.refusal.Told.{Told}
+use Rattle.aff_open.specs.Opening.{lentWrong, openChecks, opened}
+use Rattle.aff_open.specs.Sections.{textEdition, isKnown}
+use Rattle.aff_write.specs.Begin.{beginStores, beginAnswer}
+use Rattle.aff_write.specs.Begin.{lentWrong as lentWrongHere}
+use Rattle.aff_write.specs.Stores.{Store, applyStores, storesFrom}
+use Rattle.aff_write.specs.Writer.{dataPlace, noWriter, begunWriter, stopped}
+use Rattle.aff_write.proofs.StoreLaws.{apply-append, apply-length}
+use Rattle.aff_run.specs.Described.{sizeOf}
+use Rattle.aff_run.specs.Run.{Call, State, next, begun, storesOf, answersOf, runAnswers, runStores, afterBegin, described, closedBy}
+use Rattle.aff_run.specs.Shows.{Shows}
+use Rattle.aff_run.proofs.BeginGoodLaws.{begin-good, begin-form, begin-stores}
+use Rattle.aff_run.proofs.CutLaws.{cut-run-stores, cut-run-room, cut-run-answers}
+use Rattle.aff_run.proofs.GoodLaws.{Good}
+use Rattle.aff_run.proofs.PlaceLaws.{Behind, Shaped, behind-first, shaped-take, run-shape}
+use Rattle.aff_run.proofs.RunLaws.{run-shows}
+use Rattle.aff_run.proofs.TurnLaws.{asleep-stores, asleep-closed}
+use Rattle.aff.specs.Demand3.{roomAt, Killed, Demand3, Cut, Demand3Cut}
+
+-- ---- A room with a zero at place 0.
+
+lent-right : (image form : List ℕ) → length form ≡ 12 → length image ≤ imageLimit → lentWrong image form stringLimit nodeLimit ≡ false
+unfolding lentWrong
+lent-right image form f l = rw (eq-eqb (length form) 12 f, le-ltb imageLimit (length image) l)
+
+unknown-text : (image : List ℕ) → 1 ≤ length image → getD image 0 0 ≡ 0 → isKnown (textEdition image) ≡ false
+unfolding textEdition sameBytes signatureText
+unknown-text [] l z = absurd (omega arith)
+unknown-text (x ∷ image) l z = rw z
+
+pub zero-refused : (image form : List ℕ) → length form ≡ 12 → 144 ≤ length image → length image ≤ imageLimit → getD image 0 0 ≡ 0
+    → opened image form stringLimit nodeLimit ≡ refused (refusal 3)
+unfolding openChecks
+zero-refused image form f lo hi z =
+    rw (lent-right image form f hi, le-ltb (length image) 144 lo, unknown-text image (omega arith) z)
+
+-- ---- A begin that is refused.
+
+told-is : {t u : Told} → _≡_ {A = Answer ℕ} (refused t) (refused u) → u ≡ t
+told-is h = cc
+
+-- A 23 of begin tells its allowance, which is below 1.
+spent-told : (a b less : Bool) (w n : ℕ) (t : Told)
+    → firstWrong (check a (refusal 1) ∷ check b (refusal 21) ∷ check less (refusalAt 23 w) ∷ []) n ≡ refused t
+    → eqb (t .number) 23 ≡ true → (less ≡ true) × (t .place ≡ w)
+spent-told true b less w n t h e = absurd (true≢false (sym e ∙ ap (λ (x : Told). eqb (x .number) 23) (told-is h)))
+spent-told false true less w n t h e = absurd (true≢false (sym e ∙ ap (λ (x : Told). eqb (x .number) 23) (told-is h)))
+spent-told false false true w n t h e = (refl, ap (λ (x : Told). x .place) (told-is h))
+spent-told false false false w n t h e = absurd (let z : _≡_ {A = ℕ} 0 1 = cc in omega arith)
+
+module _ (room form text tree : List ℕ) (allowance : ℕ) (t : Told) (h : beginAnswer room form text tree allowance ≡ refused t) where
+  no-stores : (b : Bool) → eqb (t .number) 23 ≡ b → take (cond b (t .place) 0) beginStores ≡ []
+  unfolding beginAnswer
+  no-stores false e = refl
+  no-stores true e =
+      let q = spent-told (lentWrongHere room form text tree) (ltb (length room) dataPlace) (ltb allowance 1) allowance 1 t h e in
+      let l = ltb-true allowance 1 (q .0) in
+      let z : t .place ≡ 0 = omega (arith, q .1) in
+      rw z
+
+  none-stored : begun room form text tree allowance .stores ≡ []
+  unfolding begun
+  none-stored = rw h (no-stores (eqb (t .number) 23) refl)
+
+  asleep : begun room form text tree allowance .writer .live ≡ false
+  unfolding begun
+  asleep = rw h (go (eqb (t .number) 23))
+    where
+      go : (b : Bool) → (cond b (stopped (begunWriter (length room) form)) noWriter) .live ≡ false
+      go true = refl
+      go false = refl
+
+  module _ (calls : List Call) where
+    none-run : runStores room form text tree allowance calls ≡ []
+    none-run = ap₂ (λ (a b : List Store). a ++ b) none-stored (asleep-stores (afterBegin room form text tree allowance calls) asleep calls)
+
+    none-closed : closedBy calls (runAnswers room form text tree allowance calls) ≡ false
+    none-closed = asleep-closed (afterBegin room form text tree allowance calls) asleep calls
+
+-- A run that stores nothing and is not closed.
+nothing-killed : (room form : List ℕ) (stores : List Store) (calls : List Call) (answers : List (Answer ℕ)) (k : ℕ)
+    → stores ≡ [] → closedBy calls answers ≡ false → k ≤ length stores → Killed room form stores calls answers k
+unfolding applyStores
+nothing-killed room form stores calls answers k e z le =
+    let n : length stores ≡ 0 = ap length e in
+    record {
+      none-made = λ q. rw q;
+      all-made = λ q c. absurd (true≢false (sym c ∙ z));
+      otherwise = λ l o. absurd (omega arith);
+    }
+
+-- ---- A begin that is accepted.
+
+module _ (room form text tree : List ℕ) (allowance : ℕ) (calls : List Call) {n : ℕ} (h : beginAnswer room form text tree allowance ≡ accepted n) where
+  abbrev s : State
+  s = afterBegin room form text tree allowance calls
+
+  abbrev all : List Store
+  all = runStores room form text tree allowance calls
+
+  abbrev answers : List (Answer ℕ)
+  answers = runAnswers room form text tree allowance calls
+
+  good : Good s []
+  good = begin-good room form text tree allowance h
+
+  sizes : (dataPlace ≤ length room) × (length room ≤ imageLimit) × (length form ≡ 12)
+  unfolding sizeOf
+  sizes =
+      let l = apply-length room (begun room form text tree allowance .stores) in
+      let f : length form ≡ 12 = ap length (sym (begin-form room form text tree allowance h)) ∙ good .form-length in
+      (omega (arith, good .fits, good .room-length), omega (arith, good .room-length, good .room-allowed), f)
+
+  all-shown : closedBy calls answers ≡ true → Shows (applyStores room all) form (described [] calls answers)
+  all-shown c =
+      let b = begun room form text tree allowance .stores in
+      let shown = described [] calls answers in
+      subst (λ (f : List ℕ). Shows (applyStores room all) f shown) (begin-form room form text tree allowance h)
+      (subst (λ (r : List ℕ). Shows r (s .writer .form) shown) (sym (apply-append room b (storesOf s calls))) (run-shows calls s [] good c))
+
+  all-is : all ≡ record { at = 0; byte = 0 } ∷ storesOf s calls
+  all-is = ap (λ (b : List Store). b ++ storesOf s calls) (begin-stores room form text tree allowance h)
+
+  -- Behind the first store the byte at place 0 is zero.
+  zero-first : (k : ℕ) → Behind (take k (storesOf s calls)) → getD (applyStores room (take (suc k) all)) 0 0 ≡ 0
+  unfolding applyStores
+  zero-first k p =
+      let l = sizes .0 in
+      ap (λ (ss : List Store). getD (applyStores room (take (suc k) ss)) 0 0) all-is
+      ∙ behind-first (set room 0 0) (take k (storesOf s calls)) p
+      ∙ getD-set-same room 0 0 0 (omega arith)
+
+  refused-3 : (k : ℕ) → k ≤ length all → 0 < k → ((k ≡ length all) × (closedBy calls answers ≡ true) → ⊥)
+      → opened (roomAt room all k) form stringLimit nodeLimit ≡ refused (refusal 3)
+  refused-3 zero le lo other = absurd (omega arith)
+  refused-3 (suc k) le lo other =
+      let n : length all ≡ suc (length (storesOf s calls)) = ap length all-is in
+      let p : Behind (take k (storesOf s calls)) =
+      shaped-take (storesOf s calls) (closedBy calls answers) k (run-shape calls s) (λ q. other (omega (arith, q .0), q .1)) (omega arith) in
+      let l = apply-length room (take (suc k) all) in
+      zero-refused (roomAt room all (suc k)) form (sizes .2) (omega (arith, sizes .0)) (omega (arith, sizes .1)) (zero-first k p)
+
+  killed : (k : ℕ) → k ≤ length all → Killed room form all calls answers k
+  unfolding applyStores
+  killed k le =
+      record {
+        none-made = λ q. rw q;
+        all-made = λ q c. subst (λ (ss : List Store). Shows (applyStores room ss) form (described [] calls answers)) (sym (ap (λ (i : ℕ). take i all) q ∙ take-length all)) (all-shown c);
+        otherwise = refused-3 k le;
+      }
+
+demand3-by : (a : Answer ℕ) (room form text tree : List ℕ) (allowance : ℕ) (calls : List Call) (k : ℕ) → beginAnswer room form text tree allowance ≡ a
+    → k ≤ length (runStores room form text tree allowance calls)
+    → Killed room form (runStores room form text tree allowance calls) calls (runAnswers room form text tree allowance calls) k
+demand3-by (accepted n) room form text tree allowance calls k h le = killed room form text tree allowance calls h k le
+demand3-by (refused t) room form text tree allowance calls k h le =
+    nothing-killed room form (runStores room form text tree allowance calls) calls (runAnswers room form text tree allowance calls) k
+    (none-run room form text tree allowance t h calls) (none-closed room form text tree allowance t h calls) le
+
+pub demand3 : Demand3
+demand3 room form text tree allowance calls k le = demand3-by (beginAnswer room form text tree allowance) room form text tree allowance calls k refl le
+
+pub demand3-cut : Demand3Cut
+demand3-cut room form text tree allowance calls k =
+    record {
+      stores = cut-run-stores room form text tree allowance calls k;
+      room-left = cut-run-room room form text tree allowance calls k;
+      answers = cut-run-answers room form text tree allowance calls k;
+    }

@@ -1,0 +1,2 @@
+-- The demands on the library, as statements over the definitions that the contracts cite.
+pub mod Demand3

@@ -1,0 +1,80 @@
+-- What each call of a run answers, decided by the tree described so far, its sizes and the allowance alone: document 01's table, for a run.
+use mathlib.Core.Path.{_≡_}
+use mathlib.Core.Bool.{Bool, true, false, cond, not, _&&_, _||_}
+use mathlib.Core.List.{List, [], _∷_}
+use Prim.Native.Nat.{ℕ, _+_}
+use lib.Dec.{eqb, ltb}
+use lib.ListN.{length}
+use Rattle.aff_format.specs.Answer.{Answer, accepted, refused, Check, check, refusal, refusalAt, firstWrong}
+use Rattle.aff_format.specs.Bytes.{sameBytes}
+use Rattle.aff_format.specs.Kind.{kindOf, isVoid}
+use Rattle.aff_format.specs.Limits.{stringLimit, nodeLimit, textArea}
+use Rattle.aff_format.specs.Lowest.{lowestFrom}
+use Rattle.aff_format.specs.Strings.{textOf}
+use Rattle.aff_format.specs.Subkey.{isSubkey}
+use Rattle.aff_format.specs.Tree.{Tree, nodeAt}
+use Rattle.aff_open.specs.Nodes.{isAt}
+use Rattle.aff_write.specs.Put.{wrongData, dataKind}
+use Rattle.aff_write.specs.Writer.{written, dataPlace}
+use Rattle.aff_run.specs.Described.{withChild, withData, namesOf, entriesSize, sizeOf}
+use Rattle.aff_run.specs.Run.{Call, make, put, close, isAccepted, isClose, grown}
+
+-- 17: a node of the tree has that parent and that name.
+unfoldable pub hasChild : Tree → ℕ → List ℕ → Bool
+hasChild tree parent name = isAt (lowestFrom (λ k. eqb (nodeAt tree k .parent) parent && sameBytes (nodeAt tree k .name) name) (length tree) 1)
+
+-- 20: a tree has more nodes, more different names or more text than the writer takes.
+unfoldable pub tooLarge : Tree → Bool
+tooLarge tree = ltb nodeLimit (length tree) || (ltb stringLimit (length (namesOf tree)) || ltb textArea (length (textOf (namesOf tree))))
+
+-- The stores that a close needs: strings, entries, header.
+unfoldable pub closeNeeds : Tree → ℕ
+closeNeeds tree = length (textOf (namesOf tree)) + entriesSize tree + dataPlace
+
+module _ (room : ℕ) (tree : Tree) where
+  abbrev pub exactChecks : Call → List Check
+  exactChecks (make parent name) =
+      check (ltb (length tree) parent) (refusal 15)
+      ∷ check (not (isSubkey written name)) (refusal 14)
+      ∷ check (hasChild tree parent name) (refusal 17)
+      ∷ check (tooLarge (withChild tree parent name)) (refusal 20)
+      ∷ check (ltb room (sizeOf (withChild tree parent name))) (refusal 21)
+      ∷ []
+  exactChecks (put node type bytes allowance) =
+      check (ltb (length tree) node) (refusal 15)
+      ∷ check (eqb node 0 || not (isVoid (nodeAt tree node .kind))) (refusal 18)
+      ∷ check (wrongData (kindOf type) (length bytes)) (refusal 19)
+      ∷ check (ltb room (sizeOf (withData tree node (dataKind (kindOf type)) bytes))) (refusal 21)
+      ∷ check (ltb allowance (length bytes)) (refusalAt 23 allowance)
+      ∷ []
+  exactChecks (close allowance) = check (ltb allowance (closeNeeds tree)) (refusalAt 23 allowance) ∷ []
+
+  -- The new node's number, or the stores made.
+  abbrev pub exactValue : Call → ℕ
+  exactValue (make parent name) = length tree + 1
+  exactValue (put node type bytes allowance) = length bytes
+  exactValue (close allowance) = closeNeeds tree
+
+  abbrev pub exactAnswer : Call → Answer ℕ
+  exactAnswer call = firstWrong (exactChecks call) (exactValue call)
+
+-- An accepted close or a 23 closes or stops the writer.
+abbrev pub isSpent : Answer ℕ → Bool
+isSpent (accepted n) = false
+isSpent (refused t) = eqb (t .number) 23
+
+abbrev pub stops : Call → Answer ℕ → Bool
+stops call answer = (isAccepted answer && isClose call) || isSpent answer
+
+-- Each answer of a run: 22 exactly behind an accepted close or a 23, else what the tree described so far decides. So no answer is 24.
+abbrev pub Exact : ℕ → Bool → Tree → List Call → List (Answer ℕ) → Type 0
+Exact room stopped tree [] answers = Unit {0}
+Exact room stopped tree (c ∷ cs) [] = ⊥
+Exact room stopped tree (c ∷ cs) (a ∷ answers) =
+    (a ≡ cond stopped (refused (refusal 22)) (exactAnswer room tree c))
+    × Exact room (stopped || stops c a) (grown tree c (isAccepted a)) cs answers
+
+-- Every answer is 24.
+abbrev pub AllWrongRecord : List (Answer ℕ) → Type 0
+AllWrongRecord [] = Unit {0}
+AllWrongRecord (a ∷ answers) = (a ≡ refused (refusal 24)) × AllWrongRecord answers
