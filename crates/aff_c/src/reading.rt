@@ -1,7 +1,12 @@
-// Reading for programs in C and Rust that link the static library of this crate: lookup, the place of a node's data, one element of them,
-// and one element of data whose place the caller holds. In C the functions are
+// Reading for programs in C and Rust that link the static library of this crate: lookup, listing order, what a node is, one element of its
+// data, and one element of data whose place the caller holds. In C the functions are
 //     uint32_t aff_lookup(const uint8_t *image, size_t image_length, const uint64_t *record, const uint32_t *strings, size_t strings_length,
 //         const uint32_t *entries, size_t entries_length, const uint8_t *path, size_t path_length, uint64_t *node);
+//     uint32_t aff_listing(.., uint32_t *output, size_t output_length, uint64_t *count);
+//     uint32_t aff_name(.., uint64_t node, uint64_t *offset, uint64_t *size);
+//     uint32_t aff_kind(.., uint64_t node, uint64_t *kind);
+//     uint32_t aff_count(.., uint64_t node, uint64_t *count);
+//     uint32_t aff_path(.., uint64_t node, uint8_t *output, size_t output_length, uint64_t *size);
 //     uint32_t aff_view(.., uint64_t node, uint64_t *offset, uint64_t *size);
 //     uint32_t aff_element(.., uint64_t node, uint64_t index, double *value, double *imaginary);
 //     uint32_t aff_decode(uint64_t kind, const uint8_t *bytes, size_t bytes_length, uint64_t index, double *value, double *imaginary);
@@ -15,13 +20,18 @@ use aff_format::NumberAnswer;
 use aff_format::element;
 use aff_open::Reader;
 use aff_open::Span;
+use aff_read::KindAnswer;
 use aff_read::PartAnswer;
 ghost use mathlib.Core.Path.{_≡_};
 ghost use Prim.Native.Nat.{ℕ};
 ghost use Rattle.aff_format.specs.Element.{elementTold};
 ghost use Rattle.aff_open.specs.declared.reader.Span.{Span};
-ghost use Rattle.aff_read.specs.Answers.{viewAnswer, elementAnswer};
-ghost use Rattle.aff_read.specs.Calls.{lookupAnswer};
+ghost use lib.ListN.{length};
+ghost use Rattle.aff_format.specs.Kind.{kindCode};
+ghost use Rattle.aff_format.specs.Verdict.{numberTold};
+ghost use Rattle.aff_read.specs.Answers.{kindTold, partTold, nameAnswer, kindAnswer, countAnswer, viewAnswer, elementAnswer};
+ghost use Rattle.aff_read.specs.Calls.{frontWritten, pathAnswer, lookupAnswer, order, listingAnswer};
+ghost use Rattle.aff_read.specs.Recall.{pathAt};
 ghost use Rattle.aff_c.specs.Reading.{editionIn, readerIn, numberBy, leftBy, realPart, imaginaryPart, decodedAnswer};
 
 fn edition_of(number: u64) -> u32
@@ -94,6 +104,47 @@ fn put_element(answer: ElementAnswer, value: &mut f64, imaginary: &mut f64) -> u
     }
 }
 
+fn put_number(answer: NumberAnswer, number: &mut u64) -> u32
+    ensures number { λ r. ⌜ r ≡ numberBy (numberTold answer) ⌝ }
+    ensures value { λ _. ⌜ now (number .exit) ≡ leftBy (λ (n : ℕ). n) (now (number .entry)) (numberTold answer) ⌝ }
+{
+    match answer {
+        NumberAnswer::Value(value) => {
+            *number = value as u64;
+            0
+        }
+        NumberAnswer::Refused(refusal) => refusal.number(),
+    }
+}
+
+fn put_span(answer: PartAnswer, offset: &mut u64, size: &mut u64) -> u32
+    ensures number { λ r. ⌜ r ≡ numberBy (partTold answer) ⌝ }
+    ensures offset { λ _. ⌜ now (offset .exit) ≡ leftBy (λ (s : Span). s .offset) (now (offset .entry)) (partTold answer) ⌝ }
+    ensures size { λ _. ⌜ now (size .exit) ≡ leftBy (λ (s : Span). s .size) (now (size .entry)) (partTold answer) ⌝ }
+{
+    match answer {
+        PartAnswer::At(span) => {
+            *offset = span.offset as u64;
+            *size = span.size as u64;
+            0
+        }
+        PartAnswer::Refused(refusal) => refusal.number(),
+    }
+}
+
+fn put_kind(answer: KindAnswer, kind: &mut u64) -> u32
+    ensures number { λ r. ⌜ r ≡ numberBy (kindTold answer) ⌝ }
+    ensures kind { λ _. ⌜ now (kind .exit) ≡ leftBy kindCode (now (kind .entry)) (kindTold answer) ⌝ }
+{
+    match answer {
+        KindAnswer::Value(value) => {
+            *kind = value.code() as u64;
+            0
+        }
+        KindAnswer::Refused(refusal) => refusal.number(),
+    }
+}
+
 // The lowest node with a path, as `aff_read::paths::lookup` finds it.
 #[no_mangle]
 pub extern "C" fn aff_lookup(
@@ -107,13 +158,111 @@ pub extern "C" fn aff_lookup(
     ensures number { λ r. ⌜ r ≡ numberBy (lookupAnswer (now (image .entry)) (readerIn (now («record» .entry))) (now (strings .entry)) (now (entries .entry)) (now (path .entry))) ⌝ }
     ensures node { λ _. ⌜ now (node .exit) ≡ leftBy (λ (n : ℕ). n) (now (node .entry)) (lookupAnswer (now (image .entry)) (readerIn (now («record» .entry))) (now (strings .entry)) (now (entries .entry)) (now (path .entry))) ⌝ }
 {
-    match aff_read::paths::lookup(image, reader_of(record), strings, entries, path) {
-        NumberAnswer::Value(found) => {
-            *node = found as u64;
-            0
-        }
-        NumberAnswer::Refused(refusal) => refusal.number(),
-    }
+    let answer = aff_read::paths::lookup(image, reader_of(record), strings, entries, path);
+    put_number(answer, node)
+}
+
+// Where the name of a node stands in the image, as `aff_read::node::name_bounds` tells.
+#[no_mangle]
+pub extern "C" fn aff_name(
+    image: &[u8],
+    record: &[u64; 12],
+    strings: &[u32],
+    entries: &[u32],
+    node: u64,
+    offset: &mut u64,
+    size: &mut u64,
+) -> u32
+    ensures number { λ r. ⌜ r ≡ numberBy (nameAnswer (now (image .entry)) (readerIn (now («record» .entry))) (now (strings .entry)) (now (entries .entry)) node) ⌝ }
+    ensures offset { λ _. ⌜ now (offset .exit) ≡ leftBy (λ (s : Span). s .offset) (now (offset .entry)) (nameAnswer (now (image .entry)) (readerIn (now («record» .entry))) (now (strings .entry)) (now (entries .entry)) node) ⌝ }
+    ensures size { λ _. ⌜ now (size .exit) ≡ leftBy (λ (s : Span). s .size) (now (size .entry)) (nameAnswer (now (image .entry)) (readerIn (now («record» .entry))) (now (strings .entry)) (now (entries .entry)) node) ⌝ }
+{
+    let answer = aff_read::node::name_bounds(
+        image,
+        reader_of(record),
+        strings,
+        entries,
+        node as usize,
+    );
+    put_span(answer, offset, size)
+}
+
+// The code of a node's kind, as `aff_read::node::kind` tells.
+#[no_mangle]
+pub extern "C" fn aff_kind(
+    image: &[u8],
+    record: &[u64; 12],
+    strings: &[u32],
+    entries: &[u32],
+    node: u64,
+    kind: &mut u64,
+) -> u32
+    ensures number { λ r. ⌜ r ≡ numberBy (kindAnswer (now (image .entry)) (readerIn (now («record» .entry))) (now (strings .entry)) (now (entries .entry)) node) ⌝ }
+    ensures kind { λ _. ⌜ now (kind .exit) ≡ leftBy kindCode (now (kind .entry)) (kindAnswer (now (image .entry)) (readerIn (now («record» .entry))) (now (strings .entry)) (now (entries .entry)) node) ⌝ }
+{
+    let answer = aff_read::node::kind(image, reader_of(record), strings, entries, node as usize);
+    put_kind(answer, kind)
+}
+
+// How many elements a node has, as `aff_read::node::count` tells.
+#[no_mangle]
+pub extern "C" fn aff_count(
+    image: &[u8],
+    record: &[u64; 12],
+    strings: &[u32],
+    entries: &[u32],
+    node: u64,
+    count: &mut u64,
+) -> u32
+    ensures number { λ r. ⌜ r ≡ numberBy (countAnswer (now (image .entry)) (readerIn (now («record» .entry))) (now (strings .entry)) (now (entries .entry)) node) ⌝ }
+    ensures count { λ _. ⌜ now (count .exit) ≡ leftBy (λ (n : ℕ). n) (now (count .entry)) (countAnswer (now (image .entry)) (readerIn (now («record» .entry))) (now (strings .entry)) (now (entries .entry)) node) ⌝ }
+{
+    let answer = aff_read::node::count(image, reader_of(record), strings, entries, node as usize);
+    put_number(answer, count)
+}
+
+// Writes a node's path at the front of an output, as `aff_read::paths::path` does, and tells its length.
+#[no_mangle]
+pub extern "C" fn aff_path(
+    image: &[u8],
+    record: &[u64; 12],
+    strings: &[u32],
+    entries: &[u32],
+    node: u64,
+    output: &mut [u8],
+    size: &mut u64,
+) -> u32
+    ensures number { λ r. ⌜ r ≡ numberBy (pathAnswer (now (image .entry)) (readerIn (now («record» .entry))) (now (strings .entry)) (now (entries .entry)) node (length (now (output .entry)))) ⌝ }
+    ensures output { λ _. ⌜ now (output .exit) ≡ frontWritten (pathAnswer (now (image .entry)) (readerIn (now («record» .entry))) (now (strings .entry)) (now (entries .entry)) node (length (now (output .entry)))) (pathAt (now (image .entry)) (readerIn (now («record» .entry))) (now (strings .entry)) (now (entries .entry)) node) (now (output .entry)) ⌝ }
+    ensures size { λ _. ⌜ now (size .exit) ≡ leftBy (λ (n : ℕ). n) (now (size .entry)) (pathAnswer (now (image .entry)) (readerIn (now («record» .entry))) (now (strings .entry)) (now (entries .entry)) node (length (now (output .entry)))) ⌝ }
+{
+    let answer = aff_read::paths::path(
+        image,
+        reader_of(record),
+        strings,
+        entries,
+        node as usize,
+        output,
+    );
+    put_number(answer, size)
+}
+
+// Writes listing order at the front of an output, as `aff_read::lister::listing` does, and tells how many numbers it has.
+#[no_mangle]
+pub extern "C" fn aff_listing(
+    image: &[u8],
+    record: &[u64; 12],
+    strings: &[u32],
+    entries: &[u32],
+    output: &mut [u32],
+    count: &mut u64,
+) -> u32
+    ensures number { λ r. ⌜ r ≡ numberBy (listingAnswer (now (image .entry)) (readerIn (now («record» .entry))) (now (strings .entry)) (now (entries .entry)) (length (now (output .entry)))) ⌝ }
+    ensures output { λ _. ⌜ now (output .exit) ≡ frontWritten (listingAnswer (now (image .entry)) (readerIn (now («record» .entry))) (now (strings .entry)) (now (entries .entry)) (length (now (output .entry)))) (order (now (image .entry)) (readerIn (now («record» .entry))) (now (strings .entry)) (now (entries .entry))) (now (output .entry)) ⌝ }
+    ensures count { λ _. ⌜ now (count .exit) ≡ leftBy (λ (n : ℕ). n) (now (count .entry)) (listingAnswer (now (image .entry)) (readerIn (now («record» .entry))) (now (strings .entry)) (now (entries .entry)) (length (now (output .entry)))) ⌝ }
+{
+    let answer = aff_read::lister::listing(image, reader_of(record), strings, entries, output);
+    put_number(answer, count)
 }
 
 // Where the data of a node stand in the image, as `aff_read::node::view_bounds` tells.
@@ -131,14 +280,14 @@ pub extern "C" fn aff_view(
     ensures offset { λ _. ⌜ now (offset .exit) ≡ leftBy (λ (s : Span). s .offset) (now (offset .entry)) (viewAnswer (now (image .entry)) (readerIn (now («record» .entry))) (now (strings .entry)) (now (entries .entry)) node) ⌝ }
     ensures size { λ _. ⌜ now (size .exit) ≡ leftBy (λ (s : Span). s .size) (now (size .entry)) (viewAnswer (now (image .entry)) (readerIn (now («record» .entry))) (now (strings .entry)) (now (entries .entry)) node) ⌝ }
 {
-    match aff_read::node::view_bounds(image, reader_of(record), strings, entries, node as usize) {
-        PartAnswer::At(span) => {
-            *offset = span.offset as u64;
-            *size = span.size as u64;
-            0
-        }
-        PartAnswer::Refused(refusal) => refusal.number(),
-    }
+    let answer = aff_read::node::view_bounds(
+        image,
+        reader_of(record),
+        strings,
+        entries,
+        node as usize,
+    );
+    put_span(answer, offset, size)
 }
 
 // One element of a node's data, as `aff_read::node::element` tells.
