@@ -25,7 +25,7 @@ use Rattle.aff_run.specs.Described.{sizeOf}
 use Rattle.aff_run.specs.Run.{Call, State, next, begun, storesOf, answersOf, runAnswers, runStores, afterBegin, described, closedBy}
 use Rattle.aff_run.specs.Shows.{Shows}
 use Rattle.aff_run.proofs.BeginGoodLaws.{begin-good, begin-form, begin-stores}
-use Rattle.aff_run.proofs.CutLaws.{cut-run-stores, cut-run-room, cut-run-answers}
+use Rattle.aff_run.proofs.CutLaws.{cut-run-stores, cut-run-room, cut-begin, cut-run-answers-before}
 use Rattle.aff_run.proofs.GoodLaws.{Good}
 use Rattle.aff_run.proofs.PlaceLaws.{Behind, Shaped, behind-first, shaped-take, run-shape}
 use Rattle.aff_run.proofs.RunLaws.{run-shows}
@@ -180,5 +180,6 @@ demand3-cut room form text tree allowance calls k =
     record {
       stores = cut-run-stores room form text tree allowance calls k;
       room-left = cut-run-room room form text tree allowance calls k;
-      answers = cut-run-answers room form text tree allowance calls k;
+      begins = cut-begin room form text tree allowance k;
+      answers = λ before after e l. rw e (cut-run-answers-before room form text tree allowance before after k l);
     }

@@ -4,15 +4,15 @@
 -- contracts of begin, make, put and close, of opening and of the reading calls cite.
 use mathlib.Core.Path.{_≡_}
 use mathlib.Core.Bool.{true}
-use mathlib.Core.List.{List, []}
-use Prim.Native.Nat.{ℕ, _≤_, _<_}
+use mathlib.Core.List.{List, [], _++_}
+use Prim.Native.Nat.{ℕ, _≤_, _<_, min}
 use lib.ListN.{length, take}
 use Rattle.aff_format.specs.Answer.{Answer, refused, refusal}
 use Rattle.aff_format.specs.Limits.{stringLimit, nodeLimit}
 use Rattle.aff_open.specs.Opening.{opened}
 use Rattle.aff_write.specs.Stores.{Store, applyStores}
 use Rattle.aff_run.specs.Cut.{cutAnswers, cutStores}
-use Rattle.aff_run.specs.Run.{Call, runAnswers, runStores, described, closedBy}
+use Rattle.aff_run.specs.Run.{Call, begun, runAnswers, runStores, described, closedBy}
 use Rattle.aff_run.specs.Shows.{Shows}
 
 -- The room after the first k of all the stores of a run: document 01, 'Writing keys': each place holds the last byte stored to it, else its
@@ -36,12 +36,13 @@ Demand3 = (room form text tree : List ℕ) (allowance : ℕ) (calls : List Call)
     → Killed room form (runStores room form text tree allowance calls) calls (runAnswers room form text tree allowance calls) k
 
 -- A run cut after k stores is the same run with its allowances giving out there: it makes the first k stores of the uncut run, ends in the room
--- after them, and answers the same as long as the stores last.
+-- after them, and answers the same before that point, begin's answer included.
 pub record Cut (room form text tree : List ℕ) (allowance : ℕ) (calls : List Call) (k : ℕ) : Type 0 where
   pub stores : cutStores room form text tree allowance calls k ≡ take k (runStores room form text tree allowance calls)
   pub room-left : applyStores room (cutStores room form text tree allowance calls k) ≡ roomAt room (runStores room form text tree allowance calls) k
-  pub answers : length (runStores room form text tree allowance calls) ≤ k
-      → cutAnswers room form text tree allowance calls k ≡ runAnswers room form text tree allowance calls
+  pub begins : length (begun room form text tree allowance .stores) ≤ k → begun room form text tree (min allowance k) ≡ begun room form text tree allowance
+  pub answers : (before after : List Call) → calls ≡ before ++ after → length (runStores room form text tree allowance before) ≤ k
+      → take (length before) (cutAnswers room form text tree allowance calls k) ≡ take (length before) (runAnswers room form text tree allowance calls)
 
 abbrev pub Demand3Cut : Type 0
 Demand3Cut = (room form text tree : List ℕ) (allowance : ℕ) (calls : List Call) (k : ℕ) → Cut room form text tree allowance calls k
