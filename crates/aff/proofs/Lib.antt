@@ -1,2 +1,3 @@
 -- The proofs of the demands.
+pub mod Demand1Laws
 pub mod Demand3Laws
