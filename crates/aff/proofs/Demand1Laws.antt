@@ -43,11 +43,11 @@ use Rattle.aff.specs.Demand1.{NotBy, Is24, Not24, EachReading, EachWriti
 
 -- ---- Checks that tell other numbers.
 
-abbrev Others : ℕ → List Check → Type 0
+abbrev pub Others : ℕ → List Check → Type 0
 Others n [] = Unit {0}
 Others n (check wrong t ∷ checks) = (eqb (t .number) n ≡ false) × Others n checks
 
-others-not : {A : Type 0} (n : ℕ) (checks : List Check) (a : A) → Others n checks → NotBy n (firstWrong checks a)
+pub others-not : {A : Type 0} (n : ℕ) (checks : List Check) (a : A) → Others n checks → NotBy n (firstWrong checks a)
 others-not n [] a o t h e = not-both (sym h)
 others-not n (check true r ∷ checks) a o t h e =
     let q : r ≡ t = cc in true≢false (sym (eq-eqb (r .number) n (ap (λ (x : Told). x .number) q ∙ e)) ∙ o .0)
