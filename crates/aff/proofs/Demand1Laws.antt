@@ -2,7 +2,7 @@
 -- call judges 24 first, so it answers 24 where the record does not belong, and where it does, no check behind tells 24. Assumes nothing.
 use mathlib.Core.Path.{_≡_, refl, sym, ap, subst, _∙_}
 use mathlib.Core.Bool.{Bool, true, false, cond, not, _||_, true≢false}
-use mathlib.Core.List.{List, [], _∷_, _++_}
+use mathlib.Core.List.{List, [], _∷_}
 use mathlib.Core.Logic.{_↔_, _⊎_, inl, inr}
 use Prim.Native.Nat.{ℕ, _+_, _≤_}
 use native.Mathlib.Omega.{arith}
@@ -18,7 +18,7 @@ use Rattle.aff_format.proofs.AnswerLaws.{not-both}
 use Rattle.aff_open.specs.Belongs.{belongs}
 use Rattle.aff_open.specs.Faults.{AllHold, FirstFails, Settled}
 use Rattle.aff_open.specs.Nodes.{isAt}
-use Rattle.aff_open.specs.Opening.{opened, readerAfter, stringsAfter, entriesAfter}
+use Rattle.aff_open.specs.Opening.{stringsAfter, entriesAfter}
 use Rattle.aff_open.specs.Reader.{noReader}
 use Rattle.aff_open.specs.declared.reader.Reader.{Reader}
 use Rattle.aff_open.proofs.BelongsLaws.{none-belongs}
@@ -27,7 +27,7 @@ use Rattle.aff_open.proofs.RuleLaws.{AskFor, none, one, settled, all-accept, fi
 use Rattle.aff_read.specs.Answers.{nameAnswer, kindAnswer, countAnswer, viewAnswer, elementAnswer}
 use Rattle.aff_read.specs.Calls.{editionBy, found, pathAnswer, lookupAnswer, listingAnswer, lineAt, lineAnswer}
 use Rattle.aff_read.specs.Recall.{countAt, pathAt}
-use Rattle.aff_write.specs.Begin.{lentWrong, beginChecks, beginAnswer, beginWriter}
+use Rattle.aff_write.specs.Begin.{lentWrong, beginChecks, beginAnswer}
 use Rattle.aff_write.specs.Belongs.{belongs as belongsHere}
 use Rattle.aff_write.specs.Close.{closeAnswer}
 use Rattle.aff_write.specs.Make.{makeAnswer}

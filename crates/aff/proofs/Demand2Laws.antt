@@ -5,13 +5,13 @@ use mathlib.Core.Path.{_≡_, refl, sym, ap, subst, _∙_}
 use mathlib.Core.Bool.{Bool, true, false, cond, not, true≢false}
 use mathlib.Core.List.{List, [], _∷_}
 use mathlib.Core.Logic.{_↔_}
-use Prim.Native.Nat.{ℕ, zero, suc, _+_, _*_, _≤_, _<_}
+use Prim.Native.Nat.{ℕ, zero, suc, _*_, _≤_, _<_}
 use native.Mathlib.Numerals.{add-one}
 use native.Mathlib.Omega.{arith}
 use lib.Dec.{eqb, ltb}
 use lib.ListN.{length, getD, take}
 use borrow.Author.Tests.{ne-eqb, le-ltb, lt-ltb, lt-leb}
-use Rattle.aff_format.specs.Answer.{Answer, accepted, refused, check, refusal}
+use Rattle.aff_format.specs.Answer.{accepted, refused, check, refusal}
 use Rattle.aff_format.specs.Bytes.{part}
 use Rattle.aff_format.specs.Element.{elementAt}
 use Rattle.aff_format.specs.Kind.{elementSize, isVoid}
@@ -26,7 +26,7 @@ use Rattle.aff_open.specs.Belongs.{Belongs, belongs}
 use Rattle.aff_open.specs.Nodes.{nodeEntry, isAt}
 use Rattle.aff_open.specs.Obeys.{Obeys}
 use Rattle.aff_open.specs.Opening.{opened, readerFor, stringsAfter, entriesAfter}
-use Rattle.aff_open.specs.Recorded.{recordedEntry, recordedString}
+use Rattle.aff_open.specs.Recorded.{recordedEntry}
 use Rattle.aff_open.specs.Reader.{noSpan}
 use Rattle.aff_open.specs.Sections.{orTwo, editionIn}
 use Rattle.aff_open.specs.Tables.{stringsIn, nodesIn}

@@ -8,7 +8,7 @@ use mathlib.Core.List.{List, [], _∷_}
 use mathlib.Core.Logic.{_↔_}
 use Prim.Native.Nat.{ℕ, _+_, _*_, _≤_, _<_}
 use lib.ListN.{length, getD, take}
-use Rattle.aff_format.specs.Answer.{Answer, accepted, refused, refusal}
+use Rattle.aff_format.specs.Answer.{accepted, refused, refusal}
 use Rattle.aff_format.specs.Bytes.{Octets, part}
 use Rattle.aff_format.specs.Element.{elementAt}
 use Rattle.aff_format.specs.Kind.{elementSize, isVoid}
