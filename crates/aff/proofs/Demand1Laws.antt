@@ -36,10 +36,11 @@ use Rattle.aff_write.specs.Writer.{dataPlace, noWriter}
 use Rattle.aff_write.specs.declared.writer.Writer.{Writer}
 use Rattle.aff_write.proofs.BelongsLaws.{none-belongs as none-belongs-here}
 use Rattle.aff_run.specs.Exact.{exactChecks, exactValue, exactAnswer, Exact, stops}
-use Rattle.aff_run.specs.Run.{Call, make, put, close, isAccepted, grown}
+use Rattle.aff_run.specs.Run.{Call, make, put, close, State, turn, isAccepted, grown}
 use Rattle.aff_run.proofs.BeginGoodLaws.{lent-right}
+use Rattle.aff_run.proofs.CutLaws.{make-stores, put-tells, close-tells, begun-tells}
 use Rattle.aff_run.proofs.ExactLaws.{run-exact, run-spent, run-refused}
-use Rattle.aff.specs.Demand1.{NotBy, Is24, Not24, EachReading, EachWriting, beginRules, Numbered, Demand1}
+use Rattle.aff.specs.Demand1.{NotBy, Is24, Not24, EachReading, EachWriting, beginRules, Numbered, toldBy, Demand1}
 
 -- ---- Checks that tell other numbers.
 
@@ -171,6 +172,13 @@ exact-numbered (c ∷ cs) (a ∷ answers) room stopped tree x =
     let (not, only) = answer-numbers stopped room tree c a (x .0) in
     (not, only, exact-numbered cs answers room (stopped || stops c a) (grown tree c (isAccepted a)) (x .1))
 
+-- ---- Stores told.
+
+tells-made : (s : State) (c : Call) → length (turn s c .stores) ≡ toldBy c (turn s c .answer)
+tells-made s (make parent name) = ap length (make-stores s parent name)
+tells-made s (put node type bytes allowance) = put-tells s node type bytes allowance
+tells-made s (close allowance) = close-tells s allowance
+
 -- ---- The demand.
 
 pub demand1 : Demand1
@@ -193,4 +201,6 @@ demand1 =
       spent-run = λ room form text tree allowance calls h e. run-spent room form text tree allowance calls _ h (eq-eqb _ 23 e);
       refused-run = λ room form text tree allowance calls h e. run-refused room form text tree allowance calls _ h (ne-eqb _ 23 e);
       exact-numbers = λ room stopped tree calls answers. exact-numbered calls answers room stopped tree;
+      begin-tells = begun-tells;
+      tells = tells-made;
     }

@@ -1,7 +1,8 @@
 -- Demand 1. Every call ends, does nothing undefined and answers by document 01's table, whatever it is given. That each function ends, stays inside
 -- what it is lent and meets its contract for every input is what the prover proves of it; each contract is an equation with a definition of
 -- specs/, and a call's refusals stand there in the order of document 01. This file says what no single contract does: when the numbers 24 and 22 come
--- at all, and that a writer's answers are decided by the tree that the calls describe. So a writer that refuses every call cannot pass.
+-- at all, and that a writer's answers are decided by the tree that the calls describe. So a writer that refuses every call cannot pass, nor one that
+-- makes up the number of its stores.
 use mathlib.Core.Path.{_≡_}
 use mathlib.Core.Bool.{Bool, true, false, _||_}
 use mathlib.Core.List.{List, [], _∷_}
@@ -21,10 +22,11 @@ use Rattle.aff_write.specs.Begin.{beginAnswer, beginWriter}
 use Rattle.aff_write.specs.Close.{closeAnswer}
 use Rattle.aff_write.specs.Make.{makeAnswer}
 use Rattle.aff_write.specs.Put.{putAnswer}
+use Rattle.aff_write.specs.Stores.{storesTold}
 use Rattle.aff_write.specs.Writer.{dataPlace}
 use Rattle.aff_write.specs.declared.writer.Writer.{Writer}
 use Rattle.aff_run.specs.Exact.{Exact, AllWrongRecord, stops}
-use Rattle.aff_run.specs.Run.{Call, runAnswers, runStores}
+use Rattle.aff_run.specs.Run.{Call, make, put, close, State, begun, turn, runAnswers, runStores}
 
 -- An answer is no refusal by this number.
 abbrev pub NotBy : {A : Type 0} → ℕ → Answer A → Type 0
@@ -70,6 +72,12 @@ Numbered stopped (c ∷ cs) [] = ⊥
 Numbered stopped (c ∷ cs) (a ∷ answers) =
     NotBy 24 a × ((a ≡ refused (refusal 22)) ↔ (stopped ≡ true)) × Numbered (stopped || stops c a) cs answers
 
+-- How many stores the answer of a call tells; a make tells a node's number, and stores nothing.
+abbrev pub toldBy : Call → Answer ℕ → ℕ
+toldBy (make parent name) answer = 0
+toldBy (put node type bytes allowance) answer = storesTold answer
+toldBy (close allowance) answer = storesTold answer
+
 pub record Demand1 : Type 0 where
   -- Reading. After an accepted opening no reading call on its record, the image and the areas as it left them answers 24.
   pub opened-reads : (image form strings entries : List ℕ) {r : Reader} → opened image form (length strings) (length entries) ≡ accepted r
@@ -100,3 +108,8 @@ pub record Demand1 : Type 0 where
   -- What `Exact` says of 24 and 22.
   pub exact-numbers : (room : ℕ) (stopped : Bool) (tree : Tree) (calls : List Call) (answers : List (Answer ℕ))
       → Exact room stopped tree calls answers → Numbered stopped calls answers
+  -- The number told is the number of stores made, whatever is lent and however begin and the calls answer: the first so many of those that the call
+  -- needs, and so none but where it is accepted or answers 23.
+  pub begin-tells : (room form text tree : List ℕ) (allowance : ℕ)
+      → length (begun room form text tree allowance .stores) ≡ storesTold (begun room form text tree allowance .answer)
+  pub tells : (s : State) (c : Call) → length (turn s c .stores) ≡ toldBy c (turn s c .answer)
