@@ -10,7 +10,7 @@ use native.Mathlib.Numerals.{add-one}
 use native.Mathlib.Omega.{arith}
 use lib.Dec.{eqb, ltb}
 use lib.ListN.{length, getD, take}
-use borrow.Author.Tests.{ne-eqb, le-ltb, lt-ltb, lt-leb}
+use borrow.Author.Tests.{ne-eqb, le-ltb, lt-ltb, le-leb, lt-leb}
 use Rattle.aff_format.specs.Answer.{accepted, refused, check, refusal}
 use Rattle.aff_format.specs.Bytes.{part}
 use Rattle.aff_format.specs.Element.{elementAt}
@@ -103,6 +103,10 @@ module _ (image : List ℕ) (r : Reader) (strings entries : List ℕ) (b : Belon
         rw (it, passes, lt-leb (recordedEntry image entries node .count) index h)
         (ap (λ (l : List ℕ). accepted (elementAt (kindAt image entries node) l index)) (data-named image entries node))
 
+    element-past : (index : ℕ) → recordedEntry image entries node .count ≤ index → elementAnswer image r strings entries node index ≡ refused (refusal 16)
+    unfolding elementAnswer
+    element-past index h = rw (it, passes, le-leb (recordedEntry image entries node .count) index h)
+
   order-begins : take 1 (order image r strings entries) ≡ 0 ∷ []
   unfolding preorder
   order-begins = rw (add-one (r .nodes))
@@ -116,6 +120,7 @@ module _ (image : List ℕ) (r : Reader) (strings entries : List ℕ) (b : Belon
         name = name-read;
         view = view-read;
         element = λ node index there. element-read node there index;
+        element-past = λ node index there. element-past node there index;
         order-begins = order-begins;
         order-once = order-once b;
         order-only = order-only b;
@@ -200,6 +205,10 @@ module _ (image form strings entries : List ℕ) {r : Reader} (h : opened image 
         kind = λ node l. rw (here, le-ltb (r .nodes) node l) (ap (λ (e : Entry). accepted (e .kind)) (entry-is node l));
         count = λ node l. rw (here, le-ltb (r .nodes) node l) (ap (λ (e : Entry). accepted (e .count)) (entry-is node l));
         view = λ node l. subst (λ (e : Entry). PartIs image (viewAnswer image r ss es node) (dataNamed image e)) (entry-is node l) (view-read image r ss es shown node l);
+        element = λ node index l.
+            subst
+            (λ (e : Entry). index < e .count → elementAnswer image r ss es node index ≡ accepted (elementAt (e .kind) (dataNamed image e) index))
+            (entry-is node l) (element-read image r ss es shown node l index);
         path = path-is;
         others = reads-others;
         lookup = λ path w. lookup-only image form strings entries h path (formed w);

@@ -108,8 +108,8 @@ pub record Demand1 : Type 0 where
   -- What `Exact` says of 24 and 22.
   pub exact-numbers : (room : ℕ) (stopped : Bool) (tree : Tree) (calls : List Call) (answers : List (Answer ℕ))
       → Exact room stopped tree calls answers → Numbered stopped calls answers
-  -- The number told is the number of stores made, whatever is lent and however begin and the calls answer: the first so many of those that the call
-  -- needs, and so none but where it is accepted or answers 23.
+  -- The number of stores told is the number made, whatever is lent; none are told but where a call is accepted or answers 23. (Which they are, the
+  -- definitions of `begun` and `turn` say: the first so many of those that the call needs, in document 01's order.)
   pub begin-tells : (room form text tree : List ℕ) (allowance : ℕ)
       → length (begun room form text tree allowance .stores) ≡ storesTold (begun room form text tree allowance .answer)
   pub tells : (s : State) (c : Call) → length (turn s c .stores) ≡ toldBy c (turn s c .answer)

@@ -49,10 +49,12 @@ pub record Reads (image : List ℕ) (r : Reader) (strings entries : List ℕ) : 
   -- A node's name is the string of its entry's number, empty for the root; its view is the bytes that its entry names.
   pub name : (node : ℕ) → node ≤ r .nodes → PartIs image (nameAnswer image r strings entries node) (nameAt image r strings entries node)
   pub view : (node : ℕ) → node ≤ r .nodes → PartIs image (viewAnswer image r strings entries node) (dataNamed image (recordedEntry image entries node))
-  -- An element below the count is the decoding of these bytes.
+  -- An element below the count is the decoding of these bytes; any other is 16.
   pub element : (node index : ℕ) → node ≤ r .nodes → index < recordedEntry image entries node .count
       → elementAnswer image r strings entries node index
       ≡ accepted (elementAt (recordedEntry image entries node .kind) (dataNamed image (recordedEntry image entries node)) index)
+  pub element-past : (node index : ℕ) → node ≤ r .nodes → recordedEntry image entries node .count ≤ index
+      → elementAnswer image r strings entries node index ≡ refused (refusal 16)
   -- Listing order begins with the root and has each node exactly once, and nothing else.
   pub order-begins : take 1 (order image r strings entries) ≡ 0 ∷ []
   pub order-once : (node : ℕ) → node ≤ r .nodes → occurrences node (order image r strings entries) ≡ 1
@@ -78,6 +80,8 @@ module _ {image form : List ℕ} (file : Obeys image form) where
     pub kind : (node : ℕ) → node ≤ r .nodes → kindAnswer image r strings entries node ≡ accepted (itsEntry node .kind)
     pub count : (node : ℕ) → node ≤ r .nodes → countAnswer image r strings entries node ≡ accepted (itsEntry node .count)
     pub view : (node : ℕ) → node ≤ r .nodes → PartIs image (viewAnswer image r strings entries node) (dataNamed image (itsEntry node))
+    pub element : (node index : ℕ) → node ≤ r .nodes → index < itsEntry node .count
+        → elementAnswer image r strings entries node index ≡ accepted (elementAt (itsEntry node .kind) (dataNamed image (itsEntry node)) index)
     pub path : (node : ℕ) → node ≤ r .nodes → pathAt image r strings entries node ≡ itsPath node
     -- Every other number is 15.
     pub others : (n : ℕ) → r .nodes < n → Absent image r strings entries n
