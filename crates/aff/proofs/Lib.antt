@@ -1,2 +1,4 @@
 -- The proofs of the demands.
+pub mod Demand1Laws
+pub mod Demand2Laws
 pub mod Demand3Laws

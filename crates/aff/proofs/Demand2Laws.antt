@@ -1,0 +1,230 @@
+-- Demand 2 from the laws of opening (`accepted-obeys`, `obeys-accepted`, `refused-first`, `first-refused`, `opened-belongs`, `opened-shape`), of lookup
+-- (`lookup-accepts`, `lookup-absent`, `lookup-only`, `lookup-path`), of listing order and of the cases. What is new here: the answers of name and data by
+-- the definitions behind them, and that record and areas of an opened file show its own tables. Assumes nothing.
+use mathlib.Core.Path.{_≡_, refl, sym, ap, subst, _∙_}
+use mathlib.Core.Bool.{Bool, true, false, cond, not, true≢false}
+use mathlib.Core.List.{List, [], _∷_}
+use mathlib.Core.Logic.{_↔_}
+use Prim.Native.Nat.{ℕ, zero, suc, _*_, _≤_, _<_}
+use native.Mathlib.Numerals.{add-one}
+use native.Mathlib.Omega.{arith}
+use lib.Dec.{eqb, ltb}
+use lib.ListN.{length, getD, take}
+use borrow.Author.Tests.{ne-eqb, le-ltb, lt-ltb, le-leb, lt-leb}
+use Rattle.aff_format.specs.Answer.{accepted, refused, check, refusal}
+use Rattle.aff_format.specs.Bytes.{part}
+use Rattle.aff_format.specs.Element.{elementAt}
+use Rattle.aff_format.specs.Kind.{elementSize, isVoid}
+use Rattle.aff_format.specs.Path.{isPath, WellFormed}
+use Rattle.aff_format.specs.Tree.{frontBy}
+use Rattle.aff_format.specs.declared.edition.Edition.{Edition}
+use Rattle.aff_format.specs.declared.entry.Entry.{Entry}
+use Rattle.aff_format.proofs.EditionLaws.{edition-of-number}
+use Rattle.aff_format.proofs.PathLaws.{path-sound, path-complete}
+use Rattle.aff_format.proofs.TreeLaws.{front-same}
+use Rattle.aff_open.specs.Belongs.{Belongs, belongs}
+use Rattle.aff_open.specs.Nodes.{nodeEntry, isAt}
+use Rattle.aff_open.specs.Obeys.{Obeys}
+use Rattle.aff_open.specs.Opening.{opened, readerFor, stringsAfter, entriesAfter}
+use Rattle.aff_open.specs.Recorded.{recordedEntry}
+use Rattle.aff_open.specs.Reader.{noSpan}
+use Rattle.aff_open.specs.Sections.{orTwo, editionIn}
+use Rattle.aff_open.specs.Tables.{stringsIn, nodesIn}
+use Rattle.aff_open.specs.declared.reader.Reader.{Reader}
+use Rattle.aff_open.proofs.BelongsLaws.{belongs-record, record-belongs}
+use Rattle.aff_open.proofs.FaultLaws.{refused-first, first-refused}
+use Rattle.aff_open.proofs.ObeysLaws.{accepted-obeys, obeys-accepted, edition-found, strings-found, entries-found}
+use Rattle.aff_open.proofs.OpenedLaws.{OpenedShape, opened-shape, opened-belongs}
+use Rattle.aff_read.specs.Answers.{nameAnswer, kindAnswer, countAnswer, viewAnswer, elementAnswer}
+use Rattle.aff_read.specs.Calls.{editionBy, found, lookupAnswer, pathAnswer, preorder, order}
+use Rattle.aff_read.specs.Recall.{kindAt, parentAt, nameAt, nameSpan, dataSpan, spanBytes, bytesAt, pathAt}
+use Rattle.aff_read.proofs.CasesLaws.{cases-hold}
+use Rattle.aff_read.proofs.FrontLaws.{name-bytes}
+use Rattle.aff_read.proofs.LookupLaws.{lookup-malformed, lookup-accepts, lookup-absent}
+use Rattle.aff_read.proofs.OnceLaws.{order-once, order-only, order-length}
+use Rattle.aff_read.proofs.UniqueLaws.{lookup-only, lookup-path}
+use Rattle.aff_run.specs.Shows.{PartIs, Absent}
+use Rattle.aff.specs.Demand2.{dataNamed, Reads, itsEntry, itsName, itsPath, ReadsFile, Demand2}
+use Rattle.aff.proofs.Demand1Laws.{others-not}
+
+-- ---- What is read with a record that belongs.
+
+-- The bytes of a node's data are those that its entry names.
+data-named : (image entries : List ℕ) (node : ℕ) → bytesAt image entries node ≡ dataNamed image (recordedEntry image entries node)
+unfolding dataSpan
+data-named image entries node = go (recordedEntry image entries node) (isVoid (recordedEntry image entries node .kind))
+  where
+    go : (e : Entry) (v : Bool)
+        → spanBytes image (cond v noSpan (record { offset = e .offset; size = e .count * elementSize (e .kind) }))
+        ≡ cond v [] (part (e .offset) (e .count * elementSize (e .kind)) image)
+    go e true = refl
+    go e false = refl
+
+module _ (image : List ℕ) (r : Reader) (strings entries : List ℕ) (b : Belongs image r strings entries) where
+  it : belongs image r strings entries ≡ true
+  it = record-belongs b
+
+  malformed : (path : List ℕ) → (lookupAnswer image r strings entries path ≡ refused (refusal 14)) ↔ (WellFormed (editionBy r) path → ⊥)
+  unfolding lookupAnswer
+  malformed path = go (isPath (editionBy r) path) refl
+    where
+      go : (w : Bool) → isPath (editionBy r) path ≡ w
+          → (lookupAnswer image r strings entries path ≡ refused (refusal 14)) ↔ (WellFormed (editionBy r) path → ⊥)
+      go true w = (
+        λ h.
+            absurd
+            (others-not 14 (check (not (isAt (found image r strings entries path))) (refusal 15) ∷ []) _ (refl, tt) (refusal 14)
+            (rw (it, w) at h) refl),
+        λ n. absurd (n (path-sound (editionBy r) path w)),
+      )
+      go false w = (
+        λ h p. true≢false (sym (path-complete (editionBy r) path p) ∙ w),
+        λ n. sym (lookup-malformed image r strings entries path it w),
+      )
+
+  module _ (node : ℕ) (there : node ≤ r .nodes) where
+    passes : ltb (r .nodes) node ≡ false
+    passes = le-ltb (r .nodes) node there
+
+    name-read : PartIs image (nameAnswer image r strings entries node) (nameAt image r strings entries node)
+    unfolding nameAnswer
+    name-read =
+        record { span = nameSpan image r strings entries node; answers = rw (it, passes); part = rw (it, passes) (name-bytes image r strings entries b node there) }
+
+    view-read : PartIs image (viewAnswer image r strings entries node) (dataNamed image (recordedEntry image entries node))
+    unfolding viewAnswer
+    view-read = record { span = dataSpan image entries node; answers = rw (it, passes); part = rw (it, passes) (data-named image entries node) }
+
+    element-read : (index : ℕ) → index < recordedEntry image entries node .count
+        → elementAnswer image r strings entries node index
+        ≡ accepted (elementAt (recordedEntry image entries node .kind) (dataNamed image (recordedEntry image entries node)) index)
+    unfolding elementAnswer
+    element-read index h =
+        rw (it, passes, lt-leb (recordedEntry image entries node .count) index h)
+        (ap (λ (l : List ℕ). accepted (elementAt (kindAt image entries node) l index)) (data-named image entries node))
+
+    element-past : (index : ℕ) → recordedEntry image entries node .count ≤ index → elementAnswer image r strings entries node index ≡ refused (refusal 16)
+    unfolding elementAnswer
+    element-past index h = rw (it, passes, le-leb (recordedEntry image entries node .count) index h)
+
+  order-begins : take 1 (order image r strings entries) ≡ 0 ∷ []
+  unfolding preorder
+  order-begins = rw (add-one (r .nodes))
+
+  reads : Reads image r strings entries
+  reads =
+      record {
+        malformed = malformed;
+        lowest = λ path w. lookup-accepts image r strings entries path b (path-complete (editionBy r) path w);
+        absent = λ path w. lookup-absent image r strings entries path b (path-complete (editionBy r) path w);
+        name = name-read;
+        view = view-read;
+        element = λ node index there. element-read node there index;
+        element-past = λ node index there. element-past node there index;
+        order-begins = order-begins;
+        order-once = order-once b;
+        order-only = order-only b;
+        order-length = order-length b;
+      }
+
+-- ---- What is read right after an accepted opening.
+
+module _ (image form strings entries : List ℕ) {r : Reader} (h : opened image form (length strings) (length entries) ≡ accepted r) (file : Obeys image form) where
+  abbrev ss : List ℕ
+  ss = stringsAfter image form strings entries
+
+  abbrev es : List ℕ
+  es = entriesAfter image form strings entries
+
+  shape : OpenedShape image form strings entries r
+  shape = opened-shape image form strings entries h
+
+  shown : Belongs image r ss es
+  shown = belongs-record (opened-belongs image form strings entries h)
+
+  -- The tables by the text's edition are the file's.
+  strings-are : stringsIn (editionIn image) image ≡ file .strings
+  strings-are = ap (λ (e : Edition). stringsIn e image) (edition-found file) ∙ strings-found file
+
+  entries-are : nodesIn (editionIn image) image ≡ file .entries
+  entries-are = ap (λ (e : Edition). nodesIn e image) (edition-found file) ∙ entries-found file
+
+  strings-count : r .strings ≡ length (file .strings)
+  strings-count = ap (λ (x : Reader). x .strings) (shape .reader) ∙ ap length strings-are
+
+  nodes-count : r .nodes ≡ length (file .entries)
+  nodes-count = ap (λ (x : Reader). x .nodes) (shape .reader) ∙ ap length entries-are
+
+  edition-is : editionBy r ≡ file .edition
+  edition-is = ap editionBy (shape .reader) ∙ ap orTwo (edition-of-number (editionIn image)) ∙ edition-found file
+
+  formed : {path : List ℕ} → WellFormed (file .edition) path → isPath (editionBy r) path ≡ true
+  formed {path} w = path-complete (editionBy r) path (rw edition-is w)
+
+  -- What the areas show of a node.
+  entry-is : (node : ℕ) → node ≤ r .nodes → recordedEntry image es node ≡ itsEntry file node
+  unfolding recordedEntry
+  entry-is zero l = refl
+  entry-is (suc k) l = shape .entries-are (suc k) (omega arith) l ∙ ap (λ (x : List Entry). nodeEntry x (suc k)) entries-are
+
+  name-is : (node : ℕ) → 0 < node → node ≤ r .nodes → nameAt image r ss es node ≡ itsName file node
+  unfolding nameAt
+  name-is node lo l =
+      rw (ne-eqb node 0 (λ q. omega arith), entry-is node l)
+      (shape .strings-are (itsEntry file node .string) (omega (arith, strings-count, file .string node lo (omega (arith, nodes-count))))
+      ∙ ap (λ (x : List (List ℕ)). getD x (itsEntry file node .string) []) strings-are)
+
+  path-is : (node : ℕ) → node ≤ r .nodes → pathAt image r ss es node ≡ itsPath file node
+  path-is node l =
+      ap (λ (f : List ℕ). cond (eqb node 0) (47 ∷ []) f)
+      (front-same (parentAt image es) (λ k. itsEntry file k .parent) (nameAt image r ss es) (itsName file) (r .nodes)
+      (λ k lo hi. ap (λ (e : Entry). e .parent) (entry-is k hi)) name-is (shown .parent-exists) (r .nodes) node l
+      ∙ ap (λ (steps : ℕ). frontBy (λ k. itsEntry file k .parent) (itsName file) steps node) nodes-count)
+
+  reads-others : (n : ℕ) → r .nodes < n → Absent image r ss es n
+  unfolding nameAnswer kindAnswer countAnswer viewAnswer pathAnswer
+  reads-others n l =
+      let absent = lt-ltb (r .nodes) n l in
+      let here = record-belongs shown in
+      record {
+        name = rw (here, absent);
+        kind = rw (here, absent);
+        count = rw (here, absent);
+        view = rw (here, absent);
+        path = λ room. rw (here, absent);
+      }
+
+  reads-file : ReadsFile file r ss es
+  unfolding nameAt kindAnswer countAnswer
+  reads-file =
+      let here = record-belongs shown in
+      record {
+        nodes = nodes-count;
+        root-name = name-read image r ss es shown 0 (omega arith);
+        name = λ node lo l. subst (PartIs image (nameAnswer image r ss es node)) (name-is node lo l) (name-read image r ss es shown node l);
+        kind = λ node l. rw (here, le-ltb (r .nodes) node l) (ap (λ (e : Entry). accepted (e .kind)) (entry-is node l));
+        count = λ node l. rw (here, le-ltb (r .nodes) node l) (ap (λ (e : Entry). accepted (e .count)) (entry-is node l));
+        view = λ node l. subst (λ (e : Entry). PartIs image (viewAnswer image r ss es node) (dataNamed image e)) (entry-is node l) (view-read image r ss es shown node l);
+        element = λ node index l.
+            subst
+            (λ (e : Entry). index < e .count → elementAnswer image r ss es node index ≡ accepted (elementAt (e .kind) (dataNamed image e) index))
+            (entry-is node l) (element-read image r ss es shown node l index);
+        path = path-is;
+        others = reads-others;
+        lookup = λ path w. lookup-only image form strings entries h path (formed w);
+        lookup-absent = λ path w. lookup-absent image r ss es path shown (formed w);
+        lookup-path = λ node l. rw (sym (path-is node l)) (lookup-path image form strings entries h node l);
+      }
+
+-- ---- The demand.
+
+pub demand2 : Demand2
+demand2 =
+    record {
+      accepts = λ image form o. (λ (r, h). accepted-obeys image form o h, λ f. (readerFor (editionIn image) image, obeys-accepted image form f));
+      refuses = λ image form strings entries t. (refused-first image form strings entries, first-refused image form strings entries);
+      opened-belongs = λ image form strings entries h. belongs-record (opened-belongs image form strings entries h);
+      opened-reads = reads-file;
+      reads = reads;
+      cases = cases-hold;
+    }

@@ -1,0 +1,115 @@
+-- Demand 1. Every call ends, does nothing undefined and answers by document 01's table, whatever it is given. That each function ends, stays inside
+-- what it is lent and meets its contract for every input is what the prover proves of it; each contract is an equation with a definition of
+-- specs/, and a call's refusals stand there in the order of document 01. This file says what no single contract does: when the numbers 24 and 22 come
+-- at all, and that a writer's answers are decided by the tree that the calls describe. So a writer that refuses every call cannot pass, nor one that
+-- makes up the number of its stores.
+use mathlib.Core.Path.{_≡_}
+use mathlib.Core.Bool.{Bool, true, false, _||_}
+use mathlib.Core.List.{List, [], _∷_}
+use mathlib.Core.Logic.{_↔_}
+use Prim.Native.Nat.{ℕ, _≤_}
+use lib.ListN.{length}
+use Rattle.aff_format.specs.Answer.{Answer, accepted, refused, refusal, refusalAt}
+use Rattle.aff_format.specs.Limits.{imageLimit, textArea, treeArea}
+use Rattle.aff_format.specs.Tree.{Tree}
+use Rattle.aff_format.specs.declared.refusal.Told.{Told}
+use Rattle.aff_open.specs.Faults.{Rule, rule, AllHold, FirstFails}
+use Rattle.aff_open.specs.Opening.{opened, readerAfter, stringsAfter, entriesAfter}
+use Rattle.aff_open.specs.declared.reader.Reader.{Reader}
+use Rattle.aff_read.specs.Answers.{nameAnswer, kindAnswer, countAnswer, viewAnswer, elementAnswer}
+use Rattle.aff_read.specs.Calls.{pathAnswer, lookupAnswer, listingAnswer, lineAnswer}
+use Rattle.aff_write.specs.Begin.{beginAnswer, beginWriter}
+use Rattle.aff_write.specs.Close.{closeAnswer}
+use Rattle.aff_write.specs.Make.{makeAnswer}
+use Rattle.aff_write.specs.Put.{putAnswer}
+use Rattle.aff_write.specs.Stores.{storesTold}
+use Rattle.aff_write.specs.Writer.{dataPlace}
+use Rattle.aff_write.specs.declared.writer.Writer.{Writer}
+use Rattle.aff_run.specs.Exact.{Exact, AllWrongRecord, stops}
+use Rattle.aff_run.specs.Run.{Call, make, put, close, State, begun, turn, runAnswers, runStores}
+
+-- An answer is no refusal by this number.
+abbrev pub NotBy : {A : Type 0} → ℕ → Answer A → Type 0
+NotBy number answer = (t : Told) → answer ≡ refused t → t .number ≡ number → ⊥
+
+-- An answer is 24, or is not.
+abbrev pub Is24 : (A : Type 0) → Answer A → Type 0
+Is24 A answer = answer ≡ refused (refusal 24)
+
+abbrev pub Not24 : (A : Type 0) → Answer A → Type 0
+Not24 A answer = NotBy 24 answer
+
+-- Of each reading call with this record over these, whatever else it is given, the answer is of one sort.
+pub record EachReading (Sort : (A : Type 0) → Answer A → Type 0) (image : List ℕ) (r : Reader) (strings entries : List ℕ) : Type 0 where
+  pub name : (node : ℕ) → Sort _ (nameAnswer image r strings entries node)
+  pub kind : (node : ℕ) → Sort _ (kindAnswer image r strings entries node)
+  pub count : (node : ℕ) → Sort _ (countAnswer image r strings entries node)
+  pub view : (node : ℕ) → Sort _ (viewAnswer image r strings entries node)
+  pub element : (node index : ℕ) → Sort _ (elementAnswer image r strings entries node index)
+  pub path : (node room : ℕ) → Sort _ (pathAnswer image r strings entries node room)
+  pub lookup : (path : List ℕ) → Sort _ (lookupAnswer image r strings entries path)
+  pub listing : (room : ℕ) → Sort _ (listingAnswer image r strings entries room)
+  pub line : (node room : ℕ) → Sort _ (lineAnswer image r strings entries node room)
+
+-- The same of each writing call.
+pub record EachWriting (Sort : (A : Type 0) → Answer A → Type 0) (image : List ℕ) (w : Writer) (text tree : List ℕ) : Type 0 where
+  pub make : (parent : ℕ) (name : List ℕ) → Sort _ (makeAnswer (length image) w text tree parent name)
+  pub put : (node type : ℕ) (bytes : List ℕ) (allowance : ℕ) → Sort _ (putAnswer (length image) w text tree node type bytes allowance)
+  pub close : (allowance : ℕ) → Sort _ (closeAnswer image w text tree allowance)
+
+-- What begin asks, in document 01's order: 1, 21, 23. A room has at least a header's 168 bytes.
+abbrev pub beginRules : List ℕ → List ℕ → List ℕ → List ℕ → ℕ → List Rule
+beginRules room form text tree allowance =
+    rule ((length form ≡ 12) × (length text ≡ textArea) × (length tree ≡ treeArea) × (length room ≤ imageLimit)) (refusal 1)
+    ∷ rule (dataPlace ≤ length room) (refusal 21)
+    ∷ rule (1 ≤ allowance) (refusalAt 23 allowance)
+    ∷ []
+
+-- No answer of a run is 24, and an answer is 22 exactly if the writer was closed or stopped before: by an accepted close or a 23.
+abbrev pub Numbered : Bool → List Call → List (Answer ℕ) → Type 0
+Numbered stopped [] answers = Unit {0}
+Numbered stopped (c ∷ cs) [] = ⊥
+Numbered stopped (c ∷ cs) (a ∷ answers) =
+    NotBy 24 a × ((a ≡ refused (refusal 22)) ↔ (stopped ≡ true)) × Numbered (stopped || stops c a) cs answers
+
+-- How many stores the answer of a call tells; a make tells a node's number, and stores nothing.
+abbrev pub toldBy : Call → Answer ℕ → ℕ
+toldBy (make parent name) answer = 0
+toldBy (put node type bytes allowance) answer = storesTold answer
+toldBy (close allowance) answer = storesTold answer
+
+pub record Demand1 : Type 0 where
+  -- Reading. After an accepted opening no reading call on its record, the image and the areas as it left them answers 24.
+  pub opened-reads : (image form strings entries : List ℕ) {r : Reader} → opened image form (length strings) (length entries) ≡ accepted r
+      → EachReading Not24 image r (stringsAfter image form strings entries) (entriesAfter image form strings entries)
+  -- The record that a refused opening hands back, all zero, gets 24 from each reading call, over any image and areas.
+  pub refused-reads : (image form : List ℕ) (strings entries : ℕ) {t : Told} → opened image form strings entries ≡ refused t
+      → (other ss es : List ℕ) → EachReading Is24 other (readerAfter (opened image form strings entries)) ss es
+  -- Begin. It is accepted, with one store made, exactly when its rules hold, and refused by the first that fails.
+  pub begin-accepts : (room form text tree : List ℕ) (allowance : ℕ)
+      → (beginAnswer room form text tree allowance ≡ accepted 1) ↔ AllHold (beginRules room form text tree allowance)
+  pub begin-refuses : (room form text tree : List ℕ) (allowance : ℕ) (t : Told)
+      → (beginAnswer room form text tree allowance ≡ refused t) ↔ FirstFails (beginRules room form text tree allowance) t
+  -- The record that a begin refused otherwise than by 23 hands back, all zero, gets 24 from each writing call, over any image and areas.
+  pub refused-writes : (room form text tree : List ℕ) (allowance : ℕ) {t : Told} → beginAnswer room form text tree allowance ≡ refused t
+      → (t .number ≡ 23 → ⊥) → (other text' tree' : List ℕ)
+      → EachWriting Is24 other (beginWriter (beginAnswer room form text tree allowance) (length room) form) text' tree'
+  -- A run: a begin and then any calls with any arguments. Behind an accepted begin `Exact` says each answer: 22 exactly behind an accepted close
+  -- or a 23, and else what the tree described so far decides, with its sizes, the room's length and the allowance and nothing else: 15 no such
+  -- number, 14, 17 it has that child, 18, 19, 20, 21 by its sizes, 23 by the stores needed, or accepted.
+  pub run : (room form text tree : List ℕ) (allowance : ℕ) (calls : List Call) {n : ℕ} → beginAnswer room form text tree allowance ≡ accepted n
+      → Exact (length room) false [] calls (runAnswers room form text tree allowance calls)
+  -- Behind a begin refused by 23 the writer is stopped: every answer is 22.
+  pub spent-run : (room form text tree : List ℕ) (allowance : ℕ) (calls : List Call) {t : Told} → beginAnswer room form text tree allowance ≡ refused t
+      → t .number ≡ 23 → Exact (length room) true [] calls (runAnswers room form text tree allowance calls)
+  -- Behind a begin refused otherwise every answer is 24, and nothing is stored.
+  pub refused-run : (room form text tree : List ℕ) (allowance : ℕ) (calls : List Call) {t : Told} → beginAnswer room form text tree allowance ≡ refused t
+      → (t .number ≡ 23 → ⊥) → AllWrongRecord (runAnswers room form text tree allowance calls) × (runStores room form text tree allowance calls ≡ [])
+  -- What `Exact` says of 24 and 22.
+  pub exact-numbers : (room : ℕ) (stopped : Bool) (tree : Tree) (calls : List Call) (answers : List (Answer ℕ))
+      → Exact room stopped tree calls answers → Numbered stopped calls answers
+  -- The number of stores told is the number made, whatever is lent; none are told but where a call is accepted or answers 23. (Which they are, the
+  -- definitions of `begun` and `turn` say: the first so many of those that the call needs, in document 01's order.)
+  pub begin-tells : (room form text tree : List ℕ) (allowance : ℕ)
+      → length (begun room form text tree allowance .stores) ≡ storesTold (begun room form text tree allowance .answer)
+  pub tells : (s : State) (c : Call) → length (turn s c .stores) ≡ toldBy c (turn s c .answer)
