@@ -1,2 +1,4 @@
 -- The proofs of the demands.
 pub mod Demand3Laws
+pub mod WorkedSums
+pub mod WorkedLaws

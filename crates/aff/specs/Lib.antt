@@ -1,2 +1,3 @@
 -- The demands on the library, as statements over the definitions that the contracts cite.
 pub mod Demand3
+pub mod Worked
