@@ -16,7 +16,7 @@ fn line(allowance: usize) {
 }
 
 fn main() {
-    for allowance in 0..=215 {
+    for allowance in 0..216 {
         line(allowance);
     }
 }
