@@ -2,3 +2,5 @@
 pub mod Demand1Laws
 pub mod Demand2Laws
 pub mod Demand3Laws
+pub mod WorkedSums
+pub mod WorkedLaws

@@ -126,14 +126,14 @@ module _ (s : State) (tree : Tree) (g : Good s tree) where
 
   -- ---- The pieces.
 
-  front : List ℕ
+  unfoldable pub front : List ℕ
   front =
       headerFront Two (s .writer .form)
       (sectionHeader Two (dataPlace + dataSize tree) (length names) symbols)
       (sectionHeader Two (dataPlace + dataSize tree + length symbols) (length tree) entries)
       (sectionHeader Two dataPlace (dataNodes (s .tree) (length tree)) stored)
 
-  header-is : header ≡ withSum front
+  pub header-is : header ≡ withSum front
   unfolding closeHeader front
   header-is = rw (used-text s tree g, entries-in s tree g, g .data-count, g .text-count, g .strings-count, g .nodes-count)
 
@@ -157,7 +157,7 @@ module _ (s : State) (tree : Tree) (g : Good s tree) where
   unfolding sizeOf
   fits = omega (arith, g .fits, g .room-length, sizes-in-bytes s tree g)
 
-  closed-is : closed ≡ header ++ (stored ++ (symbols ++ (entries ++ rest)))
+  pub closed-is : closed ≡ header ++ (stored ++ (symbols ++ (entries ++ rest)))
   unfolding closed closeStores
   closed-is =
       let p : symbolsPlace (s .writer) ≡ dataPlace + dataSize tree = ap (λ (d : ℕ). dataPlace + d) (g .data-count) in

@@ -1,0 +1,3 @@
+-- The laws of the cut drill.
+pub mod CallLaws
+pub mod DrillLaws

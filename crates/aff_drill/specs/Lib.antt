@@ -1,0 +1,2 @@
+-- What the cut drill does and answers.
+pub mod Drill
