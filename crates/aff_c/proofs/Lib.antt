@@ -1,3 +1,4 @@
 -- Laws that several proofs cite.
 mod OutputLaws
 mod ReadingLaws
+mod WritingLaws

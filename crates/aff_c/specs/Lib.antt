@@ -1,3 +1,4 @@
 -- What the contracts of this crate cite.
 pub mod Outputs
 pub mod Reading
+pub mod Writing

@@ -5,6 +5,7 @@
 //     bool aff_form_for(const uint8_t *image, size_t image_length, uint8_t *output, size_t output_length);
 // The caller sees to it that the pointers are valid for the lengths and that what is written overlaps nothing else that is lent.
 pub mod reading; // lookup, view, element
+pub mod writing; // begin, make, put, close
 
 use aff_format::Told;
 use aff_format::Verdict;

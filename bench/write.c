@@ -1,0 +1,164 @@
+// The program that bench/write.py builds and runs.
+// `write TREE FILE CALL SAMPLES BATCH` makes a file by the proved functions of crates/aff_c, writes it to FILE, and then makes one call again and
+// again. TREE is a file of lines `PARENT NAME FULL`, one a node in the order of making; a node whose FULL is 1 gets 64 Doubles, element j of node n
+// being n + j / 1024. CALL is build (begin, make and put for each node, close), make (the last node), put (the data of the last node), judge (a put to
+// the root, which is 24 and then 18) or close. Before each make, put and close the record and what the call changed of the tree area are as they were. A
+// sample is the processor time of BATCH calls in a row, divided by BATCH. It prints the median in seconds, and fails where an answer is another.
+#define _GNU_SOURCE
+#include <stddef.h>
+#include <stdint.h>
+#include <stdio.h>
+#include <stdlib.h>
+#include <string.h>
+#include <time.h>
+
+// From the static library of crates/aff_c.
+#define LENT_TREE uint8_t *tree, size_t tree_length
+#define WRITER uint64_t *numbers, const uint8_t *kept
+uint32_t aff_begin(uint8_t *room, size_t room_length, const uint8_t *form, size_t form_length, uint8_t *text, size_t text_length, LENT_TREE,
+    uint64_t allowance, uint64_t *numbers, uint8_t *kept);
+uint32_t aff_make(const uint8_t *room, size_t room_length, WRITER, uint8_t *text, size_t text_length, LENT_TREE, uint64_t parent,
+    const uint8_t *name, size_t name_length);
+uint32_t aff_put(uint8_t *room, size_t room_length, WRITER, const uint8_t *text, size_t text_length, LENT_TREE, uint64_t node, uint64_t kind,
+    const uint8_t *bytes, size_t bytes_length, uint64_t allowance);
+uint32_t aff_close(uint8_t *room, size_t room_length, WRITER, const uint8_t *text, size_t text_length, const uint8_t *tree, size_t tree_length,
+    uint64_t allowance);
+
+enum { NODES = 2048, COUNT = 64, DOUBLE = 4, TEXT = 32768, TREE = 51200, SLOT = 25, ROOM = 2 << 20, TAKEN = 18 };
+
+static const uint8_t form[12] = {0, 64, 2, 53, 4, 0, 3, 253, 0, 0, 0, 168};
+static uint8_t room[ROOM], text[TEXT], tree[TREE], kept[12];
+static uint64_t numbers[7];
+#define LENT room, ROOM, numbers, kept, text, TEXT, tree, TREE
+
+static struct {
+    uint64_t parent;
+    char name[32];
+    size_t length;
+    int full;
+    uint8_t data[8 * COUNT];
+} nodes[NODES];
+static size_t count;
+
+static double now(void) {
+    struct timespec t;
+    clock_gettime(CLOCK_PROCESS_CPUTIME_ID, &t);
+    return t.tv_sec + t.tv_nsec * 1e-9;
+}
+
+static int order(const void *a, const void *b) {
+    double x = *(const double *)a, y = *(const double *)b;
+    return (x > y) - (x < y);
+}
+
+static void expect(int right) {
+    if (!right) {
+        fputs("another answer than expected\n", stderr);
+        exit(1);
+    }
+}
+
+static void begin(void) {
+    expect(aff_begin(room, ROOM, form, sizeof form, text, TEXT, tree, TREE, 1, numbers, kept) == 0);
+}
+
+static void make(size_t k) {
+    expect(aff_make(LENT, nodes[k].parent, (const uint8_t *)nodes[k].name, nodes[k].length) == 0 && numbers[0] == k + 1);
+}
+
+static void put(size_t k) {
+    expect(aff_put(LENT, k + 1, DOUBLE, nodes[k].data, sizeof nodes[k].data, UINT64_MAX) == 0 && numbers[0] == sizeof nodes[k].data);
+}
+
+static void finish(void) {
+    expect(aff_close(LENT, UINT64_MAX) == 0 && numbers[6] == 0);
+}
+
+// The file but for what the call that is measured does: the making of the last node, its data, or closing.
+static void build(char which) {
+    begin();
+    for (size_t k = 0; k < count; k++) {
+        if (which == 'm' && k + 1 == count) {
+            return;
+        }
+        make(k);
+        if (nodes[k].full && !(which == 'p' && k + 1 == count)) {
+            put(k);
+        }
+    }
+}
+
+static void call(char which) {
+    switch (which) {
+    case 'b':
+        build('b');
+        finish();
+        break;
+    case 'm':
+        make(count - 1);
+        break;
+    case 'p':
+        put(count - 1);
+        break;
+    case 'j':
+        expect(aff_put(LENT, 0, DOUBLE, form, 0, 0) == TAKEN);
+        break;
+    default:
+        finish();
+    }
+}
+
+static void load(const char *path) {
+    FILE *list = fopen(path, "r");
+    expect(list != NULL);
+    while (count < NODES && fscanf(list, "%lu %31s %d", &nodes[count].parent, nodes[count].name, &nodes[count].full) == 3) {
+        nodes[count].length = strlen(nodes[count].name);
+        for (size_t j = 0; j < COUNT; j++) {
+            double value = (double)(count + 1) + (double)j / 1024;
+            uint64_t bits;
+            memcpy(&bits, &value, 8);
+            for (size_t i = 0; i < 8; i++) {
+                nodes[count].data[8 * j + i] = (uint8_t)(bits >> (56 - 8 * i));
+            }
+        }
+        count++;
+    }
+    expect(count > 0 && nodes[count - 1].full);
+}
+
+int main(int argc, char **argv) {
+    if (argc != 6 || strchr("bmpjc", argv[3][0]) == NULL) {
+        fputs("usage: write TREE FILE build|make|put|judge|close SAMPLES BATCH\n", stderr);
+        return 2;
+    }
+    int samples = atoi(argv[4]), batch = atoi(argv[5]);
+    double *times = malloc((size_t)samples * sizeof *times);
+    expect(samples > 0 && batch > 0 && times != NULL);
+    load(argv[1]);
+    build('b');
+    finish();
+    size_t size = 168 + numbers[5] + numbers[3];
+    for (size_t k = 0; k < count; k++) {
+        size += nodes[k].full ? 25 : 13;
+    }
+    FILE *file = fopen(argv[2], "wb");
+    expect(file != NULL && fwrite(room, 1, size, file) == size && fclose(file) == 0);
+    char which = argv[3][0];
+    uint64_t before[7];
+    uint8_t slot[SLOT], *last = tree + SLOT * (count - 1);
+    build(which);
+    memcpy(before, numbers, sizeof before);
+    memcpy(slot, last, SLOT);
+    for (int sample = 0; sample < samples; sample++) {
+        double start = now();
+        for (int i = 0; i < batch; i++) {
+            memcpy(numbers, before, sizeof before);
+            memcpy(last, slot, SLOT);
+            call(which);
+        }
+        times[sample] = (now() - start) / batch;
+    }
+    qsort(times, (size_t)samples, sizeof *times, order);
+    printf("%.12f\n", times[samples / 2]);
+    return 0;
+}

@@ -1,0 +1,17 @@
+-- `aff_make` meets its contract: the answer of `make` for the record that the numbers and the form stand for. Assumes nothing.
+use borrow.Author.Needs.{needs}
+use Rattle.aff_c.proofs.WritingLaws.{made-left}
+use Rattle.aff_c.proofs.writing.aff_make.Statement.{statement}
+use Rattle.aff_c.proofs.writing.aff_make.Tie as tie
+
+returns : tie.Need-returns
+returns c =
+    let d = c .before .before .before .before .before .before in
+    let w = d .before .before .before in
+    let a = w .before .before .before .before .before .before .args in
+    made-left (a .room .now) (a .numbers .now) (a .kept .now) (a .text .now) (a .tree .now) (w .writer-of .result) (w .writer-of .ensures)
+    (d .make .result) (c .leave .result) (c .leave .last .1 .0) (c .leave .ensures .0) (c .leave .ensures .1)
+    (a .parent) (a .name .now) (d .make .last .1 .1 .0) (d .make .last .1 .1 .1 .0) (d .make .ensures)
+
+pub aff-make-spec : {M : Type 1} → statement M
+aff-make-spec = tie.close (tie.spec (λ c κs. search needs) (λ c κs. search needs) (λ c κs. search needs) (λ c. search needs) (λ c. search needs) returns)

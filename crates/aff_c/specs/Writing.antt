@@ -1,0 +1,87 @@
+-- What the exported writing functions hand back and leave in the caller's record and areas. Assumes nothing.
+use mathlib.Core.Bool.{cond}
+use mathlib.Core.List.{List, [], _∷_}
+use Prim.Native.Nat.{ℕ}
+use lib.Dec.{eqb}
+use lib.ListN.{length, getD}
+use Rattle.aff_format.specs.Answer.{Answer, accepted, refused}
+use Rattle.aff_write.specs.Begin.{beginAnswer, beginWriter}
+use Rattle.aff_write.specs.Close.{closeStores, closeAnswer}
+use Rattle.aff_write.specs.Make.{madeWriter, madeText, madeTree, makeAnswer}
+use Rattle.aff_write.specs.Put.{putStores, putWriter, putTree, putAnswer}
+use Rattle.aff_write.specs.Stores.{roomAfter}
+use Rattle.aff_write.specs.Writer.{stopped, writerAfter, areaAfter}
+use Rattle.aff_write.specs.declared.writer.Writer.{Writer}
+
+-- The record of 7 numbers and 12 bytes of form; the first number, what the last call told, is no part of it.
+unfoldable pub writerIn : List ℕ → List ℕ → Writer
+writerIn l form =
+    record {
+      length = getD l 1 0;
+      form = form;
+      strings = getD l 2 0;
+      text = getD l 3 0;
+      nodes = getD l 4 0;
+      «data» = getD l 5 0;
+      live = eqb (getD l 6 0) 1;
+    }
+
+-- What a call told and a record as 7 numbers.
+unfoldable pub numbersBy : ℕ → Writer → List ℕ
+numbersBy told w = told ∷ w .length ∷ w .strings ∷ w .text ∷ w .nodes ∷ w .«data» ∷ cond (w .live) 1 0 ∷ []
+
+-- What an answer tells: its value, or the refusal's place.
+abbrev pub toldNumber : Answer ℕ → ℕ
+toldNumber (accepted n) = n
+toldNumber (refused t) = t .place
+
+module _ (room form text tree : List ℕ) (allowance : ℕ) where
+  abbrev pub begunBy : Answer ℕ
+  begunBy = beginAnswer room form text tree allowance
+
+  abbrev pub begunRecord : Writer
+  begunRecord = beginWriter begunBy (length room) form
+
+module _ (room numbers kept text tree : List ℕ) where
+  abbrev pub given : Writer
+  given = writerIn numbers kept
+
+  -- The numbers behind a call that leaves a record where it is accepted.
+  abbrev pub numbersAfter : Answer ℕ → Writer → List ℕ
+  numbersAfter answer next = numbersBy (toldNumber answer) (writerAfter answer next given)
+
+  module _ (parent : ℕ) (name : List ℕ) where
+    abbrev pub madeBy : Answer ℕ
+    madeBy = makeAnswer (length room) given text tree parent name
+
+    unfoldable pub numbersMade : List ℕ
+    numbersMade = numbersAfter madeBy (madeWriter given text name)
+
+    unfoldable pub textMade : List ℕ
+    textMade = areaAfter madeBy (madeText given text name) text
+
+    unfoldable pub treeMade : List ℕ
+    treeMade = areaAfter madeBy (madeTree given text tree parent name) tree
+
+  module _ (node kind : ℕ) (bytes : List ℕ) (allowance : ℕ) where
+    abbrev pub putBy : Answer ℕ
+    putBy = putAnswer (length room) given text tree node kind bytes allowance
+
+    unfoldable pub numbersPut : List ℕ
+    numbersPut = numbersAfter putBy (putWriter given bytes)
+
+    unfoldable pub roomPut : List ℕ
+    roomPut = roomAfter putBy (putStores given bytes) room
+
+    unfoldable pub treePut : List ℕ
+    treePut = areaAfter putBy (putTree given tree node kind bytes) tree
+
+  module _ (allowance : ℕ) where
+    abbrev pub closedBy : Answer ℕ
+    closedBy = closeAnswer room given text tree allowance
+
+    unfoldable pub numbersClosed : List ℕ
+    numbersClosed = numbersAfter closedBy (stopped given)
+
+    unfoldable pub roomClosed : List ℕ
+    roomClosed = roomAfter closedBy (closeStores room given text tree) room

@@ -1,0 +1,183 @@
+// Writing for programs in C and Rust that link the static library of this crate: begin, make a child, put data, close. In C the functions are
+//     uint32_t aff_begin(uint8_t *room, size_t room_length, const uint8_t *form, size_t form_length, uint8_t *text, size_t text_length,
+//         uint8_t *tree, size_t tree_length, uint64_t allowance, uint64_t *numbers, uint8_t *kept);
+//     uint32_t aff_make(const uint8_t *room, size_t room_length, uint64_t *numbers, const uint8_t *kept, uint8_t *text, size_t text_length,
+//         uint8_t *tree, size_t tree_length, uint64_t parent, const uint8_t *name, size_t name_length);
+//     uint32_t aff_put(uint8_t *room, size_t room_length, uint64_t *numbers, const uint8_t *kept, const uint8_t *text, size_t text_length,
+//         uint8_t *tree, size_t tree_length, uint64_t node, uint64_t kind, const uint8_t *bytes, size_t bytes_length, uint64_t allowance);
+//     uint32_t aff_close(uint8_t *room, size_t room_length, uint64_t *numbers, const uint8_t *kept, const uint8_t *text, size_t text_length,
+//         const uint8_t *tree, size_t tree_length, uint64_t allowance);
+// The record is 7 numbers and the 12 bytes of form. The numbers are what the last call told (the stores made, the new node, or the place that a
+// refusal tells), the room's length, strings, bytes of text, nodes, bytes of data, and 1 while the file is neither closed nor stopped. Each
+// function returns 0 where the call is accepted, else the refusal's number.
+use aff_format::NumberAnswer;
+use aff_write::Writer;
+use aff_write::Writing;
+ghost use mathlib.Core.Path.{_≡_};
+ghost use mathlib.Core.Bool.{cond};
+ghost use Rattle.aff_format.specs.Verdict.{numberTold};
+ghost use Rattle.aff_write.specs.Begin.{beginStores, beginArea};
+ghost use Rattle.aff_write.specs.Stores.{roomAfter};
+ghost use Rattle.aff_c.specs.Reading.{numberBy};
+ghost use Rattle.aff_c.specs.Writing.{writerIn, numbersBy, toldNumber, begunBy, begunRecord, madeBy, numbersMade, textMade, treeMade, putBy, numbersPut, roomPut, treePut, closedBy, numbersClosed, roomClosed};
+
+fn writer_of(numbers: &[u64; 7], kept: &[u8; 12]) -> Writer
+    ensures { λ r. ⌜ r ≡ writerIn (now (numbers .entry)) (now (kept .entry)) ⌝ }
+{
+    let form = *kept;
+    Writer {
+        length: numbers[1] as usize,
+        form,
+        strings: numbers[2] as usize,
+        text: numbers[3] as usize,
+        nodes: numbers[4] as usize,
+        data: numbers[5] as usize,
+        live: numbers[6] == 1,
+    }
+}
+
+fn flag(live: bool) -> u64
+    ensures { λ r. ⌜ r ≡ cond live 1 0 ⌝ }
+{
+    if live { 1 } else { 0 }
+}
+
+fn numbers_by(told: usize, writer: Writer) -> [u64; 7]
+    ensures { λ r. ⌜ r ≡ numbersBy told writer ⌝ }
+{
+    [
+        told as u64,
+        writer.length as u64,
+        writer.strings as u64,
+        writer.text as u64,
+        writer.nodes as u64,
+        writer.data as u64,
+        flag(writer.live),
+    ]
+}
+
+fn number_by(answer: NumberAnswer) -> u32
+    ensures { λ r. ⌜ r ≡ numberBy (numberTold answer) ⌝ }
+{
+    match answer {
+        NumberAnswer::Value(_) => 0,
+        NumberAnswer::Refused(refusal) => refusal.number(),
+    }
+}
+
+fn told_number(answer: NumberAnswer) -> usize
+    ensures { λ r. ⌜ r ≡ toldNumber (numberTold answer) ⌝ }
+{
+    match answer {
+        NumberAnswer::Value(n) => n,
+        NumberAnswer::Refused(refusal) => refusal.place(),
+    }
+}
+
+// Leaves what a call told and the record behind it.
+fn leave(done: Writing, numbers: &mut [u64; 7]) -> u32
+    ensures number { λ r. ⌜ r ≡ numberBy (numberTold (done .answer)) ⌝ }
+    ensures numbers { λ _. ⌜ now (numbers .exit) ≡ numbersBy (toldNumber (numberTold (done .answer))) (done .writer) ⌝ }
+{
+    let answer = done.answer;
+    let writer = done.writer;
+    *numbers = numbers_by(told_number(answer), writer);
+    number_by(answer)
+}
+
+// Begins a file in a room, as `aff_write::begin` does, and leaves the record's numbers and form.
+#[no_mangle]
+pub extern "C" fn aff_begin(
+    room: &mut [u8],
+    form: &[u8],
+    text: &mut [u8],
+    tree: &mut [u8],
+    allowance: u64,
+    numbers: &mut [u64; 7],
+    kept: &mut [u8; 12],
+) -> u32
+    ensures number { λ r. ⌜ r ≡ numberBy (begunBy (now (room .entry)) (now (form .entry)) (now (text .entry)) (now (tree .entry)) allowance) ⌝ }
+    ensures numbers { λ _. ⌜ now (numbers .exit) ≡ numbersBy (toldNumber (begunBy (now (room .entry)) (now (form .entry)) (now (text .entry)) (now (tree .entry)) allowance)) (begunRecord (now (room .entry)) (now (form .entry)) (now (text .entry)) (now (tree .entry)) allowance) ⌝ }
+    ensures kept { λ _. ⌜ now (kept .exit) ≡ begunRecord (now (room .entry)) (now (form .entry)) (now (text .entry)) (now (tree .entry)) allowance .form ⌝ }
+    ensures room { λ _. ⌜ now (room .exit) ≡ roomAfter (begunBy (now (room .entry)) (now (form .entry)) (now (text .entry)) (now (tree .entry)) allowance) beginStores (now (room .entry)) ⌝ }
+    ensures text { λ _. ⌜ now (text .exit) ≡ beginArea (begunBy (now (room .entry)) (now (form .entry)) (now (text .entry)) (now (tree .entry)) allowance) (now (text .entry)) ⌝ }
+    ensures tree { λ _. ⌜ now (tree .exit) ≡ beginArea (begunBy (now (room .entry)) (now (form .entry)) (now (text .entry)) (now (tree .entry)) allowance) (now (tree .entry)) ⌝ }
+{
+    let done = aff_write::begin(room, form, text, tree, allowance as usize);
+    let writer = done.writer;
+    let bytes = writer.form;
+    *kept = bytes;
+    leave(done, numbers)
+}
+
+// Makes a child, as `aff_write::make` does.
+#[no_mangle]
+pub extern "C" fn aff_make(
+    room: &[u8],
+    numbers: &mut [u64; 7],
+    kept: &[u8; 12],
+    text: &mut [u8],
+    tree: &mut [u8],
+    parent: u64,
+    name: &[u8],
+) -> u32
+    ensures number { λ r. ⌜ r ≡ numberBy (madeBy (now (room .entry)) (now (numbers .entry)) (now (kept .entry)) (now (text .entry)) (now (tree .entry)) parent (now (name .entry))) ⌝ }
+    ensures numbers { λ _. ⌜ now (numbers .exit) ≡ numbersMade (now (room .entry)) (now (numbers .entry)) (now (kept .entry)) (now (text .entry)) (now (tree .entry)) parent (now (name .entry)) ⌝ }
+    ensures text { λ _. ⌜ now (text .exit) ≡ textMade (now (room .entry)) (now (numbers .entry)) (now (kept .entry)) (now (text .entry)) (now (tree .entry)) parent (now (name .entry)) ⌝ }
+    ensures tree { λ _. ⌜ now (tree .exit) ≡ treeMade (now (room .entry)) (now (numbers .entry)) (now (kept .entry)) (now (text .entry)) (now (tree .entry)) parent (now (name .entry)) ⌝ }
+{
+    let writer = writer_of(numbers, kept);
+    let done = aff_write::make(room, writer, text, tree, parent as usize, name);
+    leave(done, numbers)
+}
+
+// Puts data into a node, as `aff_write::put` does.
+#[no_mangle]
+pub extern "C" fn aff_put(
+    room: &mut [u8],
+    numbers: &mut [u64; 7],
+    kept: &[u8; 12],
+    text: &[u8],
+    tree: &mut [u8],
+    node: u64,
+    kind: u64,
+    bytes: &[u8],
+    allowance: u64,
+) -> u32
+    ensures number { λ r. ⌜ r ≡ numberBy (putBy (now (room .entry)) (now (numbers .entry)) (now (kept .entry)) (now (text .entry)) (now (tree .entry)) node kind (now (bytes .entry)) allowance) ⌝ }
+    ensures numbers { λ _. ⌜ now (numbers .exit) ≡ numbersPut (now (room .entry)) (now (numbers .entry)) (now (kept .entry)) (now (text .entry)) (now (tree .entry)) node kind (now (bytes .entry)) allowance ⌝ }
+    ensures room { λ _. ⌜ now (room .exit) ≡ roomPut (now (room .entry)) (now (numbers .entry)) (now (kept .entry)) (now (text .entry)) (now (tree .entry)) node kind (now (bytes .entry)) allowance ⌝ }
+    ensures tree { λ _. ⌜ now (tree .exit) ≡ treePut (now (room .entry)) (now (numbers .entry)) (now (kept .entry)) (now (text .entry)) (now (tree .entry)) node kind (now (bytes .entry)) allowance ⌝ }
+{
+    let writer = writer_of(numbers, kept);
+    let done = aff_write::put(
+        room,
+        writer,
+        text,
+        tree,
+        node as usize,
+        kind,
+        bytes,
+        allowance as usize,
+    );
+    leave(done, numbers)
+}
+
+// Closes the file, as `aff_write::close` does.
+#[no_mangle]
+pub extern "C" fn aff_close(
+    room: &mut [u8],
+    numbers: &mut [u64; 7],
+    kept: &[u8; 12],
+    text: &[u8],
+    tree: &[u8],
+    allowance: u64,
+) -> u32
+    ensures number { λ r. ⌜ r ≡ numberBy (closedBy (now (room .entry)) (now (numbers .entry)) (now (kept .entry)) (now (text .entry)) (now (tree .entry)) allowance) ⌝ }
+    ensures numbers { λ _. ⌜ now (numbers .exit) ≡ numbersClosed (now (room .entry)) (now (numbers .entry)) (now (kept .entry)) (now (text .entry)) (now (tree .entry)) allowance ⌝ }
+    ensures room { λ _. ⌜ now (room .exit) ≡ roomClosed (now (room .entry)) (now (numbers .entry)) (now (kept .entry)) (now (text .entry)) (now (tree .entry)) allowance ⌝ }
+{
+    let writer = writer_of(numbers, kept);
+    let done = aff_write::close(room, writer, text, tree, allowance as usize);
+    leave(done, numbers)
+}

@@ -1,0 +1,12 @@
+-- `front` meets its contract: the part that it hands over is as long as it says. Assumes nothing.
+use borrow.Author.Needs.{needs}
+use mathlib.Core.Path.{sym}
+use lib.Seq.{length-take-le}
+use Rattle.write_cases.proofs.show.front.Statement.{statement}
+use Rattle.write_cases.proofs.show.front.Tie as tie
+
+slice-aggregate-text : tie.Need-slice-aggregate-text
+slice-aggregate-text c = sym (length-take-le _ _ (search needs))
+
+pub front-spec : {M : Type 1} → statement M
+front-spec = tie.close (tie.spec (λ c. search needs) slice-aggregate-text (λ c κs. search needs) (λ c. search needs))

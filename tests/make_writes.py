@@ -1,0 +1,654 @@
+#!/usr/bin/env python3
+"""Makes the script of the test program write_cases, and what it must print.
+
+A script is a run of steps: the writer's calls, and between them what is printed, or changed behind the writer's back. What must be printed is worked
+out here from document 01, with no code of the library: `Writer` answers the calls by its tables, and a finished file is laid out a second time by
+make_images. The refusal that a case is about is said by hand besides. It writes crates/write_cases/stdin (each step behind its length in 4 bytes)
+and stdout.
+"""
+import os
+import re
+import struct
+import sys
+
+from make_images import CHAR, COMPLEX, DOUBLE, INT, VOID, Image, entry, form, md5
+from make_listings import SIZE, brief, lines, write
+
+ROOM, TEXT, TREE, LIMIT = 65536, 32768, 51200, 2048
+MOST = 2**64 - 1
+FIELDS = ("length", "strings", "text", "nodes", "data", "open")
+SUBKEY = re.compile(rb"[A-Za-z_:][A-Za-z0-9.\-_:]*")
+
+
+class Writer:
+    """Room, areas and record, and what each call answers: ("accepted", n) or ("refused", number, place)."""
+
+    def __init__(self):
+        self.room, self.text, self.tree = bytearray(ROOM), bytearray(TEXT + 1), bytearray(TREE + 1)
+        self.lent = (0, 0, 0)
+        self.none()
+
+    def none(self):
+        self.rec = dict.fromkeys(FIELDS, 0)
+        self.form = bytes(12)
+
+    def slot(self, k):
+        """Type, parent, string, count and data offset of node k."""
+        return struct.unpack(">BQIIQ", self.tree[25 * (k - 1):25 * k])
+
+    def put_slot(self, k, *fields):
+        self.tree[25 * (k - 1):25 * k] = struct.pack(">BQIIQ", *fields)
+
+    def strings(self):
+        return bytes(self.text[:self.rec["text"]]).split(b"\0")[:-1]
+
+    def size(self):
+        kinds = [self.slot(k)[0] for k in range(1, self.rec["nodes"] + 1)]
+        return 168 + self.rec["data"] + self.rec["text"] + sum(13 if k == VOID else 25 for k in kinds)
+
+    def belongs(self):
+        r, used = self.rec, self.text[:self.rec["text"]]
+        if self.lent != (r["length"], TEXT, TREE) or r["strings"] > LIMIT or r["text"] > TEXT or r["nodes"] > LIMIT:
+            return False
+        if used.count(0) != r["strings"] or used[-1:] not in (b"", b"\0"):
+            return False
+        for k in range(1, r["nodes"] + 1):
+            kind, parent, string, count, offset = self.slot(k)
+            if not 1 <= kind <= 5 or parent >= k or string >= r["strings"]:
+                return False
+            if kind != VOID and not 168 <= offset <= 168 + r["data"] - count * SIZE[kind]:
+                return False
+        return self.size() <= r["length"]
+
+    def judge(self):
+        if not self.belongs():
+            return ("refused", 24, 0)
+        return None if self.rec["open"] else ("refused", 22, 0)
+
+    def store(self, stores, allowance):
+        """Makes the first stores; the answer, and after 23 the record is stopped."""
+        for place, byte in stores[:allowance]:
+            self.room[place] = byte
+        if len(stores) <= allowance:
+            return ("accepted", len(stores))
+        self.rec["open"] = 0
+        return ("refused", 23, allowance)
+
+    def begin(self, allowance, lent):
+        room, text, tree = self.lent
+        self.none()
+        if len(lent) != 12 or text != TEXT or tree != TREE:
+            return ("refused", 1, 0)
+        if room < 168:
+            return ("refused", 21, 0)
+        self.rec.update(length=room, open=1)
+        self.form = lent
+        answer = self.store([(0, 0)], allowance)
+        if answer[0] == "accepted":
+            self.text[:TEXT], self.tree[:TREE] = bytes(TEXT), bytes(TREE)
+        return answer
+
+    def make(self, parent, name):
+        r, strings = self.rec, self.strings()
+        new = name not in strings
+        added = len(name) + 1 if new else 0
+        wrong = self.judge()
+        if wrong:
+            return wrong
+        if parent > r["nodes"]:
+            return ("refused", 15, 0)
+        if not SUBKEY.fullmatch(name):
+            return ("refused", 14, 0)
+        for k in range(1, r["nodes"] + 1):
+            if self.slot(k)[1] == parent and strings[self.slot(k)[2]] == name:
+                return ("refused", 17, 0)
+        if r["nodes"] == LIMIT or new and (r["strings"] == LIMIT or r["text"] + added > TEXT):
+            return ("refused", 20, 0)
+        if self.size() + 13 + added > r["length"]:
+            return ("refused", 21, 0)
+        if new:
+            self.text[r["text"]:r["text"] + added] = name + b"\0"
+            strings.append(name)
+        r.update(nodes=r["nodes"] + 1, strings=r["strings"] + new, text=r["text"] + added)
+        self.put_slot(r["nodes"], VOID, parent, strings.index(name), 0, 0)
+        return ("accepted", r["nodes"])
+
+    def put(self, node, kind, data, allowance):
+        r, wrong = self.rec, self.judge()
+        if wrong:
+            return wrong
+        if node > r["nodes"]:
+            return ("refused", 15, 0)
+        if node == 0 or self.slot(node)[0] != VOID:
+            return ("refused", 18, 0)
+        if kind not in SIZE or len(data) % SIZE[kind]:
+            return ("refused", 19, 0)
+        if self.size() + 12 + len(data) > r["length"]:
+            return ("refused", 21, 0)
+        at = 168 + r["data"]
+        answer = self.store([(at + i, b) for i, b in enumerate(data)], allowance)
+        if answer[0] == "accepted":
+            self.put_slot(node, kind, *self.slot(node)[1:3], len(data) // SIZE[kind], at)
+            r["data"] += len(data)
+        return answer
+
+    def close(self, allowance):
+        r, wrong = self.rec, self.judge()
+        if wrong:
+            return wrong
+        nodes = [self.slot(k) for k in range(1, r["nodes"] + 1)]
+        data = bytes(self.room[168:168 + r["data"]])
+        image = Image(2, strings=self.strings(), entries=[entry(*n) for n in nodes], data=data)
+        image.form = self.form
+        image.count = {"data": sum(n[0] != VOID for n in nodes)}
+        stores = list(enumerate(image.bytes()))
+        stores = stores[168 + len(data):] + stores[1:168] + stores[:1]
+        answer = self.store(stores, allowance)
+        r["open"] = 0
+        return answer
+
+
+class Script:
+    """Steps, with what they print. `tree` has the nodes that the accepted calls describe: parent, name, type, bytes;
+    `order` has those with data, in the order of the puts."""
+
+    def __init__(self):
+        self.w, self.stdin, self.out, self.tree, self.order, self.cases = Writer(), [], [], [], [], 0
+
+    def step(self, letter, numbers=(), data=b""):
+        block = letter.encode() + struct.pack(">3Q", *(list(numbers) + [0, 0, 0])[:3]) + data
+        self.stdin.append(struct.pack(">I", len(block)) + block)
+
+    def told(self, name, answer, expect):
+        assert expect is None or answer == expect, (self.out[-3:], name, answer, expect)
+        r = self.w.rec
+        numbers = " ".join(str(r[f]) for f in FIELDS[:5])
+        self.out.append("%s %s, record %s %s %s\n" % (name, " ".join(map(str, answer)), numbers, "open" if r["open"] else "shut", self.w.form.hex()))
+        return answer[0] == "accepted"
+
+    def case(self, title, room=None, fill=0xEE):
+        """Begins a case: its title, the lengths lent, and a room full of one byte."""
+        self.cases += 1
+        self.step("#", data=title.encode())
+        self.out.append(title + "\n")
+        if room is not None:
+            self.lend(room)
+            self.step("f", [fill])
+            self.w.room[:room] = bytes([fill]) * room
+
+    def lend(self, room, text=TEXT, tree=TREE):
+        self.step("=", [room, text, tree])
+        self.w.lent = (room, text, tree)
+
+    def begin(self, allowance=MOST, lent=form(2), expect=None):
+        self.step("b", [allowance], lent)
+        if self.told("begin", self.w.begin(allowance, lent), expect):
+            self.tree, self.order = [], []
+
+    def make(self, parent, name, expect=None):
+        self.step("m", [parent], name)
+        if self.told("make", self.w.make(parent, name), expect):
+            self.tree.append([parent, name, VOID, b""])
+
+    def put(self, node, kind, data=b"", allowance=MOST, expect=None):
+        self.step("p", [node, kind, allowance], data)
+        if self.told("put", self.w.put(node, kind, data, allowance), expect):
+            self.tree[node - 1][2:] = [kind, data]
+            self.order.append(node)
+
+    def close(self, allowance=MOST, expect=None):
+        self.step("c", [allowance])
+        self.told("close", self.w.close(allowance), expect)
+
+    def alter(self, field, value):
+        self.step("a", [FIELDS.index(field), value])
+        self.w.rec[field] = value
+
+    def poke(self, area, place, byte):
+        self.step({"room": "R", "text": "S", "tree": "T"}[area], [place, byte])
+        getattr(self.w, area)[place] = byte
+
+    def sums(self):
+        """The MD5 sums of room and areas."""
+        self.step("s")
+        areas = (self.w.room, self.w.text, self.w.tree)
+        self.out.append("sums %s\n" % " ".join(md5(bytes(a[:n])).hex() for a, n in zip(areas, self.w.lent)))
+
+    def hex(self):
+        self.step("x")
+        self.out.append(self.w.room[:self.w.lent[0]].hex() + "\n")
+
+    def layout(self):
+        """The file of the tree that the calls described, laid out from that alone."""
+        strings, data, entries = [], b"", []
+        for parent, name, kind, held in self.tree:
+            if name not in strings:
+                strings.append(name)
+        at = {}
+        for k in self.order:
+            at[k] = 168 + len(data)
+            data += self.tree[k - 1][3]
+        for k, (parent, name, kind, held) in enumerate(self.tree, 1):
+            entries.append(entry(kind, parent, strings.index(name), len(held) // SIZE.get(kind, 1), at.get(k, 0)))
+        image = Image(2, strings=strings, entries=entries, data=data)
+        image.count = {"data": len(at)}
+        return image.bytes(), len(strings), len(at)
+
+    def rows(self):
+        return [(p, n, k, len(d) // SIZE.get(k, 1)) for p, n, k, d in self.tree]
+
+    def listed(self):
+        """The room as `list` prints it."""
+        self.step("l")
+        self.out.append(brief(lines(self.rows())).decode())
+
+    def refused(self, number, place=0):
+        self.step("o")
+        self.out.append("refused %d %d\n" % (number, place))
+
+    def opened(self):
+        """The room opened, and every answer of every node; and that it begins with the file of the tree."""
+        file, strings, full = self.layout()
+        assert bytes(self.w.room[:len(file)]) == file
+        self.step("o")
+        self.out.append("opened 2 %d %d %d\n" % (strings, len(self.tree), full))
+        paths = [b""]
+        for k, (parent, name, kind, held) in enumerate([(0, b"", VOID, b"")] + self.tree):
+            if k:
+                paths.append(paths[parent] + b"/" + name)
+            size = SIZE.get(kind, 1)
+            elements = [element(kind, held[i:i + size]) for i in range(0, len(held), size)]
+            front = "%d path %s name %s type %d count accepted %d bytes %s\n"
+            self.out.append(front % (k, (paths[k] or b"/").decode(), name.decode(), kind, len(elements), held.hex()))
+            self.out.append("  elements %s\n" % " ".join(elements + ["refused 16 0"]))
+        self.out.append("%d path refused 15 0 name  type refused 15 0 count refused 15 0 bytes \n" % len(paths))
+
+
+def real(b):
+    n = int.from_bytes(b, "big")
+    return "nan" if n & (2**63 - 1) > 0x7FF << 52 else "%016x" % n
+
+
+def element(kind, b):
+    if kind == CHAR:
+        return str(b[0])
+    if kind == INT:
+        return str(struct.unpack(">i", b)[0])
+    return ",".join(real(b[i:i + 8]) for i in range(0, len(b), 8))
+
+
+INT70 = b"\xff\xff\xff\xba"
+
+
+def no(number, place=0):
+    return ("refused", number, place)
+
+
+def yes(number):
+    return ("accepted", number)
+
+
+def worked(s, room=214, fill=0xEE, title=None):
+    s.case(title or "the worked file", room, fill)
+    s.begin(expect=yes(1))
+    s.make(0, b"a", yes(1))
+    s.make(1, b"n", yes(2))
+
+
+def whole_files(s):
+    worked(s)
+    s.sums()
+    s.put(2, INT, INT70, 4, yes(4))
+    s.sums()
+    s.close(210, yes(210))
+    s.sums()
+    s.hex()
+    s.listed()
+    s.opened()
+    for room in (0, 1, 167):
+        s.case("room %d" % room, room)
+        s.begin(expect=no(21))
+        s.make(0, b"a", no(24))
+        s.close(expect=no(24))
+        s.sums()
+    s.case("room 168: an empty tree", 168)
+    s.begin(1, expect=yes(1))
+    s.refused(3)
+    s.make(0, b"a", no(21))
+    s.close(168, yes(168))
+    s.hex()
+    s.listed()
+    s.opened()
+    s.case("room 182: a child does not fit", 182)
+    s.begin()
+    s.make(0, b"a", no(21))
+    s.close(expect=yes(168))
+    s.opened()
+    s.case("room 183: a child fits, a second does not", 183)
+    s.begin()
+    s.make(0, b"a", yes(1))
+    s.make(1, b"a", no(21))
+    s.close(expect=yes(183))
+    s.opened()
+    worked(s, 213, title="room 213: the put is refused, and close finds room")
+    s.put(2, INT, INT70, expect=no(21))
+    s.put(2, INT, b"", expect=yes(0))
+    s.close(expect=yes(168 + 4 + 38))
+    s.opened()
+    worked(s, 1000, title="a room longer than the file keeps its rest")
+    s.put(2, INT, INT70)
+    s.close(expect=yes(210))
+    s.sums()
+    s.listed()
+    s.opened()
+
+
+def every_kind(s):
+    s.case("every kind", 1000)
+    s.begin()
+    doubles = [0x8000000000000000, 1, 0x000FFFFFFFFFFFFF, 0x7FF0000000000000, 0xFFF0000000000000, 0x7FF8000000000001, 0xFFF0000000000001,
+               0x3FF0000000000000, 0, 0x7FEFFFFFFFFFFFFF, 0x4009_21FB_5444_2D18]
+    data = [
+        (b"char", CHAR, bytes([0, 1, 127, 128, 255]) + b"text"),
+        (b"int", INT, struct.pack(">7i", -70, 0, 1, -1, 2**31 - 1, -2**31, 305419896)),
+        (b"double", DOUBLE, struct.pack(">11Q", *doubles)),
+        (b"complex", COMPLEX, struct.pack(">6Q", *doubles[:6])),
+        (b"none", DOUBLE, b""),
+        (b"void", VOID, None),
+    ]
+    for k, (name, kind, held) in enumerate(data, 1):
+        s.make(0, name, yes(k))
+    for k in (3, 1, 4, 5, 2):
+        s.put(k, data[k - 1][1], data[k - 1][2], expect=yes(len(data[k - 1][2])))
+    s.sums()
+    s.close()
+    s.sums()
+    s.listed()
+    s.opened()
+    s.case("strings are reused by name: five nodes, two strings", 500)
+    s.begin()
+    for parent, name in ((0, b"a"), (0, b"b"), (1, b"a"), (2, b"a"), (3, b"b")):
+        s.make(parent, name)
+    assert s.w.rec["strings"] == 2
+    s.close()
+    s.listed()
+    s.opened()
+    s.case("names that differ in case, and one that is the front of another", 500)
+    s.begin()
+    for name in (b"a", b"A", b"ab", b"a.b", b"_", b":", b"Z-9"):
+        s.make(0, name)
+    s.close()
+    s.opened()
+
+
+def no_bytes(s):
+    s.case("puts of no bytes, with allowance 0", 400)
+    s.begin()
+    for k, name in enumerate((b"a", b"b", b"c", b"d"), 1):
+        s.make(0, name)
+        s.put(k, k + 1, b"", 0, yes(0))
+        s.put(k, k + 1, b"", 0, no(18))
+    s.close()
+    s.listed()
+    s.opened()
+
+
+def limits(s):
+    s.case("2,048 nodes, and the refusal of one more", ROOM)
+    s.begin()
+    for k in range(1, LIMIT + 1):
+        s.make(k // 4, b"k%d" % k, yes(k))
+    s.make(0, b"one.more", no(20))
+    s.make(1, b"k1", no(20))
+    s.put(LIMIT, INT, INT70 * 3, expect=yes(12))
+    s.put(1, CHAR, b"first", expect=yes(5))
+    s.sums()
+    s.close()
+    s.sums()
+    s.listed()
+    assert s.layout()[0] == bytes(s.w.room[:len(s.layout()[0])])
+    s.case("text of exactly 32,768 bytes", ROOM)
+    s.begin()
+    for k, letter in enumerate((b"a", b"b", b"c"), 1):
+        s.make(0, letter * 8191, yes(k))
+    s.make(0, b"d" * 8192, no(20))
+    s.make(0, b"d" * 8191, yes(4))
+    s.sums()
+    s.make(0, b"e", no(20))
+    s.make(1, b"d" * 8191, yes(5))
+    s.close()
+    s.listed()
+    s.case("text of 32,766 bytes takes a name of one byte and no longer one", ROOM)
+    s.begin()
+    for k, size in enumerate((8191, 8191, 8191, 8189), 1):
+        s.make(0, b"%c" % (96 + k) * size, yes(k))
+    s.make(0, b"xy", no(20))
+    s.make(0, b"x", yes(5))
+    s.make(0, b"y", no(20))
+    s.close()
+    s.listed()
+    s.case("a 2,049th string, which only an altered record comes to", ROOM)
+    s.begin()
+    s.alter("strings", LIMIT)
+    s.alter("text", LIMIT)
+    s.make(0, b"a", no(20))
+    s.alter("strings", LIMIT - 1)
+    s.alter("text", LIMIT - 1)
+    s.make(0, b"a", yes(1))
+
+
+def begin_refusals(s):
+    s.case("begin: 1", 214)
+    for size in (0, 11, 13):
+        s.begin(lent=(form(2) + b"\1")[:size], expect=no(1))
+    for text, tree in ((TEXT - 1, TREE), (TEXT + 1, TREE), (TEXT, TREE - 1), (TEXT, TREE + 1)):
+        s.lend(214, text, tree)
+        s.begin(expect=no(1))
+        s.make(0, b"a", no(24))
+    s.lend(100, TEXT, TREE - 1)
+    s.begin(0, expect=no(1))
+    s.lend(214)
+    s.sums()
+    s.make(0, b"a", no(24))
+    s.put(0, INT, b"", expect=no(24))
+    s.close(expect=no(24))
+    s.case("begin: 21 comes before 23", 167)
+    s.begin(0, expect=no(21))
+    s.case("begin: 23 stores nothing and clears nothing; later calls get 22", 214)
+    s.poke("text", 0, 7)
+    s.poke("tree", 51199, 7)
+    s.begin(0, expect=no(23))
+    s.sums()
+    s.make(0, b"a", no(22))
+    s.put(0, INT, b"", expect=no(22))
+    s.close(expect=no(22))
+    s.sums()
+    s.refused(3)
+    s.case("begin: other 12 bytes are kept, and the file has them", 168)
+    s.begin(1, lent=bytes(range(1, 13)), expect=yes(1))
+    s.close(expect=yes(168))
+    s.hex()
+    s.refused(4)
+    s.case("begin over a finished file: nothing opens from then on", 168)
+    s.begin()
+    s.close()
+    s.opened()
+    s.begin(1, expect=yes(1))
+    s.refused(3)
+    s.close(167, no(23, 167))
+    s.refused(3)
+
+
+def make_refusals(s):
+    s.case("make: 15, 14, 17", 400)
+    s.begin()
+    s.make(1, b"a", no(15))
+    s.make(MOST, b"9", no(15))
+    for name in (b"", b"9a", b"-a", b".a", b"a b", b"a/b", b"/a", b"a\0", b"\0", b"a\xe9", b"a@", b"a[", b"a`", b"a{", b"a,", b"a;"):
+        s.make(0, name, no(14))
+    s.make(0, b"a", yes(1))
+    s.make(0, b"a", no(17))
+    s.make(1, b"a", yes(2))
+    s.make(1, b"a", no(17))
+    s.make(0, b"b", yes(3))
+    s.make(0, b"a", no(17))
+    s.make(0, b"b", no(17))
+    s.make(3, b"b", yes(4))
+    s.make(5, b"b", no(15))
+    s.sums()
+    s.case("make: 17 comes before 20 and 21, 14 before all three", 185)
+    s.begin()
+    s.make(0, b"abc", yes(1))
+    s.make(0, b"abc", no(17))
+    s.make(0, b"a/b", no(14))
+    s.make(0, b"abd", no(21))
+    s.close(expect=yes(185))
+    s.opened()
+    s.case("make: 22 after close, 24 before it", 300)
+    s.begin()
+    s.close()
+    s.make(9, b"", no(22))
+    s.alter("strings", 1)
+    s.make(9, b"", no(24))
+
+
+def put_refusals(s):
+    s.case("put: 15, 18, 19, 21", 300)
+    s.begin()
+    s.make(0, b"a")
+    s.make(1, b"n")
+    s.put(3, INT, INT70, expect=no(15))
+    s.put(MOST, 0, b"", expect=no(15))
+    s.put(0, INT, INT70, expect=no(18))
+    s.put(0, 0, b"x", expect=no(18))
+    for kind in (0, 1, 6, 255, 258, 2**32 + 3, MOST):
+        s.put(2, kind, b"", expect=no(19))
+        s.put(2, kind, INT70 * 4, expect=no(19))
+    for kind, size in ((INT, 1), (INT, 3), (INT, 5), (DOUBLE, 4), (DOUBLE, 12), (COMPLEX, 8), (COMPLEX, 17)):
+        s.put(2, kind, bytes(size), expect=no(19))
+    s.put(2, CHAR, bytes(91), expect=no(21))
+    s.put(2, CHAR, bytes(91), 0, expect=no(21))
+    s.put(2, INT, INT70, expect=yes(4))
+    s.put(2, INT, INT70, expect=no(18))
+    s.put(2, 0, INT70, expect=no(18))
+    s.put(1, CHAR, bytes(75), expect=no(21))
+    s.put(1, CHAR, bytes(range(74)), expect=yes(74))
+    s.make(0, b"a", no(17))
+    s.make(0, b"n", no(21))
+    s.close(expect=yes(300 - 78))
+    s.listed()
+    s.opened()
+    for allowance in (0, 1, 5, 11):
+        s.case("put: 23 after %d of 12 stores; the node stays Void" % allowance, 300)
+        s.begin()
+        s.make(0, b"a")
+        s.make(0, b"b")
+        s.put(1, CHAR, b"xyz", 3, yes(3))
+        s.put(2, INT, INT70 * 3, allowance, no(23, allowance))
+        s.sums()
+        s.put(2, INT, INT70 * 3, expect=no(22))
+        s.make(0, b"c", no(22))
+        s.close(expect=no(22))
+        s.sums()
+        s.refused(3)
+
+
+def close_refusals(s):
+    for allowance in (0, 1, 4, 5, 41, 42, 43, 200, 208, 209):
+        worked(s, 214, 0, title="close: 23 after %d of 210 stores" % allowance)
+        s.put(2, INT, INT70)
+        s.close(allowance, no(23, allowance))
+        s.sums()
+        s.refused(3)
+        s.close(expect=no(22))
+        s.make(0, b"b", no(22))
+        s.put(1, INT, b"", expect=no(22))
+        s.sums()
+    worked(s, 214, title="close: an accepted one changes of the record only that it is shut; then 22")
+    s.put(2, INT, INT70)
+    s.close(MOST, yes(210))
+    s.close(MOST, no(22))
+    s.close(0, no(22))
+    s.make(0, b"b", no(22))
+    s.put(1, INT, b"", expect=no(22))
+    s.opened()
+    worked(s, 214, title="close sums the data that stand in the room then")
+    s.put(2, INT, INT70)
+    s.poke("room", 171, 0xBB)
+    s.tree[1][3] = b"\xff\xff\xff\xbb"
+    s.close(MOST, yes(210))
+    s.opened()
+
+
+def all_24(s):
+    s.make(0, b"c", no(24))
+    s.put(1, INT, b"", expect=no(24))
+    s.close(expect=no(24))
+
+
+def altered(s):
+    worked(s, 300, title="24: the record altered")
+    s.put(2, INT, INT70, expect=yes(4))
+    for field, values in (
+        ("length", (0, 299, 301, MOST)),
+        ("strings", (0, 1, 3, 2049, MOST)),
+        ("text", (0, 3, 5, 6, 32769, MOST)),
+        ("nodes", (3, 2049, MOST)),
+        ("data", (3, 91, 300, MOST)),
+    ):
+        right = s.w.rec[field]
+        for value in values:
+            s.alter(field, value)
+            all_24(s)
+        s.alter(field, right)
+    s.alter("open", 0)
+    s.make(0, b"c", no(22))
+    s.alter("open", 1)
+    s.sums()
+    s.case("24: another length lent")
+    for lent in ((299, TEXT, TREE), (301, TEXT, TREE), (0, TEXT, TREE), (300, TEXT - 1, TREE), (300, TEXT + 1, TREE), (300, TEXT, TREE - 1), (300, TEXT, TREE + 1)):
+        s.lend(*lent)
+        all_24(s)
+    s.lend(300)
+    s.case("24: the areas altered")
+    for area, place, bad in (
+        ("text", 1, (1,)),             # one string too few
+        ("text", 2, (0,)),             # one string too many
+        ("text", 3, (1,)),             # the last string has no zero
+        ("tree", 0, (0, 6, 255, 3)),   # node 1: no type, or one whose data lie before 168
+        ("tree", 8, (1, 2)),           # its own parent, and a parent above it
+        ("tree", 1, (1,)),             # a parent of 2 to the 56
+        ("tree", 12, (2,)),            # string 2 of 2
+        ("tree", 25 + 8, (2, 3)),      # node 2: its own parent
+        ("tree", 25 + 16, (2,)),       # two elements where one was put
+        ("tree", 25 + 24, (167, 169)),  # data before and past what was put
+        ("tree", 25 + 17, (1,)),       # a data offset of 2 to the 56 and more
+    ):
+        right = getattr(s.w, area)[place]
+        for byte in bad:
+            s.poke(area, place, byte)
+            all_24(s)
+        s.poke(area, place, right)
+    s.case("what 24 does not judge: the rest of the areas, the last bytes of a Void slot, the room")
+    s.poke("text", 100, 1)
+    s.poke("tree", 24, 9)
+    s.poke("tree", 60, 9)
+    s.poke("room", 250, 9)
+    s.make(0, b"c", yes(3))
+    s.close(expect=yes(168 + 6 + 51))
+    s.listed()
+    s.opened()
+
+
+def main():
+    top = sys.argv[1] if len(sys.argv) > 1 else os.path.join(os.path.dirname(os.path.abspath(__file__)), "..")
+    s = Script()
+    for part in (whole_files, every_kind, no_bytes, limits, begin_refusals, make_refusals, put_refusals, close_refusals, altered):
+        part(s)
+    write(top, "crates/write_cases/stdin", b"".join(s.stdin))
+    write(top, "crates/write_cases/stdout", "".join(s.out).encode())
+    print(s.cases, "cases,", len(s.stdin), "steps")
+
+
+if __name__ == "__main__":
+    main()
