@@ -5,7 +5,7 @@ pub mod ElementLaws
 pub mod CappedLaws
 pub mod FrontLaws
 pub mod WriteLaws
-pub mod MatchLaws
+pub mod FitLaws
 pub mod StepLaws
 pub mod LookupLaws
 pub mod CasesLaws

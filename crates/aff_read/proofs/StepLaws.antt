@@ -1,33 +1,22 @@
--- A climb along a path, for a record that belongs: what is counted and what is compared on the way, step by step. Assumes nothing.
+-- A climb along a path, for a record that belongs: what is counted on the way, step by step. Assumes nothing.
 use mathlib.Core.Path.{_≡_, refl, sym, ap, _∙_}
-use mathlib.Core.Bool.{false}
 use mathlib.Core.List.{List, _∷_}
 use Prim.Native.Nat.{ℕ, _+_, _-_, _≤_, _<_}
 use native.Mathlib.Omega.{arith}
-use lib.Dec.{eqb}
-use lib.ListN.{length, take, length-append}
-use lib.Seq.{take-length}
-use Rattle.aff_format.specs.Bytes.{sameBytes}
+use lib.ListN.{length, length-append}
 use Rattle.aff_open.specs.Belongs.{Belongs}
 use Rattle.aff_open.specs.declared.reader.Reader.{Reader}
 use Rattle.aff_open.proofs.BelongsLaws.{parent-within}
-use Rattle.aff_read.specs.Calls.{capped, EndsWith}
+use Rattle.aff_read.specs.Calls.{capped}
 use Rattle.aff_read.specs.Recall.{parentAt, nameAt, pathAt}
 use Rattle.aff_read.proofs.CappedLaws.{capped-within, capped-past, capped-over, capped-exact}
 use Rattle.aff_read.proofs.FrontLaws.{frontAt, front-root-at, path-other, path-front}
-use Rattle.aff_read.proofs.MatchLaws.{ends-differ, ends-alike, used-up}
 
 -- From `node` the climb is at `at`; `left` of the limit may still be counted.
 pub record Measured (image : List ℕ) (reader : Reader) (strings entries : List ℕ) (node limit left at : ℕ) : Type 0 where
   pub there : at ≤ reader .nodes
   pub few : left ≤ limit
   pub counted : limit - left + length (pathAt image reader strings entries at) ≡ length (pathAt image reader strings entries node)
-
--- The climb is at `at`, and the first `left` bytes of the path are to be its path.
-pub record Matching (image : List ℕ) (reader : Reader) (strings entries : List ℕ) (node : ℕ) (path : List ℕ) (at left : ℕ) : Type 0 where
-  pub there : at ≤ reader .nodes
-  pub within : left ≤ length path
-  pub same : sameBytes (pathAt image reader strings entries at) (take left path) ≡ sameBytes (pathAt image reader strings entries node) path
 
 module _ {image : List ℕ} {reader : Reader} {strings entries : List ℕ} (b : Belongs image reader strings entries) where
   path-length : (at p : ℕ) → at ≤ reader .nodes → p ≡ parentAt image entries at
@@ -72,29 +61,3 @@ module _ {image : List ℕ} {reader : Reader} {strings entries : List ℕ} (b : 
         measure-on =
             let q = on-length in
             record { there = rw up (parent-within b at (m .there)); few = omega (arith, m .few); counted = omega (arith, m .counted, m .few) }
-
-  pub match-start : (node : ℕ) (path : List ℕ) → node ≤ reader .nodes → Matching image reader strings entries node path node (length path)
-  match-start node path h = record { there = h; within = omega arith; same = rw take-length }
-
-  module _ {node : ℕ} {path : List ℕ} {at left r : ℕ} (m : Matching image reader strings entries node path at left)
-      (e : EndsWith (47 ∷ nameAt image reader strings entries at) path left r) where
-    pub match-differs : left ≤ r → false ≡ sameBytes (pathAt image reader strings entries node) path
-    match-differs h =
-        sym (ends-differ e _ (frontAt image reader strings entries (parentAt image entries at)) (path-front image reader strings entries b at (m .there) (parentAt image entries at) refl) h)
-        ∙ m .same
-
-    module _ (p : ℕ) (up : p ≡ parentAt image entries at) (h : r < left) where
-      on-alike : sameBytes (frontAt image reader strings entries p) (take r path) ≡ sameBytes (pathAt image reader strings entries node) path
-      on-alike = sym (ends-alike e _ (frontAt image reader strings entries p) (path-front image reader strings entries b at (m .there) p up) h) ∙ m .same
-
-      pub match-done : p ≡ 0 → eqb r 0 ≡ sameBytes (pathAt image reader strings entries node) path
-      match-done z =
-          sym (used-up r path (omega (arith, m .within))) ∙ ap (λ (l : List ℕ). sameBytes l (take r path)) (sym (front-root-at (parentAt image entries) (nameAt image reader strings entries) (reader .nodes) p z)) ∙ on-alike
-
-      pub match-on : (p ≡ 0 → ⊥) → Matching image reader strings entries node path p r
-      match-on n =
-          record {
-            there = rw up (parent-within b at (m .there));
-            within = omega (arith, m .within);
-            same = rw (path-other image reader strings entries p n) on-alike;
-          }

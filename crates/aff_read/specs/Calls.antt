@@ -31,12 +31,6 @@ frontWritten (refused t) text out = out
 abbrev pub capped : ℕ → ℕ → ℕ
 capped limit n = cond (leb n limit) n (limit + 1)
 
--- r is where the text begins with which the first `left` bytes of a path end, or `left` where they do not end with it.
-pub record EndsWith (text path : List ℕ) (left r : ℕ) : Type 0 where
-  pub most : r ≤ left
-  pub ends : r < left → take left path ≡ take r path ++ text
-  pub other : left ≤ r → (front : List ℕ) → take left path ≡ front ++ text → ⊥
-
 -- The place of the lowest, 0 where there is none.
 abbrev pub lowestOr0 : Lowest → ℕ
 lowestOr0 Nothing = 0

@@ -12,18 +12,20 @@ use aff_open::Reader;
 use aff_open::belongs;
 use aff_open::recorded;
 ghost use mathlib.Core.Path.{_≡_};
-ghost use mathlib.Core.List.{_∷_};
+ghost use mathlib.Core.Bool.{true};
+ghost use mathlib.Core.List.{[], _∷_};
 ghost use Prim.Native.Nat.{_+_, _-_, _^_, _≤_, _<_};
-ghost use lib.ListN.{length};
-ghost use Rattle.aff_format.specs.Bytes.{part, spliced, sameBytes};
+ghost use lib.ListN.{length, getD, drop, set};
+ghost use Rattle.aff_format.specs.Bytes.{spliced, sameBytes};
 ghost use Rattle.aff_format.specs.Edition.{editionOf};
 ghost use Rattle.aff_format.specs.Path.{isPath};
-ghost use Rattle.aff_format.specs.Tree.{frontBy};
+ghost use Rattle.aff_format.specs.Tree.{frontBy, reachesBy};
 ghost use Rattle.aff_open.specs.Belongs.{Belongs};
 ghost use Rattle.aff_open.specs.Sections.{orTwo};
 ghost use Rattle.aff_open.specs.Tables.{nameFrom};
 ghost use Rattle.aff_format.specs.Verdict.{numberTold};
-ghost use Rattle.aff_read.specs.Calls.{capped, EndsWith, pathAnswer, frontWritten, found, lookupAnswer};
+ghost use Rattle.aff_read.specs.Calls.{capped, pathAnswer, frontWritten, found, lookupAnswer};
+ghost use Rattle.aff_read.specs.Fit.{fitFrom, fitAt, Settled};
 ghost use Rattle.aff_read.specs.Recall.{parentAt, nameAt, nameSpan, pathAt};
 ghost use Rattle.aff_read.specs.Written.{Written, textAnswer};
 
@@ -206,73 +208,165 @@ pub fn path(
     }
 }
 
-// Whether a slash and then the `size` bytes of the image from a place on stand in a path at a place.
-fn own_at(image: &[u8], from: usize, size: usize, path: &[u8], at: usize) -> bool
-    requires { ⌜ (from + size ≤ length (now image)) × (at + 1 + size ≤ length (now path)) ⌝ }
-    ensures { λ r. ⌜ r ≡ sameBytes (47 ∷ part from size (now (image .entry))) (part at (size + 1) (now (path .entry))) ⌝ }
+// Whether a path is the root's.
+fn is_root(path: &[u8]) -> bool
+    ensures { λ r. ⌜ r ≡ sameBytes (47 ∷ []) (now (path .entry)) ⌝ }
 {
-    if path[at] != b'/' {
+    if path.len() != 1 {
         return false;
     }
-    let start = at + 1;
-    bytes::same(&image[from..from + size], &path[start..start + size])
+    path[0] == b'/'
 }
 
-// Where the slash and the name of a node begin with which the first `left` bytes of a path end; `left` where they do not. At most `left`
-// bytes of the name are read, and compared only where it fits.
-fn front_of(
-    image: &[u8],
-    reader: Reader,
-    strings: &[u32],
-    entries: &[u32],
-    node: usize,
-    path: &[u8],
-    left: usize,
-) -> usize
-    requires { ⌜ Belongs (now image) reader (now strings) (now entries) × (node ≤ reader .nodes) × (left ≤ length (now path)) ⌝ }
-    ensures { λ r. ⌜ EndsWith (47 ∷ nameAt (now (image .entry)) reader (now (strings .entry)) (now (entries .entry)) node) (now (path .entry)) left r ⌝ }
+// Whether the string that begins at a place stands in a path from `at` on: 2 more than where it ends there, or 1 where it does not. No byte
+// is read behind the first that differs.
+fn fit_from(image: &[u8], from: usize, end: usize, path: &[u8], at: usize) -> usize
+    requires { ⌜ (from ≤ end) × (end ≤ length (now image)) × (at ≤ length (now path)) ⌝ }
+    ensures { λ r. ⌜ r ≡ fitFrom (nameFrom (now (image .entry)) end from) (drop at (now (path .entry))) at ⌝ }
 {
-    let size = own_length(image, reader, strings, entries, node, left);
-    if left < size {
-        return left;
+    let mut k = from;
+    let mut n = at;
+    while k < end {
+        let byte = image[k];
+        if byte == 0 {
+            return n + 2;
+        }
+        if path.len() <= n {
+            return 1;
+        }
+        if byte != path[n] {
+            return 1;
+        }
+        k += 1;
+        n += 1;
     }
-    let from = name_place(image, reader, strings, entries, node);
-    if own_at(image, from, size - 1, path, left - size) {
-        left - size
-    } else {
-        left
-    }
+    n + 2
 }
 
-// Whether the path of a node is the given one, compared from its end. A step uses up the bytes that it compares, one at least, or ends: at
-// most twice the path's length is read.
-pub fn matches(
+// The fit of a node that is not the root, by that of its parent: a slash and the name are to follow.
+fn fit_below(
     image: &[u8],
     reader: Reader,
     strings: &[u32],
     entries: &[u32],
-    node: usize,
     path: &[u8],
+    node: usize,
+    above: usize,
+) -> usize
+    requires { ⌜ Belongs (now image) reader (now strings) (now entries) × (node ≤ reader .nodes) × (0 < node) ⌝ }
+    requires { ⌜ above ≡ fitAt (now image) reader (now strings) (now entries) (now path) (parentAt (now image) (now entries) node) ⌝ }
+    ensures { λ r. ⌜ r ≡ fitAt (now (image .entry)) reader (now (strings .entry)) (now (entries .entry)) (now (path .entry)) node ⌝ }
+{
+    if above <= 1 {
+        return 1;
+    }
+    let at = above - 2;
+    if path.len() <= at {
+        return 1;
+    }
+    if path[at] != b'/' {
+        return 1;
+    }
+    let symbols = reader.symbols;
+    let from = name_place(image, reader, strings, entries, node);
+    fit_from(image, from, symbols.offset + symbols.size, path, at + 1)
+}
+
+fn fit_of(fits: &[usize], node: usize) -> usize
+    requires { ⌜ node < length (now fits) ⌝ }
+    ensures { λ r. ⌜ r ≡ getD (now (fits .entry)) node 0 ⌝ }
+{
+    fits[node]
+}
+
+// Settles a node whose parent is settled.
+fn settle_below(
+    image: &[u8],
+    reader: Reader,
+    strings: &[u32],
+    entries: &[u32],
+    path: &[u8],
+    node: usize,
+    parent: usize,
+    fits: &mut [usize],
+)
+    requires { ⌜ Belongs (now image) reader (now strings) (now entries) × (node ≤ reader .nodes) × (0 < node) ⌝ }
+    requires { ⌜ (parent ≡ parentAt (now image) (now entries) node) × (node < length (now fits)) × (parent < length (now fits)) ⌝ }
+    requires { ⌜ getD (now fits) parent 0 ≡ fitAt (now image) reader (now strings) (now entries) (now path) parent ⌝ }
+    ensures { λ _. ⌜ now (fits .exit) ≡ set (now (fits .entry)) node (fitAt (now (image .entry)) reader (now (strings .entry)) (now (entries .entry)) (now (path .entry)) node) ⌝ }
+{
+    let above = fits[parent];
+    let fit = fit_below(image, reader, strings, entries, path, node, above);
+    fits[node] = fit;
+}
+
+// Settles a node: first its parent, at most `left` steps up. Nothing is done where it is settled.
+fn settle(
+    image: &[u8],
+    reader: Reader,
+    strings: &[u32],
+    entries: &[u32],
+    path: &[u8],
+    node: usize,
+    left: usize,
+    fits: &mut [usize],
+)
+    requires { ⌜ Belongs (now image) reader (now strings) (now entries) × (node ≤ reader .nodes) ⌝ }
+    requires { ⌜ reachesBy (parentAt (now image) (now entries)) left node ≡ true ⌝ }
+    requires { ⌜ Settled (now image) reader (now strings) (now entries) (now path) (now fits) ⌝ }
+    ensures settled { λ _. ⌜ Settled (now (image .entry)) reader (now (strings .entry)) (now (entries .entry)) (now (path .entry)) (now (fits .exit)) ⌝ }
+    ensures told { λ _. ⌜ getD (now (fits .exit)) node 0 ≡ fitAt (now (image .entry)) reader (now (strings .entry)) (now (entries .entry)) (now (path .entry)) node ⌝ }
+{
+    if fit_of(fits, node) != 0 {
+        return;
+    }
+    let parent = parent_of(image, entries, node);
+    settle(
+        image,
+        reader,
+        strings,
+        entries,
+        path,
+        parent,
+        left - 1,
+        fits,
+    );
+    settle_below(image, reader, strings, entries, path, node, parent, fits);
+}
+
+// Whether the path of a node is the given one.
+fn has_path(
+    image: &[u8],
+    reader: Reader,
+    strings: &[u32],
+    entries: &[u32],
+    path: &[u8],
+    node: usize,
+    fits: &mut [usize],
 ) -> bool
     requires { ⌜ Belongs (now image) reader (now strings) (now entries) × (node ≤ reader .nodes) ⌝ }
-    ensures { λ r. ⌜ r ≡ sameBytes (pathAt (now (image .entry)) reader (now (strings .entry)) (now (entries .entry)) node) (now (path .entry)) ⌝ }
+    requires { ⌜ Settled (now image) reader (now strings) (now entries) (now path) (now fits) ⌝ }
+    ensures settled { λ r. ⌜ Settled (now (image .entry)) reader (now (strings .entry)) (now (entries .entry)) (now (path .entry)) (now (fits .exit)) ⌝ }
+    ensures answer { λ r. ⌜ r ≡ sameBytes (pathAt (now (image .entry)) reader (now (strings .entry)) (now (entries .entry)) node) (now (path .entry)) ⌝ }
 {
-    let mut at = node;
-    let mut left = path.len();
-    loop {
-        let front = front_of(image, reader, strings, entries, at, path, left);
-        if left <= front {
-            return false;
-        }
-        left = front;
-        at = parent_of(image, entries, at);
-        if at == 0 {
-            return left == 0;
-        }
+    if node == 0 {
+        return is_root(path);
     }
+    settle(
+        image,
+        reader,
+        strings,
+        entries,
+        path,
+        node,
+        reader.nodes,
+        fits,
+    );
+    fit_of(fits, node) == path.len() + 2
 }
 
-// The lowest node whose path is the given one, for a record that belongs. At most twice the path's length for each node.
+// The lowest node whose path is the given one, for a record that belongs. Each node is settled once: its entry is read twice at most, and its
+// name compared only where its parent fits, up to the first byte that differs from what is left of the path.
 pub fn lowest_match(
     image: &[u8],
     reader: Reader,
@@ -283,9 +377,11 @@ pub fn lowest_match(
     requires { ⌜ Belongs (now image) reader (now strings) (now entries) ⌝ }
     ensures { λ r. ⌜ r ≡ found (now (image .entry)) reader (now (strings .entry)) (now (entries .entry)) (now (path .entry)) ⌝ }
 {
+    let mut fits = [0usize; 2049];
+    fits[0] = 2;
     let mut k: usize = 0;
     while k <= reader.nodes {
-        if matches(image, reader, strings, entries, k, path) {
+        if has_path(image, reader, strings, entries, path, k, &mut fits) {
             return Lowest::At(k);
         }
         k += 1;

@@ -1,58 +1,88 @@
--- `lowest_match` meets its contract: the nodes left decide.
+-- `lowest_match` meets its contract: the nodes left decide, and what is settled stays so.
 use borrow.Author.Needs.{needs}
 use mathlib.Core.Path.{_≡_, sym, ap, _∙_}
-use Prim.Native.Nat.{_+_, _-_, _≤_, _<_}
+use Prim.Native.Nat.{ℕ, _+_, _-_, _≤_, _<_}
 use native.Mathlib.Nat.{add-zero, sub-zero}
 use native.Mathlib.Omega.{arith}
+use lib.ListN.{length, replicate, length-set, length-replicate}
 use Rattle.aff_format.specs.Bytes.{sameBytes}
 use Rattle.aff_format.specs.Lowest.{lowestFrom}
 use Rattle.aff_format.specs.declared.lowest.Lowest.the-variants.{At}
 use Rattle.aff_format.proofs.LowestLaws.{lowest-here, lowest-on, lowest-end}
 use Rattle.aff_read.specs.Calls.{found}
+use Rattle.aff_read.specs.Fit.{Settled}
 use Rattle.aff_read.specs.Recall.{pathAt}
+use Rattle.aff_read.proofs.FitLaws.{settled-first}
 use Rattle.aff_read.proofs.paths.lowest_match.Statement.{statement}
 use Rattle.aff_read.proofs.paths.lowest_match.Tie as tie
 
 abbrev Inv-loop : tie.InvT-loop
-Inv-loop image reader strings entries path k₀ k =
-    lowestFrom (λ j. sameBytes (pathAt image reader strings entries j) path) (reader .nodes + 1 - k) (k + 0) ≡ found image reader strings entries path
+Inv-loop image reader strings entries path fits₀ k₀ fits k =
+    (length fits ≡ 2049)
+    × Settled image reader strings entries path fits
+    × (lowestFrom (λ j. sameBytes (pathAt image reader strings entries j) path) (reader .nodes + 1 - k) (k + 0) ≡ found image reader strings entries path)
 
 abbrev μ-loop : tie.MeasureT-loop
-μ-loop image reader strings entries path k₀ k = reader .nodes + 1 - k
+μ-loop image reader strings entries path fits₀ k₀ fits k = reader .nodes + 1 - k
 
 loop-holds : tie.Need-loop-holds Inv-loop μ-loop
 unfolding found
-loop-holds c = rw sub-zero
+loop-holds c =
+    let s = c .before .before .before .before in
+    let a = s .args in
+    (length-set {A = ℕ} (replicate 2049 0) 0 2 ∙ length-replicate {A = ℕ} 2049 0, settled-first (a .image .now) (a .reader) (a .strings .now) (a .entries .now) (a .path .now) 2049 (omega (arith, s .pre .few-nodes)), rw sub-zero)
 
-matches-requires : tie.Need-matches-requires Inv-loop μ-loop
-matches-requires c κs = (c .before .before .before .before .before .before .before .pre, omega (arith, c .if1 .taken))
+slice-aggregate-has-path : tie.Need-slice-aggregate-has-path Inv-loop μ-loop
+slice-aggregate-has-path c = sym (c .before .before .before .loop .inv .0)
+
+has-path-requires : tie.Need-has-path-requires Inv-loop μ-loop
+has-path-requires c κs =
+    let lp = c .before .before .before in
+    ((lp .before .before .before .before .before .pre, omega (arith, c .before .if1 .taken)), lp .loop .inv .1)
 
 returns : tie.Need-returns Inv-loop μ-loop
 returns c =
-    let m = c .before in
-    let lp = m .before .before .before in
-    let h : lp .loop .k < lp .before .before .before .before .before .args .reader .nodes + 1 = omega (arith, m .before .if1 .taken) in
-    ap At (sym (add-zero (lp .loop .k))) ∙ lowest-here _ _ _ 0 h (rw (add-zero _) (sym (m .matches .ensures) ∙ c .if2 .taken)) ∙ lp .loop .inv
+    let m = c .before .before in
+    let lp = m .before .before .before .before in
+    let h : lp .loop .k < lp .before .before .before .before .before .args .reader .nodes + 1 = omega (arith, m .before .before .if1 .taken) in
+    ap At (sym (add-zero (lp .loop .k))) ∙ lowest-here _ _ _ 0 h (rw (add-zero _) (sym (m .has-path .ensures .1) ∙ c .if2 .taken)) ∙ lp .loop .inv .2
 
 add-k : tie.Need-add-k Inv-loop μ-loop
 add-k c =
-    let lp = c .before .before .before .before in
-    omega (arith, lp .before .before .before .before .before .pre .few-nodes, c .before .before .if1 .taken)
+    let i = c .before .before .before .before in
+    omega (arith, i .before .before .before .before .before .before .before .pre .few-nodes, i .if1 .taken)
+
+loop-less : tie.Need-loop-less Inv-loop μ-loop
+loop-less c = omega (arith, c .before .before .before .before .if1 .taken)
 
 loop-again : tie.Need-loop-again Inv-loop μ-loop
 loop-again c =
-    let m = c .before in
-    let lp = m .before .before .before in
-    let h : lp .loop .k < lp .before .before .before .before .before .args .reader .nodes + 1 = omega (arith, m .before .if1 .taken) in
-    lowest-on _ _ _ 0 h (rw (add-zero _) (sym (m .matches .ensures) ∙ c .if2 .left)) ∙ lp .loop .inv
+    let m = c .before .before in
+    let lp = m .before .before .before .before in
+    let h : lp .loop .k < lp .before .before .before .before .before .args .reader .nodes + 1 = omega (arith, m .before .before .if1 .taken) in (
+      omega (arith, m .has-path .kept, lp .loop .inv .0),
+      m .has-path .ensures .0,
+      lowest-on _ _ _ 0 h (rw (add-zero _) (sym (m .has-path .ensures .1) ∙ c .if2 .left)) ∙ lp .loop .inv .2,
+    )
 
 returns-2 : tie.Need-returns-2 Inv-loop μ-loop
 returns-2 c =
     let lp = c .before .before in
     let h : lp .before .before .before .before .before .args .reader .nodes + 1 ≤ lp .loop .k = omega (arith, c .if1 .left) in
-    lowest-end _ _ _ 0 h ∙ lp .loop .inv
+    lowest-end _ _ _ 0 h ∙ lp .loop .inv .2
 
 pub lowest-match-spec : {M : Type 1} → statement M
 lowest-match-spec =
     tie.close
-    (tie.spec Inv-loop μ-loop loop-holds matches-requires returns add-k (λ c. search needs) loop-again returns-2)
+    (tie.spec
+    Inv-loop
+    μ-loop
+    (λ c. search needs)
+    loop-holds
+    slice-aggregate-has-path
+    has-path-requires
+    returns
+    add-k
+    loop-less
+    loop-again
+    returns-2)
