@@ -1,8 +1,8 @@
 -- How far the path of a node goes along a given path: by its parent's fit, and whether it is the whole path. Assumes nothing.
 use mathlib.Core.Path.{_≡_, refl, sym, ap, _∙_}
-use mathlib.Core.Bool.{Bool, true, false, cond, _&&_}
+use mathlib.Core.Bool.{Bool, true, false, _&&_}
 use mathlib.Core.List.{List, [], _∷_, _++_}
-use mathlib.Core.Logic.{_⊎_, ⊎-elim}
+use mathlib.Core.Logic.{⊎-elim}
 use Prim.Native.Nat.{ℕ, zero, suc, _+_, _-_, _≤_, _<_}
 use native.Mathlib.Nat.{add-zero, zero-add}
 use native.Mathlib.Numerals.{add-one}
@@ -11,11 +11,11 @@ use lib.Dec.{eqb}
 use lib.ListN.{length, getD, drop, set, replicate, length-set, length-replicate, getD-replicate, drop-of-length-le}
 use lib.Seq.{drop-cons, getD-set-same, getD-set-other}
 use borrow.Author.Tests.{eq-eqb, ne-eqb, eqb-true, eqb-false}
-use Rattle.aff_format.specs.Bytes.{part, sameBytes}
+use Rattle.aff_format.specs.Bytes.{sameBytes}
 use Rattle.aff_format.specs.Strings.{upToZero}
-use Rattle.aff_format.specs.Tree.{reachesBy, frontBy}
+use Rattle.aff_format.specs.Tree.{reachesBy}
 use Rattle.aff_format.proofs.BytesLaws.{part-cons, part-empty}
-use Rattle.aff_format.proofs.ClimbLaws.{at-zero, reaches-up, absurd-bool}
+use Rattle.aff_format.proofs.ClimbLaws.{at-zero, reaches-up}
 use Rattle.aff_format.proofs.TreeLaws.{front-root, front-step}
 use Rattle.aff_open.specs.Belongs.{Belongs}
 use Rattle.aff_open.specs.Tables.{nameFrom}

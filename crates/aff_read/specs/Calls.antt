@@ -1,10 +1,9 @@
 -- Path, lookup, listing and a line of the lister: document 01, 'Reading keys', 'The lister', 'Order'.
-use mathlib.Core.Path.{_≡_}
-use mathlib.Core.Bool.{Bool, true, false, cond, not}
+use mathlib.Core.Bool.{cond, not}
 use mathlib.Core.List.{List, [], _∷_, _++_}
-use Prim.Native.Nat.{ℕ, zero, suc, _+_, _/_, _%_, _≤_, _<_}
+use Prim.Native.Nat.{ℕ, zero, suc, _+_, _/_, _%_}
 use lib.Dec.{eqb, ltb, leb}
-use lib.ListN.{length, take, drop}
+use lib.ListN.{length, drop}
 use Rattle.aff_format.specs.Answer.{Answer, accepted, refused, Check, check, refusal, firstWrong}
 use Rattle.aff_format.specs.Bytes.{sameBytes}
 use Rattle.aff_format.specs.Edition.{editionOf}

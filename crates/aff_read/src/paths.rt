@@ -21,6 +21,7 @@ ghost use Rattle.aff_format.specs.Edition.{editionOf};
 ghost use Rattle.aff_format.specs.Path.{isPath};
 ghost use Rattle.aff_format.specs.Tree.{frontBy, reachesBy};
 ghost use Rattle.aff_open.specs.Belongs.{Belongs};
+ghost use Rattle.aff_open.specs.Recorded.{recordedEntry};
 ghost use Rattle.aff_open.specs.Sections.{orTwo};
 ghost use Rattle.aff_open.specs.Tables.{nameFrom};
 ghost use Rattle.aff_format.specs.Verdict.{numberTold};
@@ -218,8 +219,8 @@ fn is_root(path: &[u8]) -> bool
     path[0] == b'/'
 }
 
-// Whether the string that begins at a place stands in a path from `at` on: 2 more than where it ends there, or 1 where it does not. No byte
-// is read behind the first that differs.
+// Whether the string that begins at a place stands in a path from `at` on: 2 more than where it ends there, or 1 where it does not. One pass
+// over the two, no further than the first byte that differs.
 fn fit_from(image: &[u8], from: usize, end: usize, path: &[u8], at: usize) -> usize
     requires { ⌜ (from ≤ end) × (end ≤ length (now image)) × (at ≤ length (now path)) ⌝ }
     ensures { λ r. ⌜ r ≡ fitFrom (nameFrom (now (image .entry)) end from) (drop at (now (path .entry))) at ⌝ }
@@ -243,7 +244,8 @@ fn fit_from(image: &[u8], from: usize, end: usize, path: &[u8], at: usize) -> us
     n + 2
 }
 
-// The fit of a node that is not the root, by that of its parent: a slash and the name are to follow.
+// The fit of a node is n + 2 where its path, nothing for the root, is the first n bytes of the given one, and 1 where it is not. This is the
+// fit of a node that is not the root, by that of its parent: a slash and the name are to follow.
 fn fit_below(
     image: &[u8],
     reader: Reader,
@@ -251,9 +253,11 @@ fn fit_below(
     entries: &[u32],
     path: &[u8],
     node: usize,
+    string: usize,
     above: usize,
 ) -> usize
     requires { ⌜ Belongs (now image) reader (now strings) (now entries) × (node ≤ reader .nodes) × (0 < node) ⌝ }
+    requires { ⌜ string ≡ recordedEntry (now image) (now entries) node .string ⌝ }
     requires { ⌜ above ≡ fitAt (now image) reader (now strings) (now entries) (now path) (parentAt (now image) (now entries) node) ⌝ }
     ensures { λ r. ⌜ r ≡ fitAt (now (image .entry)) reader (now (strings .entry)) (now (entries .entry)) (now (path .entry)) node ⌝ }
 {
@@ -268,7 +272,7 @@ fn fit_below(
         return 1;
     }
     let symbols = reader.symbols;
-    let from = name_place(image, reader, strings, entries, node);
+    let from = recorded::place(strings, string);
     fit_from(image, from, symbols.offset + symbols.size, path, at + 1)
 }
 
@@ -279,7 +283,7 @@ fn fit_of(fits: &[usize], node: usize) -> usize
     fits[node]
 }
 
-// Settles a node whose parent is settled.
+// Settles a node whose parent is settled: its fit is stored, where 0 stood.
 fn settle_below(
     image: &[u8],
     reader: Reader,
@@ -288,19 +292,21 @@ fn settle_below(
     path: &[u8],
     node: usize,
     parent: usize,
+    string: usize,
     fits: &mut [usize],
 )
     requires { ⌜ Belongs (now image) reader (now strings) (now entries) × (node ≤ reader .nodes) × (0 < node) ⌝ }
+    requires { ⌜ string ≡ recordedEntry (now image) (now entries) node .string ⌝ }
     requires { ⌜ (parent ≡ parentAt (now image) (now entries) node) × (node < length (now fits)) × (parent < length (now fits)) ⌝ }
     requires { ⌜ getD (now fits) parent 0 ≡ fitAt (now image) reader (now strings) (now entries) (now path) parent ⌝ }
     ensures { λ _. ⌜ now (fits .exit) ≡ set (now (fits .entry)) node (fitAt (now (image .entry)) reader (now (strings .entry)) (now (entries .entry)) (now (path .entry)) node) ⌝ }
 {
     let above = fits[parent];
-    let fit = fit_below(image, reader, strings, entries, path, node, above);
+    let fit = fit_below(image, reader, strings, entries, path, node, string, above);
     fits[node] = fit;
 }
 
-// Settles a node: first its parent, at most `left` steps up. Nothing is done where it is settled.
+// Settles a node: first its parent, at most `left` steps up. Nothing is done where it is settled. So 2,048 calls at most are open at once.
 fn settle(
     image: &[u8],
     reader: Reader,
@@ -320,7 +326,8 @@ fn settle(
     if fit_of(fits, node) != 0 {
         return;
     }
-    let parent = parent_of(image, entries, node);
+    let entry = recorded::recorded_entry(image, entries, node);
+    let parent = entry.parent as usize;
     settle(
         image,
         reader,
@@ -331,7 +338,17 @@ fn settle(
         left - 1,
         fits,
     );
-    settle_below(image, reader, strings, entries, path, node, parent, fits);
+    settle_below(
+        image,
+        reader,
+        strings,
+        entries,
+        path,
+        node,
+        parent,
+        entry.string as usize,
+        fits,
+    );
 }
 
 // Whether the path of a node is the given one.
@@ -365,8 +382,8 @@ fn has_path(
     fit_of(fits, node) == path.len() + 2
 }
 
-// The lowest node whose path is the given one, for a record that belongs. Each node is settled once: its entry is read twice at most, and its
-// name compared only where its parent fits, up to the first byte that differs from what is left of the path.
+// The lowest node whose path is the given one, for a record that belongs. Each node is settled once at most: its entry is read once, and its
+// name compared only where its parent fits, up to the first byte that differs and no further than the path goes.
 pub fn lowest_match(
     image: &[u8],
     reader: Reader,

@@ -1,18 +1,19 @@
 -- `settle` meets its contract: the parent is settled by the call itself, then the node. The steps left fall.
 use borrow.Author.Needs.{needs}
-use mathlib.Core.Path.{sym, _∙_}
+use mathlib.Core.Path.{_≡_, sym, ap, _∙_}
 use Prim.Native.Nat.{ℕ, _≤_, _<_}
 use native.Mathlib.Omega.{arith}
 use borrow.Fn.Kinds.{In}
 use borrow.Fn.PlainCycle.{Measures, is, falls, and}
+use Rattle.aff_format.specs.declared.entry.Entry.{Entry}
 use Rattle.aff_open.proofs.BelongsLaws.{parent-within}
 use Rattle.aff_read.specs.Recall.{parentAt}
 use Rattle.aff_read.proofs.FitLaws.{climb-left, not-root, told-next, settled-next}
 use Rattle.aff_read.proofs.paths.settle.Reads as settle
 use Rattle.aff_read.proofs.paths.settle.Kinds as settle-kinds
 use Rattle.aff_read.proofs.paths.+settle.Lts-settle as settle-lts
+use Rattle.aff_open.proofs.recorded.recorded_entry.Reads as recorded-entry-reads
 use Rattle.aff_read.proofs.paths.fit_of.Reads as fit-of-reads
-use Rattle.aff_read.proofs.paths.parent_of.Reads as parent-of-reads
 use Rattle.aff_read.proofs.paths.settle_below.Reads as settle-below-reads
 use Rattle.aff_read.proofs.paths.+settle.{statement}
 use Rattle.aff_read.proofs.paths.+settle.Tie.{close}
@@ -29,8 +30,8 @@ settle-below t = and 5 settle-kinds.ps (falls 5 settle-kinds.ps _<_ μ-settle t)
 settle-fit-of-requires : (t : ℕ) → settle-lts.Need-fit-of-requires (
   fit-of-reads.Asked,
   fit-of-reads.Learnt,
-  parent-of-reads.Asked,
-  parent-of-reads.Learnt,
+  recorded-entry-reads.Asked,
+  recorded-entry-reads.Learnt,
   settle-below t,
   settle.Post,
   settle-below-reads.Asked,
@@ -43,8 +44,8 @@ settle-fit-of-requires t c κs =
 settle-same-length : (t : ℕ) → settle-lts.Need-same-length (
   fit-of-reads.Asked,
   fit-of-reads.Learnt,
-  parent-of-reads.Asked,
-  parent-of-reads.Learnt,
+  recorded-entry-reads.Asked,
+  recorded-entry-reads.Learnt,
   settle-below t,
   settle.Post,
   settle-below-reads.Asked,
@@ -55,8 +56,8 @@ settle-same-length t c = search needs
 settle-returns : (t : ℕ) → settle-lts.Need-returns (
   fit-of-reads.Asked,
   fit-of-reads.Learnt,
-  parent-of-reads.Asked,
-  parent-of-reads.Learnt,
+  recorded-entry-reads.Asked,
+  recorded-entry-reads.Learnt,
   settle-below t,
   settle.Post,
   settle-below-reads.Asked,
@@ -67,23 +68,23 @@ settle-returns t c =
     let m = s .pre .1 .1 .1 in
     (m, m .told (s .args .node) (s .pre .1 .0 .1) (λ z. c .if1 .taken (c .before .fit-of .ensures ∙ z)))
 
-settle-parent-of-requires : (t : ℕ) → settle-lts.Need-parent-of-requires (
+settle-recorded-entry-requires : (t : ℕ) → settle-lts.Need-recorded-entry-requires (
   fit-of-reads.Asked,
   fit-of-reads.Learnt,
-  parent-of-reads.Asked,
-  parent-of-reads.Learnt,
+  recorded-entry-reads.Asked,
+  recorded-entry-reads.Learnt,
   settle-below t,
   settle.Post,
   settle-below-reads.Asked,
   settle-below-reads.Learnt,
 ) (settle-at t) settle.Post
-settle-parent-of-requires t c κs = search needs
+settle-recorded-entry-requires t c κs = search needs
 
 settle-sub-settle : (t : ℕ) → settle-lts.Need-sub-settle (
   fit-of-reads.Asked,
   fit-of-reads.Learnt,
-  parent-of-reads.Asked,
-  parent-of-reads.Learnt,
+  recorded-entry-reads.Asked,
+  recorded-entry-reads.Learnt,
   settle-below t,
   settle.Post,
   settle-below-reads.Asked,
@@ -95,13 +96,14 @@ settle-sub-settle t c =
     let s = i .before .before .before .before .before .before .before .before in
     let a = s .args in
     let low : 0 < a .node = not-root (s .pre .1 .1 .1) (a .node) (sym (i .before .fit-of .ensures) ∙ i .if1 .left) in
-    climb-left (parentAt (a .image .now) (a .entries .now)) (a .left) (a .node) (p .parent-of .result) low (p .parent-of .ensures) (s .pre .1 .1 .0) .0
+    let e : p .recorded-entry .result .parent ≡ parentAt (a .image .now) (a .entries .now) (a .node) = ap (λ (f : Entry). f .parent) (p .recorded-entry .ensures) in
+    climb-left (parentAt (a .image .now) (a .entries .now)) (a .left) (a .node) (p .recorded-entry .result .parent) low e (s .pre .1 .1 .0) .0
 
 settle-settle-requires : (t : ℕ) → settle-lts.Need-settle-requires (
   fit-of-reads.Asked,
   fit-of-reads.Learnt,
-  parent-of-reads.Asked,
-  parent-of-reads.Learnt,
+  recorded-entry-reads.Asked,
+  recorded-entry-reads.Learnt,
   settle-below t,
   settle.Post,
   settle-below-reads.Asked,
@@ -113,37 +115,53 @@ settle-settle-requires t c κs =
     let s = i .before .before .before .before .before .before .before .before in
     let a = s .args in
     let low : 0 < a .node = not-root (s .pre .1 .1 .1) (a .node) (sym (i .before .fit-of .ensures) ∙ i .if1 .left) in
-    let u = climb-left (parentAt (a .image .now) (a .entries .now)) (a .left) (a .node) (p .parent-of .result) low (p .parent-of .ensures) (s .pre .1 .1 .0) in
+    let e : p .recorded-entry .result .parent ≡ parentAt (a .image .now) (a .entries .now) (a .node) = ap (λ (f : Entry). f .parent) (p .recorded-entry .ensures) in
+    let u = climb-left (parentAt (a .image .now) (a .entries .now)) (a .left) (a .node) (p .recorded-entry .result .parent) low e (s .pre .1 .1 .0) in
     let b = s .pre .1 .0 .0 in
-    (omega (arith, s .pre .0, u .0), ((b, rw (p .parent-of .ensures) (parent-within b (a .node) (s .pre .1 .0 .1))), (u .1, s .pre .1 .1 .1)))
+    (omega (arith, s .pre .0, u .0), ((b, rw e (parent-within b (a .node) (s .pre .1 .0 .1))), (u .1, s .pre .1 .1 .1)))
+
+settle-cast-settle-below : (t : ℕ) → settle-lts.Need-cast-settle-below (
+  fit-of-reads.Asked,
+  fit-of-reads.Learnt,
+  recorded-entry-reads.Asked,
+  recorded-entry-reads.Learnt,
+  settle-below t,
+  settle.Post,
+  settle-below-reads.Asked,
+  settle-below-reads.Learnt,
+) (settle-at t) settle.Post
+settle-cast-settle-below t c = search needs
 
 settle-settle-below-requires : (t : ℕ) → settle-lts.Need-settle-below-requires (
   fit-of-reads.Asked,
   fit-of-reads.Learnt,
-  parent-of-reads.Asked,
-  parent-of-reads.Learnt,
+  recorded-entry-reads.Asked,
+  recorded-entry-reads.Learnt,
   settle-below t,
   settle.Post,
   settle-below-reads.Asked,
   settle-below-reads.Learnt,
 ) (settle-at t) settle.Post
 settle-settle-below-requires t c κs =
-    let w = c .before .before .before in
+    let w = c .before .before .before .before in
     let p = w .before .before in
     let i = p .before in
     let s = i .before .before .before .before .before .before .before .before in
     let a = s .args in
     let low : 0 < a .node = not-root (s .pre .1 .1 .1) (a .node) (sym (i .before .fit-of .ensures) ∙ i .if1 .left) in
+    let e : p .recorded-entry .result .parent ≡ parentAt (a .image .now) (a .entries .now) (a .node) = ap (λ (f : Entry). f .parent) (p .recorded-entry .ensures) in
     let b = s .pre .1 .0 .0 in
     let m = w .settle .ensures .0 in
-    let q : p .parent-of .result ≤ a .reader .nodes = rw (p .parent-of .ensures) (parent-within b (a .node) (s .pre .1 .0 .1)) in
-    ((b, s .pre .1 .0 .1, low), ((p .parent-of .ensures, omega (arith, m .wide, s .pre .1 .0 .1), omega (arith, m .wide)), w .settle .ensures .1))
+    let q : p .recorded-entry .result .parent ≤ a .reader .nodes = rw e (parent-within b (a .node) (s .pre .1 .0 .1)) in (
+      (b, s .pre .1 .0 .1, low),
+      (ap (λ (f : Entry). f .string) (p .recorded-entry .ensures), ((e, omega (arith, m .wide, s .pre .1 .0 .1), omega (arith, m .wide)), w .settle .ensures .1)),
+    )
 
 settle-same-length-2 : (t : ℕ) → settle-lts.Need-same-length-2 (
   fit-of-reads.Asked,
   fit-of-reads.Learnt,
-  parent-of-reads.Asked,
-  parent-of-reads.Learnt,
+  recorded-entry-reads.Asked,
+  recorded-entry-reads.Learnt,
   settle-below t,
   settle.Post,
   settle-below-reads.Asked,
@@ -151,13 +169,13 @@ settle-same-length-2 : (t : ℕ) → settle-lts.Need-same-length-2 (
 ) (settle-at t) settle.Post
 settle-same-length-2 t c =
     let q = c .before .before in
-    q .settle-below .kept .1 .1 .1 .1 .1 .1 .1 .0 ∙ q .before .before .before .before .settle .kept .1 .1 .1 .1 .1 .1 .1 .0
+    q .settle-below .kept .1 .1 .1 .1 .1 .1 .1 .1 .0 ∙ q .before .before .before .before .before .settle .kept .1 .1 .1 .1 .1 .1 .1 .0
 
 settle-returns-2 : (t : ℕ) → settle-lts.Need-returns-2 (
   fit-of-reads.Asked,
   fit-of-reads.Learnt,
-  parent-of-reads.Asked,
-  parent-of-reads.Learnt,
+  recorded-entry-reads.Asked,
+  recorded-entry-reads.Learnt,
   settle-below t,
   settle.Post,
   settle-below-reads.Asked,
@@ -165,7 +183,7 @@ settle-returns-2 : (t : ℕ) → settle-lts.Need-returns-2 (
 ) (settle-at t) settle.Post
 settle-returns-2 t c =
     let q = c .before .before in
-    let w = q .before .before .before .before in
+    let w = q .before .before .before .before .before in
     let p = w .before .before in
     let i = p .before in
     let s = i .before .before .before .before .before .before .before .before in
@@ -178,8 +196,8 @@ pub +settle-spec : {M : Type 1} → statement M
 +settle-spec = close μ-settle λ t. settle-lts.spec (
   fit-of-reads.Asked,
   fit-of-reads.Learnt,
-  parent-of-reads.Asked,
-  parent-of-reads.Learnt,
+  recorded-entry-reads.Asked,
+  recorded-entry-reads.Learnt,
   settle-below t,
   settle.Post,
   settle-below-reads.Asked,
@@ -190,9 +208,10 @@ pub +settle-spec : {M : Type 1} → statement M
     (settle-fit-of-requires t)
     (settle-same-length t)
     (settle-returns t)
-    (settle-parent-of-requires t)
+    (settle-recorded-entry-requires t)
     (settle-sub-settle t)
     (settle-settle-requires t)
+    (settle-cast-settle-below t)
     (settle-settle-below-requires t)
     (settle-same-length-2 t)
     (settle-returns-2 t)

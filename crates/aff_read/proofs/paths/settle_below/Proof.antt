@@ -11,7 +11,7 @@ fit-below-requires : tie.Need-fit-below-requires
 fit-below-requires c κs =
     let s = c .before .before .before .before .before .before in
     let a = s .args in
-    (s .pre .0, s .pre .1 .1 ∙ ap (fitAt (a .image .now) (a .reader) (a .strings .now) (a .entries .now) (a .path .now)) (s .pre .1 .0 .0))
+    (s .pre .0, (s .pre .1 .0, s .pre .1 .1 .1 ∙ ap (fitAt (a .image .now) (a .reader) (a .strings .now) (a .entries .now) (a .path .now)) (s .pre .1 .1 .0 .0)))
 
 returns : tie.Need-returns
 returns c =
