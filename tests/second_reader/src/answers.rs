@@ -134,12 +134,17 @@ impl<'a> Reader<'a> {
         &self.image[part.offset as usize..][..part.size as usize]
     }
 
-    /// "name (a part of the image without its zero, empty for the root)".
-    pub fn name(&self, number: u64) -> Result<&'a [u8], u32> {
+    /// "name (a part of the image without its zero, empty for the root)"; the place of the root's is free (none here).
+    pub fn name_part(&self, number: u64) -> Result<Option<Span>, u32> {
         Ok(match self.node(number)? {
-            Node::Root => &[],
-            Node::Other(entry) => self.bytes(self.names[entry.string as usize]),
+            Node::Root => None,
+            Node::Other(entry) => Some(self.names[entry.string as usize]),
         })
+    }
+
+    pub fn name(&self, number: u64) -> Result<&'a [u8], u32> {
+        let part = self.name_part(number)?;
+        Ok(part.map_or(&[], |part| self.bytes(part)))
     }
 
     /// "the root is 0, has no entry, no name, type Void."

@@ -1,0 +1,397 @@
+//! Random runs of the writer: the model's images beside the tree that the calls describe, cut after any number of stores,
+//! and beside the library's writer where it is linked.
+
+use crate::answers::{decoded, judged, Lent, Reader};
+use crate::format::{Edition, Kind};
+use crate::images::subkey;
+use crate::open::open;
+use crate::random::Random;
+use crate::report::Report;
+use crate::writer::{Told, Writer, TEXT_AREA, TREE_AREA};
+
+/// One call with its arguments; allowances come from a total that is handed down.
+#[derive(Clone, Debug)]
+pub enum Call {
+    Begin(Vec<u8>),
+    Make(u64, Vec<u8>),
+    Put(u64, u64, Vec<u8>),
+    Close,
+}
+
+/// What takes the calls of a run: the model, or the library's writer.
+pub trait Desk {
+    fn call(&mut self, call: &Call, allowance: u64) -> Told;
+    /// Room, text area, tree area.
+    fn memory(&self) -> [&[u8]; 3];
+}
+
+impl Desk for Writer {
+    fn call(&mut self, call: &Call, allowance: u64) -> Told {
+        match call {
+            Call::Begin(form) => self.begin(form, allowance),
+            Call::Make(parent, name) => self.make(*parent, name),
+            Call::Put(node, code, bytes) => self.put(*node, *code, bytes, allowance),
+            Call::Close => self.close(allowance),
+        }
+    }
+
+    fn memory(&self) -> [&[u8]; 3] {
+        [&self.room, &self.text, &self.tree]
+    }
+}
+
+/// A run: what is lent, and the calls.
+pub struct Run {
+    pub room: Vec<u8>,
+    pub text: Vec<u8>,
+    pub tree: Vec<u8>,
+    pub calls: Vec<Call>,
+}
+
+/// Stores that a call made: an accepted make tells a node, and stores nothing.
+fn stores(call: &Call, told: &Told) -> u64 {
+    match (call, told) {
+        (Call::Make(..), _) => 0,
+        (_, Ok(made)) => *made,
+        (_, Err((23, made))) => *made,
+        _ => 0,
+    }
+}
+
+/// Plays the calls with a total allowance: each gets what the earlier ones left. The answers.
+pub fn play(desk: &mut dyn Desk, calls: &[Call], total: u64) -> Vec<Told> {
+    let mut left = total;
+    let mut answers = Vec::new();
+    for call in calls {
+        let told = desk.call(call, left);
+        left -= stores(call, &told);
+        answers.push(told);
+    }
+    answers
+}
+
+/// A node as the calls describe it.
+#[derive(Clone)]
+struct Described {
+    parent: u64,
+    name: Vec<u8>,
+    kind: Kind,
+    bytes: Vec<u8>,
+}
+
+/// "Calls describe a tree by their arguments and by which were accepted. It starts as node 0, nameless and Void."
+fn described(calls: &[Call], answers: &[Told]) -> Vec<Described> {
+    let root = Described {
+        parent: 0,
+        name: Vec::new(),
+        kind: Kind::Void,
+        bytes: Vec::new(),
+    };
+    let mut tree = vec![root.clone()];
+    for (call, told) in calls.iter().zip(answers) {
+        match (call, told) {
+            (Call::Begin(_), Ok(_)) => tree.truncate(1),
+            (Call::Make(parent, name), Ok(_)) => tree.push(Described {
+                parent: *parent,
+                name: name.clone(),
+                ..root.clone()
+            }),
+            (Call::Put(node, code, bytes), Ok(_)) => {
+                let node = &mut tree[*node as usize];
+                node.kind = Kind::from_code(*code).expect("accepted");
+                node.bytes = bytes.clone();
+            }
+            _ => (),
+        }
+    }
+    tree
+}
+
+/// "Paths go by parents."
+fn path_in(tree: &[Described], number: usize) -> Vec<u8> {
+    match number {
+        0 => Vec::new(),
+        _ => {
+            let node = &tree[number];
+            let mut path = path_in(tree, node.parent as usize);
+            path.push(b'/');
+            path.extend(&node.name);
+            path
+        }
+    }
+}
+
+/// "An opened file shows this tree if each of the tree's numbers answers with its name, path (output long enough), type, count
+/// and bytes, and any other number with 15."
+fn shows(room: &[u8], form: &[u8], tree: &[Described], report: &mut Report) {
+    let opened = open(room, form);
+    report.same("opened", &true, &opened.is_ok());
+    let Ok(opened) = opened else { return };
+    let lent = Lent {
+        image: room,
+        record: opened.record,
+        strings: &opened.strings,
+        entries: &opened.entries,
+    };
+    let Ok(reader) = judged(&lent) else {
+        report.same("24", &true, &false);
+        return;
+    };
+    report.same("order", &(tree.len() as u64), &order_length(&reader));
+    for (number, node) in tree.iter().enumerate() {
+        let n = number as u64;
+        let path = if n == 0 {
+            b"/".to_vec()
+        } else {
+            path_in(tree, number)
+        };
+        report.same("name", &Ok(node.name.as_slice()), &reader.name(n));
+        report.same("lookup", &Ok(n), &reader.lookup(&path));
+        let mut output = vec![b'.'; path.len() + 2];
+        let length = reader.path_into(n, &mut output);
+        report.same("path length", &Ok(path.len() as u64), &length);
+        report.same("path", &[path.as_slice(), b".."].concat(), &output);
+        report.same("kind", &Ok(node.kind), &reader.kind(n));
+        shows_data(&reader, n, node, room, report);
+    }
+    let past = [tree.len() as u64, u64::MAX].map(|n| reader.kind(n));
+    report.same("other numbers", &[Err(15), Err(15)], &past);
+}
+
+/// The numbers that listing order writes, each once.
+fn order_length(reader: &Reader) -> u64 {
+    let mut area = vec![0; reader.nodes() as usize + 1];
+    let written = reader.order_into(&mut area).unwrap_or(0);
+    area.sort_unstable();
+    area.dedup();
+    written.min(area.len() as u64)
+}
+
+/// Count, bytes, and each element decoded.
+fn shows_data(reader: &Reader, n: u64, node: &Described, room: &[u8], report: &mut Report) {
+    let width = node.kind.width().max(1);
+    let count = (node.bytes.len() / width) as u64;
+    let view = reader.view(n).map(|part| {
+        let part = part.unwrap_or_default();
+        room[part.offset as usize..][..part.size as usize].to_vec()
+    });
+    report.same("count", &Ok(count), &reader.count(n));
+    report.same("bytes", &Ok(node.bytes.clone()), &view);
+    report.same("no element", &Err(16), &reader.element(n, count));
+    for (index, bytes) in (0..).zip(node.bytes.chunks(width)) {
+        let element = Ok(decoded(node.kind, bytes));
+        report.same("element", &element, &reader.element(n, index));
+    }
+}
+
+/// A random run: mostly short, sometimes up to the limits of nodes, strings and text.
+pub fn random_run(random: &Random) -> Run {
+    let mut run = Run {
+        room: room(random),
+        text: random.bytes(area(random, TEXT_AREA)),
+        tree: random.bytes(area(random, TREE_AREA)),
+        calls: vec![begin(random)],
+    };
+    let most = match random.below(60) {
+        0 => 2300,
+        1..=20 => 60,
+        _ => 12,
+    };
+    let long = random.one_in(40);
+    for _ in 0..random.below(most) {
+        run.calls.push(middle(random, &run.calls, long));
+    }
+    run.calls.push(Call::Close);
+    for _ in 0..random.below(3) {
+        let more = match random.below(3) {
+            0 => Call::Close,
+            _ => middle(random, &run.calls, false),
+        };
+        run.calls.push(more);
+    }
+    if random.one_in(6) {
+        run.calls
+            .extend([begin(random), Call::Make(0, b"again".to_vec()), Call::Close]);
+    }
+    run
+}
+
+/// A room: of zeros, of anything, or one that holds a finished file; of any length about the least, or long enough.
+fn room(random: &Random) -> Vec<u8> {
+    let length = match random.below(8) {
+        0 => random.pick(&[0, 1, 167, 168, 169, 181, 213, 214]),
+        1..=3 => 168 + random.below(400),
+        4..=6 => 4000,
+        _ => 140_000,
+    };
+    match random.below(3) {
+        0 => vec![0; length],
+        1 => random.bytes(length),
+        _ => {
+            let mut old = Writer::lent(vec![9; length], vec![0; TEXT_AREA], vec![0; TREE_AREA]);
+            let calls = [Call::Begin(Edition::Two.form().to_vec()), Call::Close];
+            play(&mut old, &calls, u64::MAX);
+            old.room
+        }
+    }
+}
+
+fn area(random: &Random, size: usize) -> usize {
+    match random.below(60) {
+        0 => random.pick(&[0, size - 1, size + 1]),
+        _ => size,
+    }
+}
+
+fn begin(random: &Random) -> Call {
+    let mut form = Edition::Two.form().to_vec();
+    match random.below(40) {
+        0 => form.truncate(11),
+        1 => form.push(0),
+        2 => form = random.bytes(12),
+        _ => (),
+    }
+    Call::Begin(form)
+}
+
+/// A make or a put, most of them lawful.
+fn middle(random: &Random, before: &[Call], long: bool) -> Call {
+    let made = before
+        .iter()
+        .filter(|call| matches!(call, Call::Make(..)))
+        .count();
+    match random.below(3) {
+        0 => put(random, made),
+        _ => make(random, made, long),
+    }
+}
+
+fn make(random: &Random, made: usize, long: bool) -> Call {
+    let parent = match random.below(30) {
+        0 => random.pick(&[made as u64 + 1, u64::MAX, 1 << 32]),
+        _ => random.below(made + 1) as u64,
+    };
+    let mut name = subkey(random);
+    match random.below(30) {
+        0 => {
+            name = random.pick(&[
+                b"".to_vec(),
+                b"9a".to_vec(),
+                b"a/b".to_vec(),
+                b"a\0".to_vec(),
+            ])
+        }
+        1 if long => name = vec![b'k'; random.between(20_000, 33_000)],
+        _ if long => name.extend(vec![b'l'; random.below(3000)]),
+        2..=9 => name.truncate(1),
+        _ => name.extend(made.to_string().bytes()),
+    }
+    Call::Make(parent, name)
+}
+
+fn put(random: &Random, made: usize) -> Call {
+    let node = random.below(made + 2) as u64;
+    let code = random.pick(&[2, 3, 4, 5, 2, 3, 4, 5, 2, 3, 4, 5, 0, 1, 6, 259, u64::MAX]);
+    let width = Kind::from_code(code).map_or(1, Kind::width);
+    let mut size = random.below(6) * width;
+    if random.one_in(12) {
+        size += 1;
+    }
+    Call::Put(node, code, random.bytes(size))
+}
+
+/// One run: whole, at some cuts, and beside another desk where there is one.
+pub fn compare(
+    seed: u64,
+    number: u64,
+    other: Option<fn(&Run) -> Box<dyn Desk>>,
+    report: &mut Report,
+) {
+    let random = Random::of(seed, number);
+    let run = random_run(&random);
+    report.begin_run(seed, number);
+    let desk = || Writer::lent(run.room.clone(), run.text.clone(), run.tree.clone());
+    let mut whole = desk();
+    let answers = play(&mut whole, &run.calls, u64::MAX);
+    let total: u64 = run
+        .calls
+        .iter()
+        .zip(&answers)
+        .map(|(c, t)| stores(c, t))
+        .sum();
+    check_whole(&run, &whole, &answers, report);
+    let cuts = cuts(&random, total);
+    for cut in &cuts {
+        check_cut(&run, *cut, total, report);
+    }
+    if let Some(other) = other {
+        for cut in cuts.iter().copied().chain([u64::MAX]) {
+            beside(&run, &mut desk(), other(&run).as_mut(), cut, report);
+        }
+    }
+    report.end(&[]);
+}
+
+/// All cuts of a short run, some of a long one.
+fn cuts(random: &Random, total: u64) -> Vec<u64> {
+    match total {
+        0..=260 => (0..=total).collect(),
+        _ => {
+            let mut cuts: Vec<u64> = (0..12)
+                .map(|_| random.below(total as usize) as u64)
+                .collect();
+            cuts.extend([0, 1, total - 1, total]);
+            cuts
+        }
+    }
+}
+
+/// After an accepted close the room opens and shows the tree.
+fn check_whole(run: &Run, whole: &Writer, answers: &[Told], report: &mut Report) {
+    let last = run
+        .calls
+        .iter()
+        .rposition(|call| matches!(call, Call::Begin(_)));
+    let first = last.expect("a run begins");
+    let (calls, told) = (&run.calls[first..], &answers[first..]);
+    let closed = |(call, told): (&Call, &Told)| matches!(call, Call::Close) && told.is_ok();
+    let was_closed = calls.iter().zip(told).any(closed);
+    report.same("close", &told[0].is_ok(), &was_closed);
+    if let (Call::Begin(form), true) = (&calls[0], was_closed) {
+        shows(&whole.room, form, &described(calls, told), report);
+    }
+}
+
+/// A run cut after some number of stores: place 0 is not `L` while a begun file is not finished, so it is refused by 3.
+fn check_cut(run: &Run, cut: u64, total: u64, report: &mut Report) {
+    let mut desk = Writer::lent(run.room.clone(), run.text.clone(), run.tree.clone());
+    let answers = play(&mut desk, &run.calls, cut);
+    let made: u64 = run
+        .calls
+        .iter()
+        .zip(&answers)
+        .map(|(c, t)| stores(c, t))
+        .sum();
+    report.same("stores made", &cut.min(total), &made);
+    let begun = run
+        .calls
+        .iter()
+        .filter(|c| matches!(c, Call::Begin(_)))
+        .count();
+    if begun == 1 && made > 0 && made < total {
+        let told = open(&desk.room, &Edition::Two.form()).map(|_| ()).err();
+        report.same("cut", &Some((3, 0)), &told);
+    }
+}
+
+/// The same calls on the model and on another desk: answers and memory after each call.
+fn beside(run: &Run, model: &mut Writer, other: &mut dyn Desk, total: u64, report: &mut Report) {
+    let mut left = total;
+    for (number, call) in run.calls.iter().enumerate() {
+        let told = model.call(call, left);
+        let theirs = other.call(call, left);
+        report.same(&format!("call {number}"), &told, &theirs);
+        report.same("memory", &true, &(Desk::memory(model) == other.memory()));
+        left -= stores(call, &told);
+    }
+}
