@@ -1,13 +1,21 @@
-//! With the feature `library`: links libaff_c.a from the folder that the environment variable AFF_LIBRARY names.
+//! With the feature `library`: links libaff_c.a from the folder that the environment variable AFF_LIBRARY names, else from the
+//! repository's target/staticlib, where `rt staticlib aff_c` puts it.
+
+use std::env;
+use std::path::PathBuf;
 
 fn main() {
     println!("cargo:rerun-if-env-changed=AFF_LIBRARY");
-    if std::env::var_os("CARGO_FEATURE_LIBRARY").is_none() {
+    if env::var_os("CARGO_FEATURE_LIBRARY").is_none() {
         return;
     }
-    let folder =
-        std::env::var("AFF_LIBRARY").expect("AFF_LIBRARY must name the folder of libaff_c.a");
-    println!("cargo:rerun-if-changed={folder}/libaff_c.a");
-    println!("cargo:rustc-link-search=native={folder}");
+    let here = PathBuf::from(env::var_os("CARGO_MANIFEST_DIR").expect("set by cargo"));
+    let usual = here.join("../../target/staticlib");
+    let folder = env::var_os("AFF_LIBRARY").map_or(usual, PathBuf::from);
+    println!(
+        "cargo:rerun-if-changed={}",
+        folder.join("libaff_c.a").display()
+    );
+    println!("cargo:rustc-link-search=native={}", folder.display());
     println!("cargo:rustc-link-lib=static=aff_c");
 }

@@ -101,8 +101,8 @@ fn answers(random: &Random, lent: &Lent, report: &mut Report) {
 /// Node numbers to ask for: all of a small tree, some of a large one, and some that do not exist.
 fn asked(random: &Random, nodes: u64) -> Vec<u64> {
     let mut numbers: Vec<u64> = match nodes {
-        0..=24 => (0..=nodes).collect(),
-        _ => (0..12)
+        0..=100 => (0..=nodes).collect(),
+        _ => (0..24)
             .map(|_| random.below(nodes as usize) as u64)
             .collect(),
     };
@@ -217,7 +217,7 @@ fn lookup(lent: &Lent, reader: &Result<Reader, u32>, path: &[u8], report: &mut R
 /// Indices to ask for: all of a few elements, some of many, and the first that does not exist.
 fn indices(random: &Random, count: u64) -> Vec<u64> {
     let mut indices: Vec<u64> = match count {
-        0..=8 => (0..count).collect(),
+        0..=64 => (0..count).collect(),
         _ => vec![0, random.below(count as usize) as u64, count - 1],
     };
     indices.extend([count, random.pick(&[u64::MAX, 1 << 32, 1 << 60, count + 1])]);

@@ -315,6 +315,36 @@ pub fn apart(random: &Random, draft: &mut Draft) {
         true => vec![0; at],
         false => random.bytes(at),
     };
+    if random.one_in(2) {
+        fill_data(random, draft);
+    }
+}
+
+/// Stored numbers at the edges: infinities, NaNs, zeros, the least and greatest of doubles and of 32-bit integers.
+const EDGES: [u64; 14] = [
+    0x7ff0_0000_0000_0000,
+    0xfff0_0000_0000_0000,
+    0x7ff8_0000_0000_0000,
+    0x7ff0_0000_0000_0001,
+    0xffff_ffff_ffff_ffff,
+    0x8000_0000_0000_0000,
+    0x0000_0000_0000_0001,
+    0x000f_ffff_ffff_ffff,
+    0x0010_0000_0000_0000,
+    0x7fef_ffff_ffff_ffff,
+    0x3ff0_0000_0000_0000,
+    0x7fff_ffff_8000_0000,
+    0x8000_0000_7fff_ffff,
+    0xffff_ffba_0000_0046,
+];
+
+/// Fills the data section with such numbers, eight bytes each.
+fn fill_data(random: &Random, draft: &mut Draft) {
+    let (start, end) = ends(draft.spans[DATA]);
+    for eight in draft.bytes[start..end].chunks_mut(8) {
+        let number = random.pick(&EDGES).to_be_bytes();
+        eight.copy_from_slice(&number[..eight.len()]);
+    }
 }
 
 /// Moves the data section, and empty tables, over header, tables or anything: "Sections may stand anywhere, overlap".

@@ -14,6 +14,8 @@ mod open;
 mod random;
 mod report;
 mod runs;
+#[cfg(test)]
+mod tests;
 mod writer;
 
 use report::Report;

@@ -68,6 +68,12 @@ impl Report {
         }
     }
 
+    /// The number of one call's answer, 0 where it is accepted.
+    pub fn told(&mut self, told: &Result<u64, Refusal>) {
+        let number = told.as_ref().err().map_or(0, |refusal| refusal.0);
+        *self.by_number.entry(number).or_insert(0) += 1;
+    }
+
     /// Whether a state of lent memory passed 24.
     #[cfg(feature = "library")]
     pub fn judged(&mut self, passed: bool) {

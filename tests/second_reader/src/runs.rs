@@ -2,7 +2,7 @@
 //! and beside the library's writer where it is linked.
 
 use crate::answers::{decoded, judged, Lent, Reader};
-use crate::format::{Edition, Kind};
+use crate::format::{Edition, Kind, MOST};
 use crate::images::subkey;
 use crate::open::open;
 use crate::random::Random;
@@ -16,6 +16,19 @@ pub enum Call {
     Make(u64, Vec<u8>),
     Put(u64, u64, Vec<u8>),
     Close,
+    /// No call of the library: the caller alters what is lent.
+    Alter(Alteration),
+}
+
+/// A number of the record, or a byte of room, text area or tree area.
+#[derive(Clone, Copy, Debug)]
+pub enum Alteration {
+    Length(u64),
+    Strings(u64),
+    Text(u64),
+    Nodes(u64),
+    Data(u64),
+    Byte(usize, usize, u8),
 }
 
 /// What takes the calls of a run: the model, or the library's writer.
@@ -32,11 +45,32 @@ impl Desk for Writer {
             Call::Make(parent, name) => self.make(*parent, name),
             Call::Put(node, code, bytes) => self.put(*node, *code, bytes, allowance),
             Call::Close => self.close(allowance),
+            Call::Alter(alteration) => self.alter(alteration),
         }
     }
 
     fn memory(&self) -> [&[u8]; 3] {
         [&self.room, &self.text, &self.tree]
+    }
+}
+
+impl Writer {
+    fn alter(&mut self, alteration: &Alteration) -> Told {
+        match *alteration {
+            Alteration::Length(number) => self.record.length = number,
+            Alteration::Strings(number) => self.record.strings = number,
+            Alteration::Text(number) => self.record.text = number,
+            Alteration::Nodes(number) => self.record.nodes = number,
+            Alteration::Data(number) => self.record.data = number,
+            Alteration::Byte(area, place, byte) => {
+                let area =
+                    [&mut self.room, &mut self.text, &mut self.tree][area % 3].get_mut(place);
+                if let Some(old) = area {
+                    *old = byte;
+                }
+            }
+        }
+        Ok(0)
     }
 }
 
@@ -46,6 +80,16 @@ pub struct Run {
     pub text: Vec<u8>,
     pub tree: Vec<u8>,
     pub calls: Vec<Call>,
+}
+
+impl Run {
+    fn desk(&self) -> Writer {
+        Writer::lent(self.room.clone(), self.text.clone(), self.tree.clone())
+    }
+
+    fn is_altered(&self) -> bool {
+        self.calls.iter().any(|call| matches!(call, Call::Alter(_)))
+    }
 }
 
 /// Stores that a call made: an accepted make tells a node, and stores nothing.
@@ -184,45 +228,68 @@ fn shows_data(reader: &Reader, n: u64, node: &Described, room: &[u8], report: &m
     }
 }
 
+/// What a run is like.
+#[derive(Clone, Copy, PartialEq, Eq)]
+enum Style {
+    Usual,
+    /// Up to 2,049 nodes.
+    Many,
+    /// Long names, up to the end of the text area.
+    Long,
+    /// What is lent is altered between calls.
+    Altered,
+}
+
 /// A random run: mostly short, sometimes up to the limits of nodes, strings and text.
 pub fn random_run(random: &Random) -> Run {
+    let style = match random.below(120) {
+        0 => Style::Many,
+        1..=4 => Style::Long,
+        5..=30 => Style::Altered,
+        _ => Style::Usual,
+    };
     let mut run = Run {
-        room: room(random),
+        room: room(random, style),
         text: random.bytes(area(random, TEXT_AREA)),
         tree: random.bytes(area(random, TREE_AREA)),
-        calls: vec![begin(random)],
+        calls: Vec::new(),
     };
-    let most = match random.below(60) {
-        0 => 2300,
-        1..=20 => 60,
-        _ => 12,
+    let mut model = run.desk();
+    add(&mut run, &mut model, begin(random));
+    let calls = match style {
+        Style::Many => 2 * MOST,
+        Style::Long => 60,
+        _ => random.pick(&[0, 3, 8, 12, 60]),
     };
-    let long = random.one_in(40);
-    for _ in 0..random.below(most) {
-        run.calls.push(middle(random, &run.calls, long));
+    for _ in 0..calls {
+        let call = middle(random, &model, style);
+        add(&mut run, &mut model, call);
     }
-    run.calls.push(Call::Close);
+    add(&mut run, &mut model, Call::Close);
     for _ in 0..random.below(3) {
-        let more = match random.below(3) {
-            0 => Call::Close,
-            _ => middle(random, &run.calls, false),
-        };
-        run.calls.push(more);
+        let more = [Call::Close, middle(random, &model, style)];
+        add(&mut run, &mut model, random.pick(&more));
     }
     if random.one_in(6) {
-        run.calls
-            .extend([begin(random), Call::Make(0, b"again".to_vec()), Call::Close]);
+        let again = [begin(random), Call::Make(0, b"again".to_vec()), Call::Close];
+        run.calls.extend(again);
     }
     run
 }
 
+/// Adds a call, and plays it on the model, so that the next one can be drawn to suit.
+fn add(run: &mut Run, model: &mut Writer, call: Call) {
+    model.call(&call, u64::MAX).ok();
+    run.calls.push(call);
+}
+
 /// A room: of zeros, of anything, or one that holds a finished file; of any length about the least, or long enough.
-fn room(random: &Random) -> Vec<u8> {
-    let length = match random.below(8) {
-        0 => random.pick(&[0, 1, 167, 168, 169, 181, 213, 214]),
-        1..=3 => 168 + random.below(400),
-        4..=6 => 4000,
-        _ => 140_000,
+fn room(random: &Random, style: Style) -> Vec<u8> {
+    let length = match (style, random.below(7)) {
+        (Style::Many | Style::Long, _) => 140_000,
+        (_, 0) => random.pick(&[0, 1, 167, 168, 169, 181, 213, 214]),
+        (_, 1..=3) => 168 + random.below(400),
+        _ => 4000,
     };
     match random.below(3) {
         0 => vec![0; length],
@@ -254,50 +321,83 @@ fn begin(random: &Random) -> Call {
     Call::Begin(form)
 }
 
-/// A make or a put, most of them lawful.
-fn middle(random: &Random, before: &[Call], long: bool) -> Call {
-    let made = before
-        .iter()
-        .filter(|call| matches!(call, Call::Make(..)))
-        .count();
-    match random.below(3) {
-        0 => put(random, made),
-        _ => make(random, made, long),
+/// A make or a put, most of them lawful, or an alteration.
+fn middle(random: &Random, now: &Writer, style: Style) -> Call {
+    let nodes = now.record.nodes.min(MOST as u64) as usize;
+    match (style, random.below(12)) {
+        (Style::Altered, 0) => Call::Alter(alteration(random, now)),
+        (Style::Many, 1) | (Style::Long, 1..=2) | (_, 1..=4)
+            if style != Style::Many || nodes > 9 =>
+        {
+            put(random, nodes)
+        }
+        _ => make(random, nodes, style),
     }
 }
 
-fn make(random: &Random, made: usize, long: bool) -> Call {
+fn make(random: &Random, nodes: usize, style: Style) -> Call {
     let parent = match random.below(30) {
-        0 => random.pick(&[made as u64 + 1, u64::MAX, 1 << 32]),
-        _ => random.below(made + 1) as u64,
+        0 => random.pick(&[nodes as u64 + 1, u64::MAX, 1 << 32]),
+        _ => random.below(nodes + 1) as u64,
     };
     let mut name = subkey(random);
-    match random.below(30) {
-        0 => {
-            name = random.pick(&[
-                b"".to_vec(),
-                b"9a".to_vec(),
-                b"a/b".to_vec(),
-                b"a\0".to_vec(),
-            ])
-        }
-        1 if long => name = vec![b'k'; random.between(20_000, 33_000)],
-        _ if long => name.extend(vec![b'l'; random.below(3000)]),
-        2..=9 => name.truncate(1),
-        _ => name.extend(made.to_string().bytes()),
+    match (style, random.below(30)) {
+        (_, 0) => name = random.pick(&BAD_NAMES).to_vec(),
+        (Style::Long, 1) => name = vec![b'k'; random.between(20_000, 33_000)],
+        (Style::Long, _) => name.extend(vec![b'l'; random.below(2000)]),
+        (Style::Many, _) => name.extend(nodes.to_string().bytes()),
+        (_, 1..=20) => name.truncate(1),
+        _ => (),
     }
     Call::Make(parent, name)
 }
 
-fn put(random: &Random, made: usize) -> Call {
-    let node = random.below(made + 2) as u64;
-    let code = random.pick(&[2, 3, 4, 5, 2, 3, 4, 5, 2, 3, 4, 5, 0, 1, 6, 259, u64::MAX]);
-    let width = Kind::from_code(code).map_or(1, Kind::width);
+const BAD_NAMES: [&[u8]; 6] = [b"", b"9a", b"a/b", b"a\0", b"/", b"a\xe9"];
+
+fn put(random: &Random, nodes: usize) -> Call {
+    let node = random.below(nodes + 2) as u64;
+    let code = match random.below(12) {
+        0 => random.pick(&[0, 1, 6, 259, 1 << 32 | 3, u64::MAX]),
+        _ => random.between(2, 5) as u64,
+    };
+    let width = Kind::from_code(code).map_or(1, |kind| kind.width().max(1));
     let mut size = random.below(6) * width;
     if random.one_in(12) {
         size += 1;
     }
     Call::Put(node, code, random.bytes(size))
+}
+
+/// Another number in the record, or another byte where strings, entries or data stand.
+fn alteration(random: &Random, now: &Writer) -> Alteration {
+    let record = &now.record;
+    let any = random.next();
+    let other = |number: u64| {
+        let near = [
+            number.wrapping_add(1),
+            number.wrapping_sub(1),
+            0,
+            number | 1 << 32,
+            u64::MAX,
+            any,
+        ];
+        random.pick(&near)
+    };
+    let slot = 25 * random.below(record.nodes.clamp(1, MOST as u64) as usize);
+    let field = random.pick(&[0, 8, 12, 16, 24, 23, 7]);
+    match random.below(9) {
+        0 => Alteration::Length(other(record.length)),
+        1 => Alteration::Strings(other(record.strings)),
+        2 => Alteration::Text(other(record.text)),
+        3 => Alteration::Nodes(other(record.nodes)),
+        4 => Alteration::Data(other(record.data)),
+        5 => Alteration::Byte(0, random.below(now.room.len()), random.byte()),
+        6 => {
+            let place = random.below(record.text.min(TEXT_AREA as u64) as usize + 1);
+            Alteration::Byte(1, place, random.pick(b"\0ab/9"))
+        }
+        _ => Alteration::Byte(2, slot + field, random.below(6) as u8),
+    }
 }
 
 /// One run: whole, at some cuts, and beside another desk where there is one.
@@ -310,8 +410,7 @@ pub fn compare(
     let random = Random::of(seed, number);
     let run = random_run(&random);
     report.begin_run(seed, number);
-    let desk = || Writer::lent(run.room.clone(), run.text.clone(), run.tree.clone());
-    let mut whole = desk();
+    let mut whole = run.desk();
     let answers = play(&mut whole, &run.calls, u64::MAX);
     let total: u64 = run
         .calls
@@ -319,31 +418,33 @@ pub fn compare(
         .zip(&answers)
         .map(|(c, t)| stores(c, t))
         .sum();
-    check_whole(&run, &whole, &answers, report);
-    let cuts = cuts(&random, total);
-    for cut in &cuts {
-        check_cut(&run, *cut, total, report);
+    answers.iter().for_each(|told| report.told(told));
+    let cuts = cuts(&random, total, run.calls.len());
+    if !run.is_altered() {
+        check_whole(&run, &whole, &answers, report);
+        for cut in &cuts {
+            check_cut(&run, *cut, total, report);
+        }
     }
     if let Some(other) = other {
         for cut in cuts.iter().copied().chain([u64::MAX]) {
-            beside(&run, &mut desk(), other(&run).as_mut(), cut, report);
+            beside(&run, &mut run.desk(), other(&run).as_mut(), cut, report);
         }
     }
     report.end(&[]);
 }
 
 /// All cuts of a short run, some of a long one.
-fn cuts(random: &Random, total: u64) -> Vec<u64> {
-    match total {
-        0..=260 => (0..=total).collect(),
-        _ => {
-            let mut cuts: Vec<u64> = (0..12)
-                .map(|_| random.below(total as usize) as u64)
-                .collect();
-            cuts.extend([0, 1, total - 1, total]);
-            cuts
-        }
+fn cuts(random: &Random, total: u64, calls: usize) -> Vec<u64> {
+    if total <= 260 {
+        return (0..=total).collect();
     }
+    let some = if calls > 100 { 1 } else { 12 };
+    let mut cuts: Vec<u64> = (0..some)
+        .map(|_| random.below(total as usize) as u64)
+        .collect();
+    cuts.extend([0, 1, total - 1, total]);
+    cuts
 }
 
 /// After an accepted close the room opens and shows the tree.
@@ -364,8 +465,9 @@ fn check_whole(run: &Run, whole: &Writer, answers: &[Told], report: &mut Report)
 
 /// A run cut after some number of stores: place 0 is not `L` while a begun file is not finished, so it is refused by 3.
 fn check_cut(run: &Run, cut: u64, total: u64, report: &mut Report) {
-    let mut desk = Writer::lent(run.room.clone(), run.text.clone(), run.tree.clone());
+    let mut desk = run.desk();
     let answers = play(&mut desk, &run.calls, cut);
+    answers.iter().for_each(|told| report.told(told));
     let made: u64 = run
         .calls
         .iter()
