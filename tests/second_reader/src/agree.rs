@@ -1,6 +1,6 @@
 //! Compares the library with this reader, call by call, over images and over altered memory.
 
-use crate::answers::{judged, Element, Lent, Reader};
+use crate::answers::{decoded, judged, Element, Lent, Reader};
 use crate::format::{form_for, Kind, MOST};
 use crate::images::{image, Image};
 use crate::library;
@@ -15,6 +15,7 @@ pub fn compare(seed: u64, number: u64, report: &mut Report) {
     report.begin(seed, number, &image);
     let form = form_for(&image.bytes);
     report.same("form", &form, &library::form_for(&image.bytes));
+    decode(&random, report);
     if random.one_in(4) {
         wrongly_lent(&random, &image, report);
     }
@@ -262,6 +263,23 @@ fn same_element(
     });
     let theirs = theirs.map(|(real, imaginary)| (bits(real), bits(imaginary)));
     report.same("element", &ours, &theirs);
+}
+
+/// An element of bytes that the caller holds: 16 past the last, 255 for a code of no kind.
+fn decode(random: &Random, report: &mut Report) {
+    let code = random.below(8) as u64;
+    let kind = Kind::from_code(code);
+    let width = kind.map_or(0, Kind::width);
+    let count = random.below(6);
+    let index = random.pick(&[random.below(6), count, usize::MAX, 1 << 60]);
+    let bytes = random.bytes(count * width);
+    let ours = match kind {
+        None => Err(255),
+        Some(Kind::Void) => Err(16),
+        Some(_) if index >= count => Err(16),
+        Some(kind) => Ok(decoded(kind, &bytes[index * width..][..width])),
+    };
+    same_element(&ours, &library::decode(code, &bytes, index as u64), report);
 }
 
 const NAN: u64 = 0x7ff8_0000_0000_0000;

@@ -566,8 +566,8 @@ pub fn image(seed: u64, number: u64) -> Image {
         38..=39 => over_header(&random),
         40..=41 => sharing(&random),
         42..=43 => lawful_empty(&random),
-        44 if random.one_in(2) => long_path(&random),
-        44 => long_image(&random),
+        44..=45 => long_path(&random),
+        46..=47 => long_image(&random),
         _ => damage::damaged(&random),
     }
 }
