@@ -75,14 +75,14 @@ fn short(random: &Random) -> Image {
     let edition = draft.edition;
     let mut bytes = draft.finish();
     let lengths = [
-        0, 1, 19, 20, 32, 127, 128, 142, 143, 144, 145, 151, 152, 166, 167, 168,
+        0, 1, 19, 20, 32, 128, 142, 143, 143, 144, 144, 145, 152, 166, 167, 167, 168,
     ];
     let mut length = random.pick(&lengths);
     if random.one_in(4) {
         length = random.below(170);
     }
     bytes.truncate(length);
-    let zero = random.one_in(4) && length > 0;
+    let zero = random.one_in(3) && length > 0;
     if zero {
         bytes[0] = 0;
     }

@@ -7,7 +7,7 @@ use crate::images::subkey;
 use crate::open::open;
 use crate::random::Random;
 use crate::report::Report;
-use crate::writer::{Told, Writer, TEXT_AREA, TREE_AREA};
+use crate::writer::{State, Told, Writer, TEXT_AREA, TREE_AREA};
 
 /// One call with its arguments; allowances come from a total that is handed down.
 #[derive(Clone, Debug)]
@@ -270,6 +270,11 @@ pub fn random_run(random: &Random) -> Run {
         let more = [Call::Close, middle(random, &model, style)];
         add(&mut run, &mut model, random.pick(&more));
     }
+    if style == Style::Usual && model.record.state == State::Closed && random.one_in(3) {
+        // The finished size, or one byte around it: the last calls that need room are refused or just fit.
+        run.room
+            .resize(model.finished() as usize - 1 + random.below(3), 5);
+    }
     if random.one_in(6) {
         let again = [begin(random), Call::Make(0, b"again".to_vec()), Call::Close];
         run.calls.extend(again);
@@ -326,16 +331,16 @@ fn middle(random: &Random, now: &Writer, style: Style) -> Call {
     let nodes = now.record.nodes.min(MOST as u64) as usize;
     match (style, random.below(12)) {
         (Style::Altered, 0) => Call::Alter(alteration(random, now)),
-        (Style::Many, 1) | (Style::Long, 1..=2) | (_, 1..=4)
-            if style != Style::Many || nodes > 9 =>
-        {
-            put(random, nodes)
-        }
-        _ => make(random, nodes, style),
+        (Style::Many, 1) => put(random, nodes),
+        (Style::Many, _) => make(random, now, style),
+        (_, 1..=4) => put(random, nodes),
+        _ => make(random, now, style),
     }
 }
 
-fn make(random: &Random, nodes: usize, style: Style) -> Call {
+fn make(random: &Random, now: &Writer, style: Style) -> Call {
+    let nodes = now.record.nodes.min(MOST as u64) as usize;
+    let left = TEXT_AREA.saturating_sub(now.record.text as usize);
     let parent = match random.below(30) {
         0 => random.pick(&[nodes as u64 + 1, u64::MAX, 1 << 32]),
         _ => random.below(nodes + 1) as u64,
@@ -344,6 +349,8 @@ fn make(random: &Random, nodes: usize, style: Style) -> Call {
     match (style, random.below(30)) {
         (_, 0) => name = random.pick(&BAD_NAMES).to_vec(),
         (Style::Long, 1) => name = vec![b'k'; random.between(20_000, 33_000)],
+        // As long as the text area takes with a zero, or one byte longer.
+        (Style::Long, 2..=3) => name = vec![b'm'; left.max(2) - random.below(2)],
         (Style::Long, _) => name.extend(vec![b'l'; random.below(2000)]),
         (Style::Many, _) => name.extend(nodes.to_string().bytes()),
         (_, 1..=20) => name.truncate(1),
