@@ -453,7 +453,7 @@ fn twins(random: &Random) -> Image {
 fn wrong_data(random: &Random, data: Span, width: u64) -> (u64, u64) {
     let (start, end) = (data.offset, data.offset + data.size);
     let most = data.size / width;
-    let product = (1 << 32) / width;
+    let product = ((1 << 32) / width).min(u64::from(u32::MAX) - most);
     let ways = [
         (most + 1, start),
         (most, end - most * width + 1),
@@ -465,7 +465,9 @@ fn wrong_data(random: &Random, data: Span, width: u64) -> (u64, u64) {
         (0, u64::MAX),
         (1, u64::MAX - width + 1),
         (most + 1, (end - width - most * width).min(start - 1)),
-        (product.min(u64::from(u32::MAX)), start),
+        (product, start),
+        (product + most, start),
+        (product + random.below(most as usize + 1) as u64, start),
         (u64::from(u32::MAX), start),
         (
             u64::from(u32::MAX),

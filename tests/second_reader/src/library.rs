@@ -4,6 +4,8 @@
 use crate::answers::Lent;
 use crate::format::Refusal;
 use crate::open::{Record, Span};
+use crate::runs::{Alteration, Call, Desk, Run};
+use crate::writer::{Numbers, Told};
 
 extern "C" {
     fn aff_open_image(
@@ -33,6 +35,66 @@ extern "C" {
         index: u64,
         value: *mut f64,
         imaginary: *mut f64,
+    ) -> u32;
+}
+
+// The writer: its record is 7 numbers (what the last call told, the room's length, strings, bytes of text, nodes, bytes of
+// data, 1 while open) and the 12 bytes of form that it keeps.
+extern "C" {
+    fn aff_begin(
+        room: *mut u8,
+        room_length: usize,
+        form: *const u8,
+        form_length: usize,
+        text: *mut u8,
+        text_length: usize,
+        tree: *mut u8,
+        tree_length: usize,
+        allowance: u64,
+        numbers: *mut u64,
+        kept: *mut u8,
+    ) -> u32;
+
+    fn aff_make(
+        room: *const u8,
+        room_length: usize,
+        numbers: *mut u64,
+        kept: *const u8,
+        text: *mut u8,
+        text_length: usize,
+        tree: *mut u8,
+        tree_length: usize,
+        parent: u64,
+        name: *const u8,
+        name_length: usize,
+    ) -> u32;
+
+    fn aff_put(
+        room: *mut u8,
+        room_length: usize,
+        numbers: *mut u64,
+        kept: *const u8,
+        text: *const u8,
+        text_length: usize,
+        tree: *mut u8,
+        tree_length: usize,
+        node: u64,
+        kind: u64,
+        bytes: *const u8,
+        bytes_length: usize,
+        allowance: u64,
+    ) -> u32;
+
+    fn aff_close(
+        room: *mut u8,
+        room_length: usize,
+        numbers: *mut u64,
+        kept: *const u8,
+        text: *const u8,
+        text_length: usize,
+        tree: *const u8,
+        tree_length: usize,
+        allowance: u64,
     ) -> u32;
 }
 
@@ -255,4 +317,143 @@ pub fn element(lent: &Lent, node: u64, index: u64) -> Result<(f64, f64), u32> {
     let (mut value, mut imaginary) = (UNSET, UNSET);
     let number = ask!(aff_element, lent, node, index, &mut value, &mut imaginary);
     told(number, (value, imaginary), (UNSET, UNSET))
+}
+
+/// The library's writer with all that it is lent.
+struct Writer {
+    room: Vec<u8>,
+    text: Vec<u8>,
+    tree: Vec<u8>,
+    numbers: [u64; 7],
+    kept: [u8; 12],
+}
+
+/// The library's writer for a run, not yet begun.
+pub fn desk(run: &Run) -> Box<dyn Desk> {
+    Box::new(Writer {
+        room: run.room.clone(),
+        text: run.text.clone(),
+        tree: run.tree.clone(),
+        numbers: [0; 7],
+        kept: [0; 12],
+    })
+}
+
+impl Writer {
+    fn begin(&mut self, form: &[u8], allowance: u64) -> u32 {
+        // SAFETY: pointers and lengths are of live slices that do not overlap, here and below.
+        unsafe {
+            aff_begin(
+                self.room.as_mut_ptr(),
+                self.room.len(),
+                form.as_ptr(),
+                form.len(),
+                self.text.as_mut_ptr(),
+                self.text.len(),
+                self.tree.as_mut_ptr(),
+                self.tree.len(),
+                allowance,
+                self.numbers.as_mut_ptr(),
+                self.kept.as_mut_ptr(),
+            )
+        }
+    }
+
+    fn make(&mut self, parent: u64, name: &[u8]) -> u32 {
+        unsafe {
+            aff_make(
+                self.room.as_ptr(),
+                self.room.len(),
+                self.numbers.as_mut_ptr(),
+                self.kept.as_ptr(),
+                self.text.as_mut_ptr(),
+                self.text.len(),
+                self.tree.as_mut_ptr(),
+                self.tree.len(),
+                parent,
+                name.as_ptr(),
+                name.len(),
+            )
+        }
+    }
+
+    fn put(&mut self, node: u64, kind: u64, bytes: &[u8], allowance: u64) -> u32 {
+        unsafe {
+            aff_put(
+                self.room.as_mut_ptr(),
+                self.room.len(),
+                self.numbers.as_mut_ptr(),
+                self.kept.as_ptr(),
+                self.text.as_ptr(),
+                self.text.len(),
+                self.tree.as_mut_ptr(),
+                self.tree.len(),
+                node,
+                kind,
+                bytes.as_ptr(),
+                bytes.len(),
+                allowance,
+            )
+        }
+    }
+
+    fn close(&mut self, allowance: u64) -> u32 {
+        unsafe {
+            aff_close(
+                self.room.as_mut_ptr(),
+                self.room.len(),
+                self.numbers.as_mut_ptr(),
+                self.kept.as_ptr(),
+                self.text.as_ptr(),
+                self.text.len(),
+                self.tree.as_ptr(),
+                self.tree.len(),
+                allowance,
+            )
+        }
+    }
+
+    fn alter(&mut self, alteration: &Alteration) {
+        match *alteration {
+            Alteration::Length(number) => self.numbers[1] = number,
+            Alteration::Strings(number) => self.numbers[2] = number,
+            Alteration::Text(number) => self.numbers[3] = number,
+            Alteration::Nodes(number) => self.numbers[4] = number,
+            Alteration::Data(number) => self.numbers[5] = number,
+            Alteration::Byte(area, place, byte) => {
+                let areas = [&mut self.room, &mut self.text, &mut self.tree];
+                if let Some(old) = areas[area % 3].get_mut(place) {
+                    *old = byte;
+                }
+            }
+        }
+    }
+}
+
+impl Desk for Writer {
+    fn call(&mut self, call: &Call, allowance: u64) -> Told {
+        let number = match call {
+            Call::Begin(form) => self.begin(form, allowance),
+            Call::Make(parent, name) => self.make(*parent, name),
+            Call::Put(node, code, bytes) => self.put(*node, *code, bytes, allowance),
+            Call::Close => self.close(allowance),
+            Call::Alter(alteration) => {
+                self.alter(alteration);
+                return Ok(0);
+            }
+        };
+        match number {
+            0 => Ok(self.numbers[0]),
+            _ => Err((number, self.numbers[0])),
+        }
+    }
+
+    fn memory(&self) -> [&[u8]; 3] {
+        [&self.room, &self.text, &self.tree]
+    }
+
+    fn numbers(&self) -> Numbers {
+        let [_, length, strings, text, nodes, data, open] = self.numbers;
+        ([length, strings, text, nodes, data, open], self.kept)
+    }
 }

@@ -108,12 +108,18 @@ fn lists(seed: u64, count: u64, program: &Path) -> Outcome {
     Ok(report.finish())
 }
 
-/// Compares the writer's model with this reader, and with the library's writer where there is one.
+#[cfg(feature = "library")]
+const DESK: Option<runs::NewDesk> = Some(library::desk);
+#[cfg(not(feature = "library"))]
+const DESK: Option<runs::NewDesk> = None;
+
+/// Compares the writer's model with this reader, and with the library's writer where it is linked.
 fn writes(seed: u64, count: u64) -> Outcome {
-    println!("seed {seed}, {count} runs, the model and the reader");
+    let beside = DESK.map_or("the reader", |_| "the reader and the library's writer");
+    println!("seed {seed}, {count} runs: the model beside {beside}");
     let mut report = Report::default();
     for number in 0..count {
-        runs::compare(seed, number, None, &mut report);
+        runs::compare(seed, number, DESK, &mut report);
     }
     Ok(report.finish())
 }

@@ -75,7 +75,6 @@ impl Report {
     }
 
     /// Whether a state of lent memory passed 24.
-    #[cfg(feature = "library")]
     pub fn judged(&mut self, passed: bool) {
         self.judged[usize::from(passed)] += 1;
     }

@@ -7,7 +7,7 @@ use crate::images::subkey;
 use crate::open::open;
 use crate::random::Random;
 use crate::report::Report;
-use crate::writer::{State, Told, Writer, TEXT_AREA, TREE_AREA};
+use crate::writer::{Numbers, State, Told, Writer, TEXT_AREA, TREE_AREA};
 
 /// One call with its arguments; allowances come from a total that is handed down.
 #[derive(Clone, Debug)]
@@ -36,6 +36,8 @@ pub trait Desk {
     fn call(&mut self, call: &Call, allowance: u64) -> Told;
     /// Room, text area, tree area.
     fn memory(&self) -> [&[u8]; 3];
+    /// The record.
+    fn numbers(&self) -> Numbers;
 }
 
 impl Desk for Writer {
@@ -51,6 +53,10 @@ impl Desk for Writer {
 
     fn memory(&self) -> [&[u8]; 3] {
         [&self.room, &self.text, &self.tree]
+    }
+
+    fn numbers(&self) -> Numbers {
+        self.record.numbers()
     }
 }
 
@@ -407,13 +413,11 @@ fn alteration(random: &Random, now: &Writer) -> Alteration {
     }
 }
 
+/// Makes a desk for a run that has not begun.
+pub type NewDesk = fn(&Run) -> Box<dyn Desk>;
+
 /// One run: whole, at some cuts, and beside another desk where there is one.
-pub fn compare(
-    seed: u64,
-    number: u64,
-    other: Option<fn(&Run) -> Box<dyn Desk>>,
-    report: &mut Report,
-) {
+pub fn compare(seed: u64, number: u64, other: Option<NewDesk>, report: &mut Report) {
     let random = Random::of(seed, number);
     let run = random_run(&random);
     report.begin_run(seed, number);
@@ -493,14 +497,22 @@ fn check_cut(run: &Run, cut: u64, total: u64, report: &mut Report) {
     }
 }
 
-/// The same calls on the model and on another desk: answers and memory after each call.
+/// The same calls on the model and on another desk: answers, record and memory after each call.
 fn beside(run: &Run, model: &mut Writer, other: &mut dyn Desk, total: u64, report: &mut Report) {
     let mut left = total;
+    let mut altered = false;
     for (number, call) in run.calls.iter().enumerate() {
         let told = model.call(call, left);
         let theirs = other.call(call, left);
         report.same(&format!("call {number}"), &told, &theirs);
-        report.same("memory", &true, &(Desk::memory(model) == other.memory()));
+        report.same("record", &model.numbers(), &other.numbers());
+        report.same("memory", &true, &(model.memory() == other.memory()));
         left -= stores(call, &told);
+        match call {
+            Call::Alter(_) => altered = true,
+            Call::Begin(_) => altered = false,
+            _ if altered => report.judged(told != Err((24, 0))),
+            _ => (),
+        }
     }
 }

@@ -42,6 +42,24 @@ pub struct Writer {
     pub tree: Vec<u8>,
 }
 
+/// The record as numbers: length, strings, bytes of text, nodes, bytes of data, 1 while open; and the form.
+pub type Numbers = ([u64; 6], [u8; 12]);
+
+impl Record {
+    pub fn numbers(&self) -> Numbers {
+        let open = u64::from(self.state == State::Open);
+        let numbers = [
+            self.length,
+            self.strings,
+            self.text,
+            self.nodes,
+            self.data,
+            open,
+        ];
+        (numbers, self.form)
+    }
+}
+
 /// One store of a byte at a place.
 pub type Store = (usize, u8);
 
