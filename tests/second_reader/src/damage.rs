@@ -101,7 +101,7 @@ fn text(random: &Random) -> Image {
         false => random.below(TEXT),
     };
     match random.one_in(3) {
-        true => bytes[place] = random.pick(b"\0012 3L"),
+        true => bytes[place] = random.pick(&[0, b'1', b'2', b' ', b'3', b'L']),
         false => change(random, &mut bytes, place),
     }
     match Edition::from_text(&bytes) {

@@ -7,7 +7,7 @@ use crate::images::subkey;
 use crate::open::open;
 use crate::random::Random;
 use crate::report::Report;
-use crate::writer::{Numbers, State, Told, Writer, TEXT_AREA, TREE_AREA};
+use crate::writer::{Numbers, Record, State, Told, Writer, TEXT_AREA, TREE_AREA};
 
 /// One call with its arguments; allowances come from a total that is handed down.
 #[derive(Clone, Debug)]
@@ -268,6 +268,9 @@ pub fn random_run(random: &Random) -> Run {
         _ => random.pick(&[0, 3, 8, 12, 60]),
     };
     for _ in 0..calls {
+        if style == Style::Altered && random.one_in(6) {
+            alter_and_restore(random, &mut run, &mut model);
+        }
         let call = middle(random, &model, style);
         add(&mut run, &mut model, call);
     }
@@ -332,11 +335,10 @@ fn begin(random: &Random) -> Call {
     Call::Begin(form)
 }
 
-/// A make or a put, most of them lawful, or an alteration.
+/// A make or a put, most of them lawful.
 fn middle(random: &Random, now: &Writer, style: Style) -> Call {
     let nodes = now.record.nodes.min(MOST as u64) as usize;
     match (style, random.below(12)) {
-        (Style::Altered, 0) => Call::Alter(alteration(random, now)),
         (Style::Many, 1) => put(random, nodes),
         (Style::Many, _) => make(random, now, style),
         (_, 1..=4) => put(random, nodes),
@@ -396,20 +398,63 @@ fn alteration(random: &Random, now: &Writer) -> Alteration {
         ];
         random.pick(&near)
     };
-    let slot = 25 * random.below(record.nodes.clamp(1, MOST as u64) as usize);
-    let field = random.pick(&[0, 8, 12, 16, 24, 23, 7]);
-    match random.below(9) {
+    match random.below(14) {
         0 => Alteration::Length(other(record.length)),
         1 => Alteration::Strings(other(record.strings)),
         2 => Alteration::Text(other(record.text)),
         3 => Alteration::Nodes(other(record.nodes)),
         4 => Alteration::Data(other(record.data)),
-        5 => Alteration::Byte(0, random.below(now.room.len()), random.byte()),
-        6 => {
+        5..=6 => Alteration::Byte(0, random.below(now.room.len()), random.byte()),
+        7..=9 => {
             let place = random.below(record.text.min(TEXT_AREA as u64) as usize + 1);
-            Alteration::Byte(1, place, random.pick(b"\0ab/9"))
+            Alteration::Byte(1, place, random.pick(b"ab/9aabb\0"))
         }
-        _ => Alteration::Byte(2, slot + field, random.below(6) as u8),
+        _ => slot_byte(random, record),
+    }
+}
+
+/// Another byte in a node's slot: its type, or the end of its parent, string, count or offset, most of them such as exist.
+fn slot_byte(random: &Random, record: &Record) -> Alteration {
+    let node = random.below(record.nodes.clamp(1, MOST as u64) as usize);
+    let (field, most) = random.pick(&[
+        (0, 6),
+        (8, node + 1),
+        (8, node + 1),
+        (12, record.strings.clamp(1, 255) as usize),
+        (16, 4),
+        (24, 255),
+        (7, 2),
+        (23, 2),
+    ]);
+    Alteration::Byte(2, 25 * node + field, random.below(most) as u8)
+}
+
+/// The alteration that undoes another.
+fn undone(alteration: &Alteration, now: &Writer) -> Alteration {
+    let record = &now.record;
+    match *alteration {
+        Alteration::Length(_) => Alteration::Length(record.length),
+        Alteration::Strings(_) => Alteration::Strings(record.strings),
+        Alteration::Text(_) => Alteration::Text(record.text),
+        Alteration::Nodes(_) => Alteration::Nodes(record.nodes),
+        Alteration::Data(_) => Alteration::Data(record.data),
+        Alteration::Byte(area, place, byte) => {
+            let old = [&now.room, &now.text, &now.tree][area % 3].get(place);
+            Alteration::Byte(area, place, *old.unwrap_or(&byte))
+        }
+    }
+}
+
+/// An alteration and a call; then, mostly, what was altered is put back.
+fn alter_and_restore(random: &Random, run: &mut Run, model: &mut Writer) {
+    let altered = alteration(random, model);
+    let restored = undone(&altered, model);
+    add(run, model, Call::Alter(altered));
+    let calls = [middle(random, model, Style::Altered), Call::Close];
+    let close = usize::from(random.one_in(12));
+    add(run, model, calls[close].clone());
+    if !random.one_in(4) {
+        add(run, model, Call::Alter(restored));
     }
 }
 

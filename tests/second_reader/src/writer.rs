@@ -172,7 +172,7 @@ impl Writer {
         }
         let kind = Kind::from_code(code).filter(|kind| *kind != Kind::Void);
         let kind = kind.ok_or((19, 0))?;
-        if bytes.len() % kind.width() != 0 {
+        if !bytes.chunks_exact(kind.width()).remainder().is_empty() {
             return Err((19, 0));
         }
         let size = bytes.len() as u64;
