@@ -85,6 +85,17 @@ fn wrongly_lent(random: &Random, image: &Image, report: &mut Report) {
     opened(&image.bytes, &form, strings, entries, report);
 }
 
+/// What a call answers here: 24, or what the reader says.
+fn here<T>(
+    reader: &Result<Reader, u32>,
+    call: impl FnOnce(&Reader) -> Result<T, u32>,
+) -> Result<T, u32> {
+    match reader {
+        Ok(reader) => call(reader),
+        Err(number) => Err(*number),
+    }
+}
+
 /// Every call over what is lent, refused by 24 or not.
 fn answers(random: &Random, lent: &Lent, report: &mut Report) {
     let reader = judged(lent);
@@ -119,29 +130,14 @@ fn node_answers(
     node: u64,
     report: &mut Report,
 ) {
-    let ask = |call: &dyn Fn(&Reader) -> Result<u64, u32>| match reader {
-        Ok(reader) => call(reader),
-        Err(number) => Err(*number),
-    };
-    let kind = ask(&|r| r.kind(node).map(|kind| u64::from(kind.code())));
+    let kind = here(reader, |r| r.kind(node).map(|kind| u64::from(kind.code())));
     report.same("kind", &kind, &library::kind(lent, node));
-    let count = ask(&|r| r.count(node));
+    let count = here(reader, |r| r.count(node));
     report.same("count", &count, &library::count(lent, node));
-    part(
-        "name",
-        reader
-            .as_ref()
-            .map_err(|n| *n)
-            .and_then(|r| r.name_part(node)),
-        library::name(lent, node),
-        report,
-    );
-    part(
-        "view",
-        reader.as_ref().map_err(|n| *n).and_then(|r| r.view(node)),
-        library::view(lent, node),
-        report,
-    );
+    let name = here(reader, |r| r.name_part(node));
+    part("name", name, library::name(lent, node), report);
+    let view = here(reader, |r| r.view(node));
+    part("view", view, library::view(lent, node), report);
     path(random, lent, reader, node, report);
     for index in indices(random, count.unwrap_or(1)) {
         element(lent, reader, node, index, report);
@@ -175,13 +171,10 @@ fn path(
         .map_or(3, |r| r.path_length(node).unwrap_or(2)) as usize;
     let room = random.pick(&[length, length + 5, length, length - 1, 0]);
     let (mut first, mut second) = (vec![0xaa; room], vec![0xaa; room]);
-    let ours = match reader {
-        Ok(reader) => reader.path_into(node, &mut first),
-        Err(number) => Err(*number),
-    };
+    let ours = here(reader, |r| r.path_into(node, &mut first));
     report.same("path", &ours, &library::path_into(lent, node, &mut second));
     report.same("path bytes", &first, &second);
-    let Ok(Ok(path)) = reader.as_ref().map(|reader| reader.path(node)) else {
+    let Ok(path) = here(reader, |r| r.path(node)) else {
         return;
     };
     lookup(lent, reader, &path, report);
@@ -208,10 +201,7 @@ fn near_path(random: &Random, path: &[u8]) -> Vec<u8> {
 }
 
 fn lookup(lent: &Lent, reader: &Result<Reader, u32>, path: &[u8], report: &mut Report) {
-    let ours = match reader {
-        Ok(reader) => reader.lookup(path),
-        Err(number) => Err(*number),
-    };
+    let ours = here(reader, |r| r.lookup(path));
     report.same("lookup", &ours, &library::lookup(lent, path));
 }
 
@@ -226,10 +216,7 @@ fn indices(random: &Random, count: u64) -> Vec<u64> {
 }
 
 fn element(lent: &Lent, reader: &Result<Reader, u32>, node: u64, index: u64, report: &mut Report) {
-    let ours = match reader {
-        Ok(reader) => reader.element(node, index),
-        Err(number) => Err(*number),
-    };
+    let ours = here(reader, |r| r.element(node, index));
     let theirs = library::element(lent, node, index);
     same_element(&ours, &theirs, report);
     if let (Ok(reader), Ok(_)) = (reader, &ours) {
@@ -289,10 +276,7 @@ fn listing(random: &Random, lent: &Lent, reader: &Result<Reader, u32>, report: &
     let nodes = lent.record.nodes.min(4096) as usize;
     let room = random.pick(&[nodes + 1, nodes + 1, nodes + 4, nodes, 0]);
     let (mut first, mut second) = (vec![0xaaaa; room], vec![0xaaaa; room]);
-    let ours = match reader {
-        Ok(reader) => reader.order_into(&mut first),
-        Err(number) => Err(*number),
-    };
+    let ours = here(reader, |r| r.order_into(&mut first));
     report.same("listing", &ours, &library::order_into(lent, &mut second));
     report.same("listing numbers", &first, &second);
 }
