@@ -251,7 +251,7 @@ pub fn random_run(random: &Random) -> Run {
     let style = match random.below(120) {
         0 => Style::Many,
         1..=4 => Style::Long,
-        5..=30 => Style::Altered,
+        5..=40 => Style::Altered,
         _ => Style::Usual,
     };
     let mut run = Run {
@@ -361,6 +361,8 @@ fn make(random: &Random, now: &Writer, style: Style) -> Call {
         (Style::Long, 2..=3) => name = vec![b'm'; left.max(2) - random.below(2)],
         (Style::Long, _) => name.extend(vec![b'l'; random.below(2000)]),
         (Style::Many, _) => name.extend(nodes.to_string().bytes()),
+        // Names that an altered text area may hold twice.
+        (Style::Altered, 1..=16) => name = vec![random.pick(b"ab")],
         (_, 1..=20) => name.truncate(1),
         _ => (),
     }
@@ -413,20 +415,22 @@ fn alteration(random: &Random, now: &Writer) -> Alteration {
     }
 }
 
-/// Another byte in a node's slot: its type, or the end of its parent, string, count or offset, most of them such as exist.
+/// Another byte in a node's slot: its type, or the end of its parent, string, count or offset, most of them near what exists.
 fn slot_byte(random: &Random, record: &Record) -> Alteration {
     let node = random.below(record.nodes.clamp(1, MOST as u64) as usize);
-    let (field, most) = random.pick(&[
-        (0, 6),
-        (8, node + 1),
-        (8, node + 1),
-        (12, record.strings.clamp(1, 255) as usize),
-        (16, 4),
-        (24, 255),
-        (7, 2),
-        (23, 2),
+    let strings = record.strings.clamp(1, 250) as usize;
+    let (field, low, high) = random.pick(&[
+        (0, 0, 6),
+        (8, 0, node),
+        (8, node, node + 2),
+        (12, 0, strings),
+        (16, 0, 3),
+        (24, 164, 172),
+        (24, 0, 255),
+        (7, 0, 1),
+        (23, 0, 1),
     ]);
-    Alteration::Byte(2, 25 * node + field, random.below(most) as u8)
+    Alteration::Byte(2, 25 * node + field, random.between(low, high) as u8)
 }
 
 /// The alteration that undoes another.
