@@ -1,0 +1,608 @@
+//! Damaged images: each kind of damage aims at one refusal from 2 to 13, with the sums made right again where the fault lies
+//! behind them. The base is a lawful image whose sections stand apart, so that number and place are known beforehand.
+
+use crate::format::{big, Edition, Kind, MOST, SIGNATURE, TEXT};
+use crate::images::{apart, image, Aim, Draft, Image, Node, DATA, NO_SUBKEYS, SYMBOLS, TREE};
+use crate::images::{draft, new_name, plain, sum_again, sum_header, tables, with_data};
+use crate::md5::md5;
+use crate::open::Span;
+use crate::random::Random;
+
+type Damage = fn(&Random) -> Image;
+
+const DAMAGES: [(&str, Damage); 17] = [
+    ("short", short),
+    ("text", text),
+    ("form", form),
+    ("header byte", header_byte),
+    ("header sum", header_sum),
+    ("section outside", outside),
+    ("section sum", section_sum),
+    ("symbol table", symbol_table),
+    ("tree table", tree_table),
+    ("numbers", numbers),
+    ("ring", ring),
+    ("twins", twins),
+    ("data outside", data_outside),
+    ("flips", flips),
+    ("flips, summed again", flips_summed),
+    ("loose", loose),
+    ("loose tables", loose_tables),
+];
+
+/// A damaged image.
+pub fn damaged(random: &Random) -> Image {
+    let (name, damage) = random.pick(&DAMAGES);
+    let mut image = damage(random);
+    image.what = format!("{name}: {}", image.what);
+    image
+}
+
+fn aimed(bytes: Vec<u8>, number: u32, place: u64, what: &str) -> Image {
+    Image {
+        bytes,
+        aim: Aim::Refused((number, place)),
+        what: what.to_string(),
+    }
+}
+
+fn unknown(bytes: Vec<u8>, what: &str) -> Image {
+    Image {
+        bytes,
+        aim: Aim::Unknown,
+        what: what.to_string(),
+    }
+}
+
+/// A plain draft with at least so many nodes.
+fn base(random: &Random, nodes: usize) -> Draft {
+    loop {
+        let draft = plain(random);
+        if draft.nodes.len() >= nodes {
+            return draft;
+        }
+    }
+}
+
+/// Gives the byte at a place another value.
+fn change(random: &Random, bytes: &mut [u8], place: usize) {
+    bytes[place] ^= 1 + random.below(255) as u8;
+}
+
+/// 2: "shorter than 144, or than 168 in edition 2"; with the first byte zero, 3 from 144 on.
+fn short(random: &Random) -> Image {
+    let draft = plain(random);
+    let edition = draft.edition;
+    let mut bytes = draft.finish();
+    let lengths = [
+        0, 1, 19, 20, 32, 128, 142, 143, 143, 144, 144, 145, 152, 166, 167, 167, 168,
+    ];
+    let mut length = random.pick(&lengths);
+    if random.one_in(4) {
+        length = random.below(170);
+    }
+    bytes.truncate(length);
+    let zero = random.one_in(3) && length > 0;
+    if zero {
+        bytes[0] = 0;
+    }
+    let number = if zero && length >= 144 { 3 } else { 2 };
+    if length < 144 || length < edition.header() || zero {
+        return aimed(bytes, number, 0, &format!("{length} bytes"));
+    }
+    unknown(bytes, &format!("{length} bytes"))
+}
+
+/// 3: "unknown signature text". Another edition's text is known.
+fn text(random: &Random) -> Image {
+    let mut bytes = plain(random).finish();
+    let place = match random.one_in(4) {
+        true => 17,
+        false => random.below(TEXT),
+    };
+    match random.one_in(3) {
+        true => bytes[place] = random.pick(&[0, b'1', b'2', b' ', b'3', b'L']),
+        false => change(random, &mut bytes, place),
+    }
+    match Edition::from_text(&bytes) {
+        None => aimed(bytes, 3, 0, &format!("byte {place}")),
+        Some(_) => unknown(bytes, &format!("byte {place}")),
+    }
+}
+
+/// 4: "the other 12 signature bytes differ from those lent", with the header sum right or wrong.
+fn form(random: &Random) -> Image {
+    let draft = plain(random);
+    let edition = draft.edition;
+    let mut bytes = draft.finish();
+    let place = random.between(TEXT, SIGNATURE - 1);
+    change(random, &mut bytes, place);
+    if random.one_in(2) {
+        sum_header(&mut bytes, edition);
+    }
+    aimed(bytes, 4, 0, &format!("byte {place}"))
+}
+
+/// 5: a byte behind the signature, or of the sum itself, is another.
+fn header_byte(random: &Random) -> Image {
+    let draft = plain(random);
+    let edges = [
+        SIGNATURE,
+        draft.edition.summed() - 1,
+        draft.edition.summed(),
+        draft.edition.header() - 1,
+    ];
+    let mut place = random.between(SIGNATURE, draft.edition.header() - 1);
+    if random.one_in(2) {
+        place = random.pick(&edges);
+    }
+    let mut bytes = draft.finish();
+    change(random, &mut bytes, place);
+    aimed(bytes, 5, 0, &format!("byte {place}"))
+}
+
+/// 5: a sum over other bytes: with a zero at place 0, one byte fewer, one more, or the whole header.
+fn header_sum(random: &Random) -> Image {
+    let draft = plain(random);
+    let edition = draft.edition;
+    let mut bytes = draft.finish();
+    let mut head = bytes[..edition.header()].to_vec();
+    let way = random.below(4);
+    match way {
+        0 => head[0] = 0,
+        1 => head.truncate(edition.summed() - 1),
+        2 => head.truncate(edition.summed() + 1),
+        _ => (),
+    }
+    if way == 0 {
+        head.truncate(edition.summed());
+    }
+    bytes[edition.summed()..edition.header()].copy_from_slice(&md5(&head));
+    aimed(bytes, 5, 0, &format!("way {way}"))
+}
+
+/// A section that ends past an image of the given length. The sum of some of them wraps at 2^64 or at 2^32.
+fn far(random: &Random, length: u64, old: Span) -> Span {
+    let small = random.below(length as usize) as u64;
+    let before = random.below(old.offset as usize) as u64;
+    let spans = [
+        (old.offset, length - old.offset + 1),
+        (length, 1),
+        (length + 1, 0),
+        (0, length + 1),
+        (u64::MAX, 0),
+        (u64::MAX, 1),
+        (u64::MAX, u64::MAX),
+        (u64::MAX - 7, 16),
+        (small + 1, u64::MAX - small),
+        (old.offset, before.wrapping_sub(old.offset)),
+        (1 << 63, 1 << 63),
+        ((1 << 32) + old.offset, old.size),
+        (old.offset, (1 << 32) + old.size),
+    ];
+    let (offset, size) = random.pick(&spans);
+    Span { offset, size }
+}
+
+/// 6: "a section ends past the image", told the first of them.
+fn outside(random: &Random) -> Image {
+    let mut draft = plain(random);
+    let sections = random.some_of(3);
+    let (symbols, tree) = (draft.symbols(), draft.tree());
+    for (section, bytes) in [(SYMBOLS, symbols), (TREE, tree)] {
+        let place = draft.spans[section].offset as usize;
+        draft.bytes[place..place + bytes.len()].copy_from_slice(&bytes);
+    }
+    let length = draft.bytes.len() as u64;
+    for section in &sections {
+        draft.spans[*section] = far(random, length, draft.spans[*section]);
+    }
+    draft.seal();
+    let what = format!("{:?} of {length}", draft.spans);
+    aimed(draft.bytes, 6, sections[0] as u64 + 1, &what)
+}
+
+/// 7: "a section's sum wrong", told the first of them: a byte of the sum or of the section is another.
+fn section_sum(random: &Random) -> Image {
+    let draft = plain(random);
+    let (edition, spans) = (draft.edition, draft.spans);
+    let sections = random.some_of(3);
+    let mut bytes = draft.finish();
+    for section in &sections {
+        let span = spans[*section];
+        let mut place = edition.place_of_sum(*section) + random.below(16);
+        if span.size > 0 && random.one_in(2) {
+            place = span.offset as usize + random.below(span.size as usize);
+        }
+        change(random, &mut bytes, place);
+    }
+    sum_header(&mut bytes, edition);
+    aimed(bytes, 7, sections[0] as u64 + 1, &format!("{sections:?}"))
+}
+
+/// Places a draft whose tables were changed, and gives its nodes data.
+fn placed(random: &Random, mut draft: Draft) -> Draft {
+    apart(random, &mut draft);
+    with_data(random, &mut draft);
+    draft
+}
+
+/// A count that differs from the right one.
+fn other_count(random: &Random, right: u64) -> u64 {
+    let counts = [
+        right + 1,
+        right.wrapping_sub(1),
+        right + (1 << 32),
+        right + 256,
+        u64::MAX,
+    ];
+    random.pick(&counts)
+}
+
+/// 8: "not empty and not ended by zero, above 2,048, count differs, or a string twice".
+fn symbol_table(random: &Random) -> Image {
+    let mut draft = tables(random);
+    let way = random.below(4);
+    match way {
+        0 => return not_ended(random, draft),
+        1 => {
+            while draft.strings.len() <= MOST {
+                draft
+                    .strings
+                    .push(draft.strings.len().to_string().into_bytes());
+            }
+        }
+        2 => draft.edition = Edition::Two,
+        _ => repeat_string(random, &mut draft),
+    }
+    draft.records[SYMBOLS] = draft.strings.len() as u64;
+    if way == 2 {
+        draft.records[SYMBOLS] = other_count(random, draft.records[SYMBOLS]);
+    }
+    let bytes = placed(random, draft).finish();
+    aimed(bytes, 8, 0, &format!("way {way}"))
+}
+
+/// The last byte of the section is not zero: the section goes on over a byte more, or its last byte is changed.
+fn not_ended(random: &Random, mut draft: Draft) -> Image {
+    draft.strings.push(b"end".to_vec());
+    draft.records[SYMBOLS] = (draft.strings.len() - random.below(2)) as u64;
+    let mut draft = placed(random, draft);
+    let (symbols, tree) = (draft.symbols(), draft.tree());
+    for (section, bytes) in [(SYMBOLS, symbols), (TREE, tree)] {
+        let place = draft.spans[section].offset as usize;
+        draft.bytes[place..place + bytes.len()].copy_from_slice(&bytes);
+    }
+    let span = &mut draft.spans[SYMBOLS];
+    match random.one_in(2) {
+        true => span.size -= 1,
+        false => draft.bytes[(span.offset + span.size) as usize - 1] = b'x',
+    }
+    draft.seal();
+    aimed(draft.bytes, 8, 0, "no zero at the end")
+}
+
+fn repeat_string(random: &Random, draft: &mut Draft) {
+    if draft.strings.len() == MOST {
+        draft.strings.pop();
+    }
+    let again = match draft.strings.len() {
+        0 => {
+            draft.strings.push(Vec::new());
+            Vec::new()
+        }
+        _ => random.pick(&draft.strings),
+    };
+    draft.strings.push(again);
+}
+
+/// 9: "entry cut short, type not 1 to 5, a 2,049th entry (before its type is read), or count differs".
+fn tree_table(random: &Random) -> Image {
+    let mut draft = tables(random);
+    let nodes = draft.nodes.len();
+    match random.below(5) {
+        0 if nodes > 0 => {
+            let size = draft.nodes[nodes - 1].bytes().len();
+            draft.cut = random.pick(&[1, 1, size - 1, 1 + random.below(size - 1)]);
+            tree_fault(random, draft, nodes as u64, "cut")
+        }
+        1 if nodes < MOST => {
+            let code = random.pick(&[0, 1, 1, 2, 3, 4, 5, 6, 255]);
+            let most = if code == 1 { 12 } else { 24 };
+            let size = random.pick(&[1, most, 1 + random.below(most)]);
+            draft.tail = random.bytes(size);
+            draft.tail[0] = code;
+            tree_fault(random, draft, nodes as u64 + 1, "tail")
+        }
+        2 if nodes > 0 => {
+            let bad = random.some_of(nodes);
+            for node in &bad {
+                draft.nodes[*node].code = random.pick(&[0, 6, 7, 8, 128, 255]);
+            }
+            tree_fault(random, draft, bad[0] as u64 + 1, "type")
+        }
+        3 => too_many(random),
+        _ => {
+            draft.edition = Edition::Two;
+            draft.records[TREE] = other_count(random, nodes as u64);
+            let bytes = placed(random, draft).finish();
+            aimed(bytes, 9, 0, "count")
+        }
+    }
+}
+
+/// An entry's fault is told whatever the count says.
+fn tree_fault(random: &Random, mut draft: Draft, place: u64, what: &str) -> Image {
+    if random.one_in(2) {
+        draft.records[TREE] = random.pick(&[place, place - 1, 0, u64::MAX]);
+    }
+    let mut draft = placed(random, draft);
+    if random.one_in(2) {
+        draft.records[DATA] = random.next();
+    }
+    aimed(draft.finish(), 9, place, what)
+}
+
+/// A 2,049th entry, whole or cut short, of a known type or not.
+fn too_many(random: &Random) -> Image {
+    let node = |i: usize| Node {
+        code: 1,
+        parent: i as u64,
+        string: 0,
+        count: 0,
+        offset: 0,
+    };
+    let nodes = (0..MOST).map(node).collect();
+    let mut draft = draft(random, vec![b"n".to_vec()], nodes);
+    let size = random.pick(&[1, 12, 13, 25, 26]);
+    draft.tail = random.bytes(size);
+    draft.tail[0] = random.pick(&[0, 1, 2, 6]);
+    draft.records[TREE] = random.pick(&[2048, 2049]);
+    let bytes = placed(random, draft).finish();
+    aimed(bytes, 9, 2049, "2,049th entry")
+}
+
+/// The number of a string that is no subkey; adds it where it is not in the table.
+fn no_subkey(random: &Random, draft: &mut Draft) -> Option<u32> {
+    let string = random.pick(&NO_SUBKEYS).to_vec();
+    if let Some(number) = draft.strings.iter().position(|s| *s == string) {
+        return Some(number as u32);
+    }
+    if draft.strings.len() == MOST {
+        return None;
+    }
+    draft.strings.push(string);
+    Some(draft.strings.len() as u32 - 1)
+}
+
+/// 10: "parent or string number does not exist, or the string is no subkey", told the lowest node.
+fn numbers(random: &Random) -> Image {
+    let mut draft = base(random, 1);
+    let nodes = draft.nodes.len() as u64;
+    let bad = random.some_of(nodes as usize);
+    let names: Vec<Option<u32>> = bad.iter().map(|_| no_subkey(random, &mut draft)).collect();
+    let strings = draft.strings.len() as u32;
+    for (number, name) in bad.iter().zip(names) {
+        let node = &mut draft.nodes[*number];
+        match (random.below(3), name) {
+            (0, Some(name)) => node.string = name,
+            (1, _) => {
+                node.string = random.pick(&[strings, strings, strings + 1, 1 << 31, u32::MAX])
+            }
+            _ => {
+                let far = [
+                    nodes + 1,
+                    nodes + 1,
+                    1 << 32,
+                    (1 << 32) + node.parent,
+                    1 << 63,
+                    u64::MAX,
+                ];
+                node.parent = random.pick(&far);
+            }
+        }
+    }
+    draft.records[SYMBOLS] = u64::from(strings);
+    let bytes = placed(random, draft).finish();
+    aimed(
+        bytes,
+        10,
+        bad[0] as u64 + 1,
+        &format!("{} nodes", bad.len()),
+    )
+}
+
+/// Whether a node, counted from 1, is another or below it.
+fn is_below(nodes: &[Node], mut node: u64, above: u64) -> bool {
+    while node != 0 && node != above {
+        node = nodes[node as usize - 1].parent;
+    }
+    node == above
+}
+
+/// 11: a node's parent is itself or one below it; told the lowest node of its subtree.
+fn ring(random: &Random) -> Image {
+    let mut draft = base(random, 1);
+    let nodes = draft.nodes.len() as u64;
+    let top = random.between(1, nodes as usize) as u64;
+    let below: Vec<u64> = (1..=nodes)
+        .filter(|n| is_below(&draft.nodes, *n, top))
+        .collect();
+    let parent = random.pick(&[top, random.pick(&below), random.pick(&below)]);
+    draft.nodes[top as usize - 1].parent = parent;
+    let what = format!("{top} under {parent}");
+    aimed(draft.finish(), 11, below[0], &what)
+}
+
+/// 12: a node is moved beside another and takes its name; told the higher of the two.
+fn twins(random: &Random) -> Image {
+    loop {
+        let mut draft = base(random, 2);
+        let nodes = draft.nodes.len();
+        let (one, two) = (random.below(nodes), random.below(nodes));
+        if !is_below(&draft.nodes, one as u64 + 1, two as u64 + 1) {
+            draft.nodes[two].parent = draft.nodes[one].parent;
+            draft.nodes[two].string = draft.nodes[one].string;
+            let what = format!("{} and {}", one + 1, two + 1);
+            return aimed(draft.finish(), 12, one.max(two) as u64 + 1, &what);
+        }
+    }
+}
+
+/// Count and offset of data that are not inside a section, which does not begin at 0.
+fn wrong_data(random: &Random, data: Span, width: u64) -> (u64, u64) {
+    let (start, end) = (data.offset, data.offset + data.size);
+    let most = data.size / width;
+    let product = ((1 << 32) / width).min(u64::from(u32::MAX) - most);
+    let ways = [
+        (most + 1, start),
+        (most, end - most * width + 1),
+        (1, end),
+        (1, start - 1),
+        (0, start - 1),
+        (0, end + 1),
+        (0, 0),
+        (0, u64::MAX),
+        (1, u64::MAX - width + 1),
+        (most + 1, (end - width - most * width).min(start - 1)),
+        (product, start),
+        (product + most, start),
+        (product + random.below(most as usize + 1) as u64, start),
+        (u64::from(u32::MAX), start),
+        (
+            u64::from(u32::MAX),
+            end.wrapping_sub(width * u64::from(u32::MAX)),
+        ),
+        (1, (1 << 32) + start),
+    ];
+    random.pick(&ways)
+}
+
+/// 13: "data not inside the data section", told the lowest node.
+fn data_outside(random: &Random) -> Image {
+    let mut draft = base(random, 1);
+    let nodes = draft.nodes.len();
+    let sure = random.below(nodes);
+    draft.nodes[sure].code = 2 + random.below(4) as u8;
+    let mut draft = placed(random, draft);
+    let mut lowest = None;
+    for number in 0..nodes {
+        let node = &mut draft.nodes[number];
+        if number == sure || (!node.is_void() && random.one_in(6)) {
+            let (count, offset) = wrong_data(random, draft.spans[DATA], node.width() as u64);
+            (node.count, node.offset) = (count as u32, offset);
+            lowest = lowest.or(Some((number, count, offset)));
+        }
+    }
+    let (number, count, offset) = lowest.expect("one is sure");
+    let what = format!("count {count} at {offset}, section {:?}", draft.spans[DATA]);
+    aimed(draft.finish(), 13, number as u64 + 1, &what)
+}
+
+/// Any image with some bytes changed.
+fn flips(random: &Random) -> Image {
+    let other = image(random.next(), 0);
+    let mut bytes = other.bytes;
+    for _ in 0..random.between(1, 4) {
+        let place = random.below(bytes.len());
+        if place < bytes.len() {
+            change(random, &mut bytes, place);
+        }
+    }
+    unknown(bytes, &other.what)
+}
+
+/// The three sections that a header names.
+fn spans_of(bytes: &[u8], edition: Edition) -> [Span; 3] {
+    [SYMBOLS, TREE, DATA].map(|section| Span {
+        offset: big(bytes, edition.place_of(section), 8),
+        size: big(bytes, edition.place_of(section) + 8, 8),
+    })
+}
+
+/// A lawful image with some bytes changed, most of them in tables or header, and all sums right again.
+fn flips_summed(random: &Random) -> Image {
+    let draft = plain(random);
+    let (edition, spans) = (draft.edition, draft.spans);
+    let mut bytes = draft.finish();
+    for _ in 0..random.between(1, 3) {
+        let span = match random.below(8) {
+            0 => Span {
+                offset: SIGNATURE as u64,
+                size: (edition.summed() - SIGNATURE) as u64,
+            },
+            1..=2 => spans[SYMBOLS],
+            _ => spans[TREE],
+        };
+        let place = span.offset as usize + random.below(span.size as usize);
+        if place < bytes.len() {
+            match random.one_in(2) {
+                true => change(random, &mut bytes, place),
+                false => bytes[place] = random.below(7) as u8,
+            }
+        }
+    }
+    let spans = spans_of(&bytes, edition);
+    sum_again(&mut bytes, edition, &spans);
+    unknown(bytes, "")
+}
+
+/// Small changes of several nodes at once: parents, names, kinds, data near the bounds.
+fn loose(random: &Random) -> Image {
+    let mut draft = base(random, 1);
+    let nodes = draft.nodes.len();
+    let strings = draft.strings.len();
+    let data = draft.spans[DATA];
+    for _ in 0..random.between(1, 6) {
+        let other = draft.nodes[random.below(nodes)];
+        let node = &mut draft.nodes[random.below(nodes)];
+        match random.below(5) {
+            0 => node.parent = random.below(nodes + 1 + random.below(2)) as u64,
+            1 => node.string = random.below(strings + random.below(2)) as u32,
+            2 => (node.parent, node.string) = (other.parent, other.string),
+            3 => {
+                node.offset =
+                    data.offset + data.size - random.below(12).min(data.size as usize) as u64
+            }
+            _ => node.count = random.below(12) as u32,
+        }
+    }
+    if random.one_in(8) {
+        let section = random.below(2);
+        draft.records[section] = other_count(random, draft.records[section]);
+    }
+    unknown(draft.finish(), "")
+}
+
+/// Few names and few parents drawn freely: rings, twins and missing numbers beside each other.
+fn loose_tables(random: &Random) -> Image {
+    let mut strings: Vec<Vec<u8>> = Vec::new();
+    for _ in 0..random.between(1, 5) {
+        strings.push(new_name(random, &strings));
+    }
+    let nodes = random.between(1, 9);
+    let wild = random.pick(&[1, 12, 40]);
+    let mut entries = Vec::new();
+    for _ in 0..nodes {
+        let mut node = Node {
+            code: random.between(1, 5) as u8,
+            parent: random.below(nodes) as u64,
+            string: random.below(strings.len()) as u32,
+            count: 0,
+            offset: 0,
+        };
+        if random.one_in(wild * nodes) {
+            node.string = strings.len() as u32;
+        }
+        if random.one_in(2) {
+            node.parent = 0;
+        }
+        if random.one_in(wild * nodes) {
+            node.code = random.pick(&[0, 6, Kind::Void.code()]);
+        }
+        entries.push(node);
+    }
+    let draft = draft(random, strings, entries);
+    let bytes = placed(random, draft).finish();
+    unknown(bytes, "")
+}

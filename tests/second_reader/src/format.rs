@@ -1,0 +1,212 @@
+//! The layout of a file, from document 01, "Layout of a file": editions, kinds, numbers, subkeys, the 12 signature bytes.
+
+/// Document 01, "Sizes".
+pub const LONGEST_IMAGE: u64 = 2_147_483_647;
+/// "2,048 strings; 2,048 nodes besides the root; the reader's two work areas hold exactly 2,048 32-bit numbers each."
+pub const MOST: usize = 2048;
+
+/// Number and place of a refused call, from the table "Numbers handed back".
+pub type Refusal = (u32, u64);
+
+/// An edition of the format: the table at the head of "Layout of a file".
+#[derive(Clone, Copy, PartialEq, Eq, Debug)]
+pub enum Edition {
+    One,
+    Two,
+}
+
+/// Bytes of the signature's text and of the whole signature.
+pub const TEXT: usize = 20;
+pub const SIGNATURE: usize = 32;
+
+impl Edition {
+    pub fn from_number(number: u64) -> Option<Edition> {
+        match number {
+            1 => Some(Edition::One),
+            2 => Some(Edition::Two),
+            _ => None,
+        }
+    }
+
+    pub fn number(self) -> u64 {
+        match self {
+            Edition::One => 1,
+            Edition::Two => 2,
+        }
+    }
+
+    pub fn text(self) -> &'static [u8; TEXT] {
+        match self {
+            Edition::One => b"LHPC AFF version 1.0",
+            Edition::Two => b"LHPC AFF version 2.0",
+        }
+    }
+
+    /// The edition whose text the first 20 bytes are.
+    pub fn from_text(image: &[u8]) -> Option<Edition> {
+        let both = [Edition::One, Edition::Two];
+        both.into_iter().find(|e| image.starts_with(e.text()))
+    }
+
+    /// A section header is offset (8), size (8), record count (8, in edition 2 only), MD5 (16).
+    pub fn section_header(self) -> usize {
+        match self {
+            Edition::One => 32,
+            Edition::Two => 40,
+        }
+    }
+
+    /// Place of the header of a section: 0 symbol, 1 tree, 2 data.
+    pub fn place_of(self, section: usize) -> usize {
+        SIGNATURE + section * self.section_header()
+    }
+
+    /// Place of the sum of a section.
+    pub fn place_of_sum(self, section: usize) -> usize {
+        self.place_of(section + 1) - 16
+    }
+
+    /// "The header sum is the MD5 of all header bytes before it: 128 or 152."
+    pub fn summed(self) -> usize {
+        self.place_of(3)
+    }
+
+    /// The whole header: 144 or 168.
+    pub fn header(self) -> usize {
+        self.summed() + 16
+    }
+
+    /// The other 12 signature bytes (003, table 3): the text's zero, bits, radix, mantissa, exponents, header size.
+    pub fn form(self) -> [u8; 12] {
+        let mut form = [0, 64, 2, 53, 4, 0, 3, 253, 0, 0, 0, 0];
+        form[11] = self.header() as u8;
+        form
+    }
+}
+
+/// The form that the programs lend: edition 1's where the text is edition 1's, else edition 2's.
+pub fn form_for(image: &[u8]) -> [u8; 12] {
+    Edition::from_text(image).unwrap_or(Edition::Two).form()
+}
+
+/// "Types and bytes per element: 1 Void 0, 2 Char 1, 3 Int 4, 4 Double 8, 5 Complex 16".
+#[derive(Clone, Copy, PartialEq, Eq, Debug)]
+pub enum Kind {
+    Void,
+    Char,
+    Int,
+    Double,
+    Complex,
+}
+
+impl Kind {
+    pub fn from_code(code: u64) -> Option<Kind> {
+        match code {
+            1 => Some(Kind::Void),
+            2 => Some(Kind::Char),
+            3 => Some(Kind::Int),
+            4 => Some(Kind::Double),
+            5 => Some(Kind::Complex),
+            _ => None,
+        }
+    }
+
+    pub fn code(self) -> u8 {
+        self as u8 + 1
+    }
+
+    /// Bytes of one element.
+    pub fn width(self) -> usize {
+        match self {
+            Kind::Void => 0,
+            Kind::Char => 1,
+            Kind::Int => 4,
+            Kind::Double => 8,
+            Kind::Complex => 16,
+        }
+    }
+
+    /// Bytes of a tree entry: "So 13 or 25 bytes."
+    pub fn entry(self) -> usize {
+        match self {
+            Kind::Void => 13,
+            _ => 25,
+        }
+    }
+
+    /// The type words of the lister.
+    pub fn word(self) -> &'static str {
+        match self {
+            Kind::Void => "void",
+            Kind::Char => "char",
+            Kind::Int => "int",
+            Kind::Double => "double",
+            Kind::Complex => "complex",
+        }
+    }
+}
+
+/// The fields of a tree entry: type (1), parent (8), string (4); where not Void, count (4) and data offset (8).
+#[derive(Clone, Copy, PartialEq, Eq, Debug)]
+pub struct Entry {
+    pub kind: Kind,
+    pub parent: u64,
+    pub string: u64,
+    pub count: u64,
+    pub offset: u64,
+}
+
+impl Entry {
+    /// The entry at a place of some bytes that end at `end`; none if the type is not 1 to 5 or the entry is cut short.
+    pub fn at(bytes: &[u8], place: usize, end: usize) -> Option<Entry> {
+        let left = end.min(bytes.len()).checked_sub(place)?;
+        if left == 0 {
+            return None;
+        }
+        let kind = Kind::from_code(u64::from(bytes[place]))?;
+        if left < kind.entry() {
+            return None;
+        }
+        let void = kind == Kind::Void;
+        Some(Entry {
+            kind,
+            parent: big(bytes, place + 1, 8),
+            string: big(bytes, place + 9, 4),
+            count: if void { 0 } else { big(bytes, place + 13, 4) },
+            offset: if void { 0 } else { big(bytes, place + 17, 8) },
+        })
+    }
+
+    /// The bytes of the data, exact: a count of 32 bits times at most 16.
+    pub fn bytes(&self) -> u64 {
+        self.count * self.kind.width() as u64
+    }
+}
+
+/// "All numbers are big-endian and unsigned": the number of so many bytes at a place.
+pub fn big(bytes: &[u8], place: usize, width: usize) -> u64 {
+    bytes[place..place + width]
+        .iter()
+        .fold(0, |number, byte| number << 8 | u64::from(*byte))
+}
+
+/// "A subkey is a letter A-Z or a-z, `_` or `:`, followed by any of letters, digits, `.`, `-`, `_`, `:`."
+pub fn is_subkey(name: &[u8]) -> bool {
+    let first = |byte: u8| byte.is_ascii_alphabetic() || byte == b'_' || byte == b':';
+    let later = |byte: u8| first(byte) || byte.is_ascii_digit() || byte == b'.' || byte == b'-';
+    match name.split_first() {
+        None => false,
+        Some((head, tail)) => first(*head) && tail.iter().all(|byte| later(*byte)),
+    }
+}
+
+/// "A path is `/` alone, or one or more times `/` and a subkey."
+pub fn is_path(path: &[u8]) -> bool {
+    if path == b"/" {
+        return true;
+    }
+    match path.split_first() {
+        Some((b'/', rest)) => rest.split(|byte| *byte == b'/').all(is_subkey),
+        _ => false,
+    }
+}

@@ -1,0 +1,583 @@
+//! Lawful images of both editions: random trees, names, kinds, and places of the sections. `damage.rs` spoils them.
+
+use crate::damage;
+use crate::format::{is_subkey, Edition, Kind, Refusal, MOST, SIGNATURE, TEXT};
+use crate::md5::md5;
+use crate::open::Span;
+use crate::random::Random;
+use std::collections::HashSet;
+
+/// What the maker of an image knows of it.
+#[derive(Clone, Copy, PartialEq, Eq, Debug)]
+pub enum Aim {
+    Accepted,
+    Refused(Refusal),
+    Unknown,
+}
+
+pub struct Image {
+    pub bytes: Vec<u8>,
+    pub aim: Aim,
+    pub what: String,
+}
+
+/// A tree entry as it is written, whether or not it is lawful.
+#[derive(Clone, Copy)]
+pub struct Node {
+    pub code: u8,
+    pub parent: u64,
+    pub string: u32,
+    pub count: u32,
+    pub offset: u64,
+}
+
+impl Node {
+    pub fn is_void(&self) -> bool {
+        self.code == Kind::Void.code()
+    }
+
+    /// Bytes of an element; 1 where the type does not exist.
+    pub fn width(&self) -> usize {
+        Kind::from_code(u64::from(self.code)).map_or(1, Kind::width)
+    }
+
+    pub fn bytes(&self) -> Vec<u8> {
+        let mut bytes = vec![self.code];
+        bytes.extend(self.parent.to_be_bytes());
+        bytes.extend(self.string.to_be_bytes());
+        if !self.is_void() {
+            bytes.extend(self.count.to_be_bytes());
+            bytes.extend(self.offset.to_be_bytes());
+        }
+        bytes
+    }
+}
+
+/// An image in the making: its tables, where its sections stand, and all its bytes.
+#[derive(Clone)]
+pub struct Draft {
+    pub edition: Edition,
+    pub strings: Vec<Vec<u8>>,
+    pub nodes: Vec<Node>,
+    /// Bytes behind the last entry, in the tree section; bytes cut off its end.
+    pub tail: Vec<u8>,
+    pub cut: usize,
+    pub bytes: Vec<u8>,
+    pub spans: [Span; 3],
+    pub records: [u64; 3],
+}
+
+pub const SYMBOLS: usize = 0;
+pub const TREE: usize = 1;
+pub const DATA: usize = 2;
+
+impl Draft {
+    pub fn symbols(&self) -> Vec<u8> {
+        let ended = |string: &Vec<u8>| [string.as_slice(), &[0]].concat();
+        self.strings.iter().flat_map(ended).collect()
+    }
+
+    pub fn tree(&self) -> Vec<u8> {
+        let mut bytes: Vec<u8> = self.nodes.iter().flat_map(Node::bytes).collect();
+        bytes.extend(&self.tail);
+        bytes.truncate(bytes.len() - self.cut);
+        bytes
+    }
+
+    fn put(&mut self, place: usize, bytes: &[u8]) {
+        self.bytes[place..place + bytes.len()].copy_from_slice(bytes);
+    }
+
+    /// Writes both tables to their sections, then the header.
+    pub fn finish(mut self) -> Vec<u8> {
+        let (symbols, tree) = (self.symbols(), self.tree());
+        self.put(self.spans[SYMBOLS].offset as usize, &symbols);
+        self.put(self.spans[TREE].offset as usize, &tree);
+        self.seal();
+        self.bytes
+    }
+
+    /// Writes the header: signature, places, sums.
+    pub fn seal(&mut self) {
+        self.put(0, self.edition.text());
+        self.put(TEXT, &self.edition.form());
+        for section in 0..3 {
+            let place = self.edition.place_of(section);
+            self.put(place, &self.spans[section].offset.to_be_bytes());
+            self.put(place + 8, &self.spans[section].size.to_be_bytes());
+            if self.edition == Edition::Two {
+                self.put(place + 16, &self.records[section].to_be_bytes());
+            }
+        }
+        sum_again(&mut self.bytes, self.edition, &self.spans);
+    }
+}
+
+/// Makes the sums right: symbol, tree, data, header, so that a section may cover the sums before its own.
+pub fn sum_again(bytes: &mut [u8], edition: Edition, spans: &[Span; 3]) {
+    let whole = Span {
+        offset: 0,
+        size: bytes.len() as u64,
+    };
+    for (section, span) in spans.iter().enumerate() {
+        if whole.holds(span.offset, span.size) {
+            let sum = md5(&bytes[span.offset as usize..][..span.size as usize]);
+            let place = edition.place_of_sum(section);
+            bytes[place..place + 16].copy_from_slice(&sum);
+        }
+    }
+    sum_header(bytes, edition);
+}
+
+/// Makes the header sum right.
+pub fn sum_header(bytes: &mut [u8], edition: Edition) {
+    let sum = md5(&bytes[..edition.summed()]);
+    bytes[edition.summed()..edition.header()].copy_from_slice(&sum);
+}
+
+/// Parents in order of making: the parent of node i + 1 is at most i.
+fn shape(random: &Random) -> Vec<u64> {
+    let nodes = match random.below(60) {
+        0..=3 => 0,
+        4..=30 => random.between(1, 8),
+        31..=56 => random.between(9, 90),
+        57..=58 => random.between(91, 400),
+        _ => random.pick(&[MOST - 1, MOST, MOST]),
+    };
+    let form = random.below(5);
+    let parent = |i: usize, random: &Random| match form {
+        0 => i,
+        1 => 0,
+        2 => i.saturating_sub(random.below(3)),
+        _ => random.below(i + 1),
+    };
+    (0..nodes).map(|i| parent(i, random) as u64).collect()
+}
+
+const FIRST: &[u8] = b"ABCXYZabcxyzqQ_:";
+const LATER: &[u8] = b"ABCXYZabcxyz0189.-_:";
+
+/// A random subkey; a few in a hundred are long.
+pub fn subkey(random: &Random) -> Vec<u8> {
+    let length = match random.below(40) {
+        0 => random.between(20, 70),
+        1..=30 => random.below(3),
+        _ => random.below(8),
+    };
+    let mut name = vec![random.pick(FIRST)];
+    for _ in 0..length {
+        name.push(random.pick(LATER));
+    }
+    name
+}
+
+/// Strings that are no subkeys: each may stand in the table while no node has it for its name.
+pub const NO_SUBKEYS: [&[u8]; 14] = [
+    b"",
+    b"9a",
+    b".a",
+    b"-",
+    b"a/b",
+    b"/",
+    b"a b",
+    b" ",
+    b"a;",
+    b"a\x01",
+    b"\xc3\xa9",
+    b"a\xff",
+    b"a@",
+    b"[",
+];
+
+/// Gives each node a name: often one that a node elsewhere has, else a new one.
+fn named(random: &Random, parents: &[u64]) -> (Vec<Vec<u8>>, Vec<Node>) {
+    let mut strings: Vec<Vec<u8>> = Vec::new();
+    let mut known = HashSet::new();
+    let mut taken = HashSet::new();
+    let mut nodes = Vec::new();
+    let reuse = random.pick(&[2, 3, 20]);
+    for parent in parents {
+        let mut string = random.below(strings.len().max(1));
+        if random.one_in(reuse) || string >= strings.len() || taken.contains(&(*parent, string)) {
+            let mut name = subkey(random);
+            while !known.insert(name.clone()) {
+                name.push(random.pick(LATER));
+            }
+            string = strings.len();
+            strings.push(name);
+        }
+        taken.insert((*parent, string));
+        nodes.push(Node {
+            code: 1 + random.below(5) as u8,
+            parent: *parent,
+            string: string as u32,
+            count: 0,
+            offset: 0,
+        });
+    }
+    (strings, nodes)
+}
+
+/// Numbers the nodes anew, so that "a parent may have a higher number than its child".
+fn renumbered(random: &Random, nodes: Vec<Node>) -> Vec<Node> {
+    let order = random.permutation(nodes.len());
+    let mut placed = nodes.clone();
+    for (old, node) in nodes.iter().enumerate() {
+        let mut moved = *node;
+        if node.parent > 0 {
+            moved.parent = order[node.parent as usize - 1] as u64 + 1;
+        }
+        placed[order[old]] = moved;
+    }
+    placed
+}
+
+/// Adds strings that no node has, and shuffles the table.
+fn with_unused(random: &Random, strings: &mut Vec<Vec<u8>>, nodes: &mut [Node]) {
+    let wanted = match random.below(40) {
+        0 => MOST,
+        1..=12 => strings.len() + random.below(12),
+        _ => strings.len(),
+    };
+    let mut known: HashSet<Vec<u8>> = strings.iter().cloned().collect();
+    while strings.len() < wanted.min(MOST) {
+        let mut string = match random.one_in(2) {
+            true => random.pick(&NO_SUBKEYS).to_vec(),
+            false => subkey(random),
+        };
+        while !known.insert(string.clone()) {
+            string.push(1 + random.below(255) as u8);
+        }
+        strings.push(string);
+    }
+    let order = random.permutation(strings.len());
+    let mut placed = strings.clone();
+    for (old, string) in strings.iter().enumerate() {
+        placed[order[old]] = string.clone();
+    }
+    *strings = placed;
+    for node in nodes {
+        node.string = order[node.string as usize] as u32;
+    }
+}
+
+/// Random tables, not yet placed.
+pub fn tables(random: &Random) -> Draft {
+    let parents = shape(random);
+    let (mut strings, mut nodes) = named(random, &parents);
+    if !random.one_in(3) {
+        nodes = renumbered(random, nodes);
+    }
+    with_unused(random, &mut strings, &mut nodes);
+    draft(random, strings, nodes)
+}
+
+pub fn draft(random: &Random, strings: Vec<Vec<u8>>, nodes: Vec<Node>) -> Draft {
+    let full = nodes.iter().filter(|node| !node.is_void()).count() as u64;
+    let any = random.next();
+    Draft {
+        edition: random.pick(&[Edition::One, Edition::Two]),
+        records: [
+            strings.len() as u64,
+            nodes.len() as u64,
+            random.pick(&[full, full, 0, u64::MAX, 1 << 32, any]),
+        ],
+        strings,
+        nodes,
+        tail: Vec::new(),
+        cut: 0,
+        bytes: Vec::new(),
+        spans: [Span::default(); 3],
+    }
+}
+
+/// Places the three sections behind the header in some order, with or without gaps, none over another.
+pub fn apart(random: &Random, draft: &mut Draft) {
+    let data = match random.below(6) {
+        0 => 0,
+        1 => random.between(1, 15),
+        2..=4 => random.between(16, 120),
+        _ => random.between(121, 900),
+    };
+    let sizes = [draft.symbols().len(), draft.tree().len(), data];
+    let gap = random.pick(&[0, 0, 1, 7, 40]);
+    let mut at = draft.edition.header();
+    for section in random.permutation(3) {
+        at += random.below(gap + 1);
+        draft.spans[section] = Span {
+            offset: at as u64,
+            size: sizes[section] as u64,
+        };
+        at += sizes[section];
+    }
+    at += random.below(gap + 1);
+    draft.bytes = match random.one_in(3) {
+        true => vec![0; at],
+        false => random.bytes(at),
+    };
+    if random.one_in(2) {
+        fill_data(random, draft);
+    }
+}
+
+/// Stored numbers at the edges: infinities, NaNs, zeros, the least and greatest of doubles and of 32-bit integers.
+const EDGES: [u64; 14] = [
+    0x7ff0_0000_0000_0000,
+    0xfff0_0000_0000_0000,
+    0x7ff8_0000_0000_0000,
+    0x7ff0_0000_0000_0001,
+    0xffff_ffff_ffff_ffff,
+    0x8000_0000_0000_0000,
+    0x0000_0000_0000_0001,
+    0x000f_ffff_ffff_ffff,
+    0x0010_0000_0000_0000,
+    0x7fef_ffff_ffff_ffff,
+    0x3ff0_0000_0000_0000,
+    0x7fff_ffff_8000_0000,
+    0x8000_0000_7fff_ffff,
+    0xffff_ffba_0000_0046,
+];
+
+/// Fills the data section with such numbers, eight bytes each.
+fn fill_data(random: &Random, draft: &mut Draft) {
+    let (start, end) = ends(draft.spans[DATA]);
+    for eight in draft.bytes[start..end].chunks_mut(8) {
+        let number = random.pick(&EDGES).to_be_bytes();
+        eight.copy_from_slice(&number[..eight.len()]);
+    }
+}
+
+/// Moves the data section, and empty tables, over header, tables or anything: "Sections may stand anywhere, overlap".
+fn anywhere(random: &Random, draft: &mut Draft) {
+    let length = draft.bytes.len();
+    for section in [SYMBOLS, TREE] {
+        if draft.spans[section].size == 0 {
+            draft.spans[section].offset = random.between(0, length) as u64;
+        }
+    }
+    let head = draft.edition.header();
+    let free = draft.edition.place_of_sum(DATA);
+    let (start, end) = match random.below(14) {
+        0 => (0, free),
+        1 => (random.below(free), free),
+        2 => (0, SIGNATURE),
+        3 => (head, length),
+        4 => (random.between(head, length), length),
+        5 => {
+            let start = random.between(head, length);
+            (start, random.between(start, length))
+        }
+        6 => {
+            let empty = random.pick(&[0, 1, length, random.below(length)]);
+            (empty, empty)
+        }
+        7 => ends(draft.spans[SYMBOLS]),
+        8 => ends(draft.spans[TREE]),
+        _ => return,
+    };
+    draft.spans[DATA] = Span {
+        offset: start as u64,
+        size: (end - start) as u64,
+    };
+}
+
+fn ends(span: Span) -> (usize, usize) {
+    (span.offset as usize, (span.offset + span.size) as usize)
+}
+
+/// Gives each node that is not Void data inside the data section: anywhere, at both ends, shared, or none.
+pub fn with_data(random: &Random, draft: &mut Draft) {
+    let (start, end) = ends(draft.spans[DATA]);
+    let mut before = (start, 0);
+    for node in &mut draft.nodes {
+        if node.is_void() {
+            continue;
+        }
+        let width = node.width();
+        let most = (end - start) / width;
+        let mut count = match random.below(8) {
+            0 => 0,
+            1 => most,
+            _ => random.below(most.min(6) + 1),
+        };
+        let last = end - count * width;
+        let mut offset = match random.below(6) {
+            0 => start,
+            1 => last,
+            _ => random.between(start, last),
+        };
+        if random.one_in(5) && before.0 + before.1 * width <= end {
+            (offset, count) = before;
+        }
+        before = (offset, count);
+        (node.offset, node.count) = (offset as u64, count as u32);
+    }
+}
+
+/// A lawful image, plainly laid out: the base of the damaged ones.
+pub fn plain(random: &Random) -> Draft {
+    let mut draft = tables(random);
+    apart(random, &mut draft);
+    with_data(random, &mut draft);
+    draft
+}
+
+fn lawful(draft: Draft, what: &str) -> Image {
+    let edition = draft.edition.number();
+    Image {
+        what: format!("edition {edition}: {what}, {} nodes", draft.nodes.len()),
+        bytes: draft.finish(),
+        aim: Aim::Accepted,
+    }
+}
+
+fn usual(random: &Random) -> Image {
+    let mut draft = tables(random);
+    apart(random, &mut draft);
+    anywhere(random, &mut draft);
+    with_data(random, &mut draft);
+    lawful(draft, "sections anywhere")
+}
+
+/// The symbol section over the signature: the text with its zero is a string, or the zero alone.
+fn over_signature(random: &Random) -> Image {
+    let edition = random.pick(&[Edition::One, Edition::Two]);
+    let text = random.one_in(2);
+    let strings = match text {
+        true => vec![edition.text().to_vec()],
+        false => vec![Vec::new()],
+    };
+    let mut draft = draft(random, strings, Vec::new());
+    draft.edition = edition;
+    apart(random, &mut draft);
+    draft.spans[SYMBOLS].offset = if text { 0 } else { TEXT as u64 };
+    lawful(draft, "symbols over the signature")
+}
+
+/// The tree section inside the data header of edition 2: the type is the last byte of the data offset, the parent is the
+/// data size, the string number is the upper half of the data count.
+fn over_header(random: &Random) -> Image {
+    let names = random.between(1, 6);
+    let mut draft = tables(random);
+    draft.edition = Edition::Two;
+    draft.strings = (0..names).map(|i| format!("n{i}").into_bytes()).collect();
+    let string = random.below(names) as u32;
+    draft.nodes = vec![Node {
+        code: Kind::Void.code(),
+        parent: 0,
+        string,
+        count: 0,
+        offset: 0,
+    }];
+    draft.records = [
+        names as u64,
+        1,
+        u64::from(string) << 32 | random.next() >> 32,
+    ];
+    apart(random, &mut draft);
+    draft.spans[DATA] = Span { offset: 1, size: 0 };
+    draft.spans[TREE] = Span {
+        offset: Edition::Two.place_of(DATA) as u64 + 7,
+        size: 13,
+    };
+    lawful(draft, "tree over the data header")
+}
+
+/// Tree and symbol section share a byte: the last of a data offset is the first letter of a name.
+fn sharing(random: &Random) -> Image {
+    let mut draft = tables(random);
+    let Some(last) = draft.nodes.len().checked_sub(1) else {
+        return lawful_empty(random);
+    };
+    draft.nodes[last].code = Kind::Char.code();
+    let letter = draft.symbols()[0];
+    let data = 300;
+    let mut at = draft.edition.header() as u64;
+    draft.spans[DATA] = Span {
+        offset: at,
+        size: data,
+    };
+    at += data;
+    let tree = draft.tree().len() as u64;
+    draft.spans[TREE] = Span {
+        offset: at,
+        size: tree,
+    };
+    let size = draft.symbols().len() as u64;
+    draft.spans[SYMBOLS] = Span {
+        offset: at + tree - 1,
+        size,
+    };
+    draft.bytes = random.bytes((at + tree - 1 + size) as usize);
+    with_data(random, &mut draft);
+    let start = draft.spans[DATA].offset;
+    let offset = (start..start + data).find(|place| *place as u8 == letter);
+    draft.nodes[last].offset = offset.expect("300 places have every last byte");
+    draft.nodes[last].count = 1;
+    lawful(draft, "tree and symbols share a byte")
+}
+
+/// No node: "room 168 takes an empty tree". A header alone is a file.
+fn lawful_empty(random: &Random) -> Image {
+    let mut draft = draft(random, Vec::new(), Vec::new());
+    let length = draft.edition.header() + random.pick(&[0, 0, 1, 24]);
+    draft.bytes = random.bytes(length);
+    for span in &mut draft.spans {
+        span.offset = random.pick(&[0, length, length, random.below(length)]) as u64;
+    }
+    lawful(draft, "empty sections")
+}
+
+/// A chain whose last path has a length near the lister's limit of 65,536: one byte less, the same, one byte more.
+fn long_path(random: &Random) -> Image {
+    let nodes = random.pick(&[16, 64, 256, 1024]);
+    let subkey = 65_536 / nodes - 1;
+    let more = random.below(3);
+    let strings = vec![vec![b'p'; subkey], vec![b'q'; subkey - 1 + more]];
+    let node = |i: usize| Node {
+        code: Kind::Void.code(),
+        parent: i as u64,
+        string: u32::from(i + 1 == nodes),
+        count: 0,
+        offset: 0,
+    };
+    let nodes = (0..nodes).map(node).collect();
+    let mut draft = draft(random, strings, nodes);
+    apart(random, &mut draft);
+    lawful(draft, "path near the lister's limit")
+}
+
+/// An image of 65,535 to 65,537 bytes, the last of them of no section.
+fn long_image(random: &Random) -> Image {
+    let mut draft = tables(random);
+    apart(random, &mut draft);
+    with_data(random, &mut draft);
+    let length = draft.bytes.len().max(65_535 + random.below(3));
+    draft.bytes.resize(length, 7);
+    lawful(draft, "image near the lister's limit")
+}
+
+/// Image `number` of a seed.
+pub fn image(seed: u64, number: u64) -> Image {
+    let random = Random::of(seed, number);
+    match random.below(100) {
+        0..=35 => usual(&random),
+        36..=37 => over_signature(&random),
+        38..=39 => over_header(&random),
+        40..=41 => sharing(&random),
+        42..=43 => lawful_empty(&random),
+        44..=45 => long_path(&random),
+        46..=47 => long_image(&random),
+        _ => damage::damaged(&random),
+    }
+}
+
+/// A name that no string of the table is; a subkey.
+pub fn new_name(random: &Random, strings: &[Vec<u8>]) -> Vec<u8> {
+    let mut name = subkey(random);
+    while strings.contains(&name) {
+        name.push(random.pick(LATER));
+    }
+    debug_assert!(is_subkey(&name));
+    name
+}

@@ -1,0 +1,459 @@
+//! The library through its C side: the functions of the crate aff_c, as the heads of its sources give them. A slice is a pointer
+//! and a length.
+
+use crate::answers::Lent;
+use crate::format::Refusal;
+use crate::open::{Record, Span};
+use crate::runs::{Alteration, Call, Desk, Run};
+use crate::writer::{Numbers, Told};
+
+extern "C" {
+    fn aff_open_image(
+        image: *const u8,
+        image_length: usize,
+        form: *const u8,
+        form_length: usize,
+        strings: *mut u32,
+        strings_length: usize,
+        entries: *mut u32,
+        entries_length: usize,
+        record: *mut u64,
+        record_length: usize,
+    ) -> u32;
+
+    fn aff_form_for(
+        image: *const u8,
+        image_length: usize,
+        output: *mut u8,
+        output_length: usize,
+    ) -> bool;
+
+    fn aff_decode(
+        kind: u64,
+        bytes: *const u8,
+        bytes_length: usize,
+        index: u64,
+        value: *mut f64,
+        imaginary: *mut f64,
+    ) -> u32;
+}
+
+// The writer: its record is 7 numbers (what the last call told, the room's length, strings, bytes of text, nodes, bytes of
+// data, 1 while open) and the 12 bytes of form that it keeps.
+extern "C" {
+    fn aff_begin(
+        room: *mut u8,
+        room_length: usize,
+        form: *const u8,
+        form_length: usize,
+        text: *mut u8,
+        text_length: usize,
+        tree: *mut u8,
+        tree_length: usize,
+        allowance: u64,
+        numbers: *mut u64,
+        kept: *mut u8,
+    ) -> u32;
+
+    fn aff_make(
+        room: *const u8,
+        room_length: usize,
+        numbers: *mut u64,
+        kept: *const u8,
+        text: *mut u8,
+        text_length: usize,
+        tree: *mut u8,
+        tree_length: usize,
+        parent: u64,
+        name: *const u8,
+        name_length: usize,
+    ) -> u32;
+
+    fn aff_put(
+        room: *mut u8,
+        room_length: usize,
+        numbers: *mut u64,
+        kept: *const u8,
+        text: *const u8,
+        text_length: usize,
+        tree: *mut u8,
+        tree_length: usize,
+        node: u64,
+        kind: u64,
+        bytes: *const u8,
+        bytes_length: usize,
+        allowance: u64,
+    ) -> u32;
+
+    fn aff_close(
+        room: *mut u8,
+        room_length: usize,
+        numbers: *mut u64,
+        kept: *const u8,
+        text: *const u8,
+        text_length: usize,
+        tree: *const u8,
+        tree_length: usize,
+        allowance: u64,
+    ) -> u32;
+}
+
+/// Declares a reading call: image, record, strings and entries come first, then its own arguments.
+macro_rules! reading {
+    ($($name:ident($($argument:ident: $kind:ty),*);)*) => {
+        extern "C" {
+            $(fn $name(
+                image: *const u8,
+                image_length: usize,
+                record: *const u64,
+                strings: *const u32,
+                strings_length: usize,
+                entries: *const u32,
+                entries_length: usize,
+                $($argument: $kind),*
+            ) -> u32;)*
+        }
+    };
+}
+
+reading! {
+    aff_lookup(path: *const u8, path_length: usize, node: *mut u64);
+    aff_listing(output: *mut u32, output_length: usize, count: *mut u64);
+    aff_name(node: u64, offset: *mut u64, size: *mut u64);
+    aff_kind(node: u64, kind: *mut u64);
+    aff_count(node: u64, count: *mut u64);
+    aff_path(node: u64, output: *mut u8, output_length: usize, size: *mut u64);
+    aff_view(node: u64, offset: *mut u64, size: *mut u64);
+    aff_element(node: u64, index: u64, value: *mut f64, imaginary: *mut f64);
+}
+
+/// The 12 bytes that the library's programs lend.
+pub fn form_for(image: &[u8]) -> [u8; 12] {
+    let mut form = [0; 12];
+    // SAFETY: pointers and lengths are of live slices that do not overlap.
+    let done = unsafe { aff_form_for(image.as_ptr(), image.len(), form.as_mut_ptr(), form.len()) };
+    assert!(done, "12 bytes are enough");
+    form
+}
+
+/// Opens an image; the record is handed back whether or not it is accepted.
+pub fn open(
+    image: &[u8],
+    form: &[u8],
+    strings: &mut [u32],
+    entries: &mut [u32],
+) -> (Result<(), Refusal>, Record) {
+    let mut numbers = [u64::MAX; 12];
+    // SAFETY: as above.
+    let number = unsafe {
+        aff_open_image(
+            image.as_ptr(),
+            image.len(),
+            form.as_ptr(),
+            form.len(),
+            strings.as_mut_ptr(),
+            strings.len(),
+            entries.as_mut_ptr(),
+            entries.len(),
+            numbers.as_mut_ptr(),
+            numbers.len(),
+        )
+    };
+    let told = match (number, numbers[0]) {
+        (0, 0) => Ok(()),
+        (number, place) => Err((number, place)),
+    };
+    (told, record_of(&numbers))
+}
+
+/// Element `index` of some bytes; 255 where no kind has the code.
+pub fn decode(kind: u64, bytes: &[u8], index: u64) -> Result<(f64, f64), u32> {
+    let (mut value, mut imaginary) = (UNSET, UNSET);
+    // SAFETY: as above.
+    let number = unsafe {
+        aff_decode(
+            kind,
+            bytes.as_ptr(),
+            bytes.len(),
+            index,
+            &mut value,
+            &mut imaginary,
+        )
+    };
+    told(number, (value, imaginary), (UNSET, UNSET))
+}
+
+/// A value that a refused call must leave.
+const UNSET: f64 = 12345.5;
+const NONE: u64 = 0x5555_5555_5555_5555;
+
+/// An accepted call's value; a refused one must have left what it was lent.
+fn told<T: PartialEq>(number: u32, value: T, before: T) -> Result<T, u32> {
+    match number {
+        0 => Ok(value),
+        _ if value == before => Err(number),
+        _ => Err(1000 + number),
+    }
+}
+
+fn record_of(numbers: &[u64; 12]) -> Record {
+    let span = |place: usize| Span {
+        offset: numbers[place],
+        size: numbers[place + 1],
+    };
+    Record {
+        length: numbers[1],
+        edition: numbers[2],
+        symbols: span(3),
+        tree: span(5),
+        data: span(7),
+        strings: numbers[9],
+        nodes: numbers[10],
+        records: numbers[11],
+    }
+}
+
+fn numbers_of(record: &Record) -> [u64; 12] {
+    [
+        0,
+        record.length,
+        record.edition,
+        record.symbols.offset,
+        record.symbols.size,
+        record.tree.offset,
+        record.tree.size,
+        record.data.offset,
+        record.data.size,
+        record.strings,
+        record.nodes,
+        record.records,
+    ]
+}
+
+/// Calls a reading function with what is lent and with its own arguments.
+macro_rules! ask {
+    ($name:ident, $lent:expr, $($argument:expr),*) => {{
+        let lent = $lent;
+        let numbers = numbers_of(&lent.record);
+        // SAFETY: pointers and lengths are of live slices and variables that do not overlap.
+        unsafe {
+            $name(
+                lent.image.as_ptr(),
+                lent.image.len(),
+                numbers.as_ptr(),
+                lent.strings.as_ptr(),
+                lent.strings.len(),
+                lent.entries.as_ptr(),
+                lent.entries.len(),
+                $($argument),*
+            )
+        }
+    }};
+}
+
+pub fn lookup(lent: &Lent, path: &[u8]) -> Result<u64, u32> {
+    let mut node = NONE;
+    let number = ask!(aff_lookup, lent, path.as_ptr(), path.len(), &mut node);
+    told(number, node, NONE)
+}
+
+pub fn name(lent: &Lent, node: u64) -> Result<Span, u32> {
+    let (mut offset, mut size) = (NONE, NONE);
+    let number = ask!(aff_name, lent, node, &mut offset, &mut size);
+    told(number, Span { offset, size }, span_unset())
+}
+
+pub fn view(lent: &Lent, node: u64) -> Result<Span, u32> {
+    let (mut offset, mut size) = (NONE, NONE);
+    let number = ask!(aff_view, lent, node, &mut offset, &mut size);
+    told(number, Span { offset, size }, span_unset())
+}
+
+fn span_unset() -> Span {
+    Span {
+        offset: NONE,
+        size: NONE,
+    }
+}
+
+pub fn kind(lent: &Lent, node: u64) -> Result<u64, u32> {
+    let mut kind = NONE;
+    let number = ask!(aff_kind, lent, node, &mut kind);
+    told(number, kind, NONE)
+}
+
+pub fn count(lent: &Lent, node: u64) -> Result<u64, u32> {
+    let mut count = NONE;
+    let number = ask!(aff_count, lent, node, &mut count);
+    told(number, count, NONE)
+}
+
+pub fn path_into(lent: &Lent, node: u64, output: &mut [u8]) -> Result<u64, u32> {
+    let mut size = NONE;
+    let number = ask!(
+        aff_path,
+        lent,
+        node,
+        output.as_mut_ptr(),
+        output.len(),
+        &mut size
+    );
+    told(number, size, NONE)
+}
+
+pub fn order_into(lent: &Lent, output: &mut [u32]) -> Result<u64, u32> {
+    let mut count = NONE;
+    let number = ask!(
+        aff_listing,
+        lent,
+        output.as_mut_ptr(),
+        output.len(),
+        &mut count
+    );
+    told(number, count, NONE)
+}
+
+pub fn element(lent: &Lent, node: u64, index: u64) -> Result<(f64, f64), u32> {
+    let (mut value, mut imaginary) = (UNSET, UNSET);
+    let number = ask!(aff_element, lent, node, index, &mut value, &mut imaginary);
+    told(number, (value, imaginary), (UNSET, UNSET))
+}
+
+/// The library's writer with all that it is lent.
+struct Writer {
+    room: Vec<u8>,
+    text: Vec<u8>,
+    tree: Vec<u8>,
+    numbers: [u64; 7],
+    kept: [u8; 12],
+}
+
+/// The library's writer for a run, not yet begun.
+pub fn desk(run: &Run) -> Box<dyn Desk> {
+    Box::new(Writer {
+        room: run.room.clone(),
+        text: run.text.clone(),
+        tree: run.tree.clone(),
+        numbers: [0; 7],
+        kept: [0; 12],
+    })
+}
+
+impl Writer {
+    fn begin(&mut self, form: &[u8], allowance: u64) -> u32 {
+        // SAFETY: pointers and lengths are of live slices that do not overlap, here and below.
+        unsafe {
+            aff_begin(
+                self.room.as_mut_ptr(),
+                self.room.len(),
+                form.as_ptr(),
+                form.len(),
+                self.text.as_mut_ptr(),
+                self.text.len(),
+                self.tree.as_mut_ptr(),
+                self.tree.len(),
+                allowance,
+                self.numbers.as_mut_ptr(),
+                self.kept.as_mut_ptr(),
+            )
+        }
+    }
+
+    fn make(&mut self, parent: u64, name: &[u8]) -> u32 {
+        unsafe {
+            aff_make(
+                self.room.as_ptr(),
+                self.room.len(),
+                self.numbers.as_mut_ptr(),
+                self.kept.as_ptr(),
+                self.text.as_mut_ptr(),
+                self.text.len(),
+                self.tree.as_mut_ptr(),
+                self.tree.len(),
+                parent,
+                name.as_ptr(),
+                name.len(),
+            )
+        }
+    }
+
+    fn put(&mut self, node: u64, kind: u64, bytes: &[u8], allowance: u64) -> u32 {
+        unsafe {
+            aff_put(
+                self.room.as_mut_ptr(),
+                self.room.len(),
+                self.numbers.as_mut_ptr(),
+                self.kept.as_ptr(),
+                self.text.as_ptr(),
+                self.text.len(),
+                self.tree.as_mut_ptr(),
+                self.tree.len(),
+                node,
+                kind,
+                bytes.as_ptr(),
+                bytes.len(),
+                allowance,
+            )
+        }
+    }
+
+    fn close(&mut self, allowance: u64) -> u32 {
+        unsafe {
+            aff_close(
+                self.room.as_mut_ptr(),
+                self.room.len(),
+                self.numbers.as_mut_ptr(),
+                self.kept.as_ptr(),
+                self.text.as_ptr(),
+                self.text.len(),
+                self.tree.as_ptr(),
+                self.tree.len(),
+                allowance,
+            )
+        }
+    }
+
+    fn alter(&mut self, alteration: &Alteration) {
+        match *alteration {
+            Alteration::Length(number) => self.numbers[1] = number,
+            Alteration::Strings(number) => self.numbers[2] = number,
+            Alteration::Text(number) => self.numbers[3] = number,
+            Alteration::Nodes(number) => self.numbers[4] = number,
+            Alteration::Data(number) => self.numbers[5] = number,
+            Alteration::Byte(area, place, byte) => {
+                let areas = [&mut self.room, &mut self.text, &mut self.tree];
+                if let Some(old) = areas[area % 3].get_mut(place) {
+                    *old = byte;
+                }
+            }
+        }
+    }
+}
+
+impl Desk for Writer {
+    fn call(&mut self, call: &Call, allowance: u64) -> Told {
+        let number = match call {
+            Call::Begin(form) => self.begin(form, allowance),
+            Call::Make(parent, name) => self.make(*parent, name),
+            Call::Put(node, code, bytes) => self.put(*node, *code, bytes, allowance),
+            Call::Close => self.close(allowance),
+            Call::Alter(alteration) => {
+                self.alter(alteration);
+                return Ok(0);
+            }
+        };
+        match number {
+            0 => Ok(self.numbers[0]),
+            _ => Err((number, self.numbers[0])),
+        }
+    }
+
+    fn memory(&self) -> [&[u8]; 3] {
+        [&self.room, &self.text, &self.tree]
+    }
+
+    fn numbers(&self) -> Numbers {
+        let [_, length, strings, text, nodes, data, open] = self.numbers;
+        ([length, strings, text, nodes, data, open], self.kept)
+    }
+}

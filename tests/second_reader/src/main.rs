@@ -1,0 +1,125 @@
+//! An independent second reader of AFF files, a generator of images, and comparisons with the library. See README.md.
+
+#[cfg(feature = "library")]
+mod agree;
+mod answers;
+mod damage;
+mod format;
+mod images;
+#[cfg(feature = "library")]
+mod library;
+mod lists;
+mod md5;
+mod open;
+mod random;
+mod report;
+mod runs;
+#[cfg(test)]
+mod tests;
+mod writer;
+
+use report::Report;
+use std::error::Error;
+use std::io::Write;
+use std::path::Path;
+use std::process::ExitCode;
+
+const USAGE: &str = "second_reader list FILE
+second_reader make SEED COUNT FOLDER
+second_reader agree SEED COUNT
+second_reader lists SEED COUNT PROGRAM
+second_reader writes SEED COUNT";
+
+/// True where nothing differs.
+type Outcome = Result<bool, Box<dyn Error>>;
+
+fn main() -> ExitCode {
+    let arguments: Vec<String> = std::env::args().skip(1).collect();
+    let words: Vec<&str> = arguments.iter().map(String::as_str).collect();
+    match run(&words) {
+        Ok(true) => ExitCode::SUCCESS,
+        Ok(false) => ExitCode::FAILURE,
+        Err(error) => {
+            eprintln!("{error}");
+            ExitCode::from(2)
+        }
+    }
+}
+
+fn run(words: &[&str]) -> Outcome {
+    match words {
+        ["list", file] => list(Path::new(file)),
+        ["make", seed, count, folder] => make(seed.parse()?, count.parse()?, Path::new(folder)),
+        ["agree", seed, count] => agree(seed.parse()?, count.parse()?),
+        ["lists", seed, count, program] => lists(seed.parse()?, count.parse()?, Path::new(program)),
+        ["writes", seed, count] => writes(seed.parse()?, count.parse()?),
+        _ => Err(USAGE.into()),
+    }
+}
+
+/// Prints what the program `list` prints of a file.
+fn list(file: &Path) -> Outcome {
+    let image = std::fs::read(file)?;
+    std::io::stdout().write_all(&answers::listing(&image))?;
+    Ok(true)
+}
+
+/// Writes images NAME.aff with what `list` must print of them, NAME.out, and an index.
+fn make(seed: u64, count: u64, folder: &Path) -> Outcome {
+    std::fs::create_dir_all(folder)?;
+    let mut index = format!("seed {seed}\n");
+    for number in 0..count {
+        let image = images::image(seed, number);
+        let name = format!("s{seed}-{number:05}");
+        std::fs::write(folder.join(format!("{name}.aff")), &image.bytes)?;
+        let out = answers::listing(&image.bytes);
+        std::fs::write(folder.join(format!("{name}.out")), out)?;
+        index += &format!("{name} {} bytes  {}\n", image.bytes.len(), image.what);
+    }
+    std::fs::write(folder.join("INDEX.txt"), index)?;
+    Ok(true)
+}
+
+/// Compares the library with this reader over images in memory.
+#[cfg(feature = "library")]
+fn agree(seed: u64, count: u64) -> Outcome {
+    println!("seed {seed}, {count} images");
+    let mut report = Report::default();
+    for number in 0..count {
+        agree::compare(seed, number, &mut report);
+    }
+    agree::limits(&mut report);
+    Ok(report.finish())
+}
+
+#[cfg(not(feature = "library"))]
+fn agree(_: u64, _: u64) -> Outcome {
+    Err("agree: built without the library; see README.md, feature `library`".into())
+}
+
+/// Compares a program `list` with this reader.
+fn lists(seed: u64, count: u64, program: &Path) -> Outcome {
+    println!("seed {seed}, {count} images");
+    let mut report = Report::default();
+    let numbers = (0..).filter(|number| lists::is_listed(seed, *number));
+    for number in numbers.take(count as usize) {
+        lists::compare(seed, number, program, &mut report)?;
+    }
+    Ok(report.finish())
+}
+
+#[cfg(feature = "library")]
+const DESK: Option<runs::NewDesk> = Some(library::desk);
+#[cfg(not(feature = "library"))]
+const DESK: Option<runs::NewDesk> = None;
+
+/// Compares the writer's model with this reader, and with the library's writer where it is linked.
+fn writes(seed: u64, count: u64) -> Outcome {
+    let beside = DESK.map_or("the reader", |_| "the reader and the library's writer");
+    println!("seed {seed}, {count} runs: the model beside {beside}");
+    let mut report = Report::default();
+    for number in 0..count {
+        runs::compare(seed, number, DESK, &mut report);
+    }
+    Ok(report.finish())
+}

@@ -1,0 +1,292 @@
+//! Opening: every refusal from 1 to 13 with its place, in document 01's order: "opening 1 (nothing changed), then 2, text 3,
+//! edition 2's length 2, then 4 to 13, each check over all nodes before the next; sections in the order symbol, tree, data".
+
+use crate::format::{big, is_subkey, Edition, Entry, Kind, Refusal, LONGEST_IMAGE, MOST};
+use crate::format::{SIGNATURE, TEXT};
+use crate::md5::md5;
+use std::collections::HashSet;
+
+/// A section of the image.
+#[derive(Clone, Copy, PartialEq, Eq, Debug, Default)]
+pub struct Span {
+    pub offset: u64,
+    pub size: u64,
+}
+
+impl Span {
+    /// Whether some bytes lie inside this part, in exact arithmetic: no sum here wraps.
+    pub fn holds(&self, offset: u64, size: u64) -> bool {
+        let end = u128::from(self.offset) + u128::from(self.size);
+        self.offset <= offset && u128::from(offset) + u128::from(size) <= end
+    }
+}
+
+/// What an accepted opening records; all zero otherwise.
+#[derive(Clone, Copy, PartialEq, Eq, Debug, Default)]
+pub struct Record {
+    pub length: u64,
+    pub edition: u64,
+    pub symbols: Span,
+    pub tree: Span,
+    pub data: Span,
+    pub strings: u64,
+    pub nodes: u64,
+    /// The data header's count, "reported and not checked"; 0 in edition 1, which has none.
+    pub records: u64,
+}
+
+/// An accepted opening: "The work areas after an accepted opening hold the image place of each string and of each entry,
+/// and zero behind them."
+pub struct Opened {
+    pub record: Record,
+    pub strings: Vec<u32>,
+    pub entries: Vec<u32>,
+}
+
+/// One section header as it stands in the image.
+#[derive(Clone, Copy)]
+struct Header {
+    span: Span,
+    records: Option<u64>,
+    sum: [u8; 16],
+}
+
+/// Opens an image with areas of the right length.
+pub fn open(image: &[u8], form: &[u8]) -> Result<Opened, Refusal> {
+    open_lent(image, form, MOST, MOST)
+}
+
+/// Opens an image with areas of the given lengths.
+pub fn open_lent(
+    image: &[u8],
+    form: &[u8],
+    strings_length: usize,
+    entries_length: usize,
+) -> Result<Opened, Refusal> {
+    lent(image, form, strings_length, entries_length)?;
+    let edition = signature(image, form)?;
+    header_sum(image, edition)?;
+    let headers = [0, 1, 2].map(|section| section_header(image, edition, section));
+    sections_inside(image, &headers)?;
+    section_sums(image, &headers)?;
+    let strings = symbol_table(image, &headers[0])?;
+    let entries = tree_table(image, &headers[1])?;
+    let nodes = read_nodes(image, &entries);
+    numbers_exist(image, &nodes, &strings)?;
+    climbs_end(&nodes)?;
+    siblings_differ(image, &nodes, &strings)?;
+    data_inside(&nodes, headers[2].span)?;
+    Ok(Opened {
+        record: Record {
+            length: image.len() as u64,
+            edition: edition.number(),
+            symbols: headers[0].span,
+            tree: headers[1].span,
+            data: headers[2].span,
+            strings: strings.len() as u64,
+            nodes: nodes.len() as u64,
+            records: headers[2].records.unwrap_or(0),
+        },
+        strings: area(&strings),
+        entries: area(&entries),
+    })
+}
+
+/// A work area: the places, and zero behind them.
+fn area(places: &[usize]) -> Vec<u32> {
+    let mut area = vec![0; MOST];
+    for (number, place) in area.iter_mut().zip(places) {
+        *number = *place as u32;
+    }
+    area
+}
+
+/// 1: "a lent area or the 12 bytes has another length, or the image is too long".
+fn lent(image: &[u8], form: &[u8], strings: usize, entries: usize) -> Result<(), Refusal> {
+    let long = image.len() as u64 > LONGEST_IMAGE;
+    if long || form.len() != 12 || strings != MOST || entries != MOST {
+        return Err((1, 0));
+    }
+    Ok(())
+}
+
+/// 2, the text's 3, edition 2's 2, and 4.
+fn signature(image: &[u8], form: &[u8]) -> Result<Edition, Refusal> {
+    if image.len() < Edition::One.header() {
+        return Err((2, 0));
+    }
+    let edition = Edition::from_text(image).ok_or((3, 0))?;
+    if image.len() < edition.header() {
+        return Err((2, 0));
+    }
+    if image[TEXT..SIGNATURE] != *form {
+        return Err((4, 0));
+    }
+    Ok(edition)
+}
+
+/// 5: "header sum wrong"; it is the MD5 of all header bytes before it.
+fn header_sum(image: &[u8], edition: Edition) -> Result<(), Refusal> {
+    let summed = edition.summed();
+    if md5(&image[..summed]) != image[summed..edition.header()] {
+        return Err((5, 0));
+    }
+    Ok(())
+}
+
+fn section_header(image: &[u8], edition: Edition, section: usize) -> Header {
+    let place = edition.place_of(section);
+    let sum = edition.place_of_sum(section);
+    Header {
+        span: Span {
+            offset: big(image, place, 8),
+            size: big(image, place + 8, 8),
+        },
+        records: match edition {
+            Edition::One => None,
+            Edition::Two => Some(big(image, place + 16, 8)),
+        },
+        sum: image[sum..sum + 16].try_into().expect("16 bytes"),
+    }
+}
+
+/// 6: "a section ends past the image", told 1 symbol, 2 tree, 3 data.
+fn sections_inside(image: &[u8], headers: &[Header; 3]) -> Result<(), Refusal> {
+    let whole = Span {
+        offset: 0,
+        size: image.len() as u64,
+    };
+    for (number, header) in (1..).zip(headers) {
+        if !whole.holds(header.span.offset, header.span.size) {
+            return Err((6, number));
+        }
+    }
+    Ok(())
+}
+
+/// The bytes of a section that lies inside the image.
+fn section(image: &[u8], span: Span) -> &[u8] {
+    &image[span.offset as usize..][..span.size as usize]
+}
+
+/// 7: "a section's sum wrong", told as 6.
+fn section_sums(image: &[u8], headers: &[Header; 3]) -> Result<(), Refusal> {
+    for (number, header) in (1..).zip(headers) {
+        if md5(section(image, header.span)) != header.sum {
+            return Err((7, number));
+        }
+    }
+    Ok(())
+}
+
+/// 8: "symbol table: not empty and not ended by zero, above 2,048, count differs, or a string twice". The image places.
+fn symbol_table(image: &[u8], header: &Header) -> Result<Vec<usize>, Refusal> {
+    let bytes = section(image, header.span);
+    if bytes.last().is_some_and(|byte| *byte != 0) {
+        return Err((8, 0));
+    }
+    let mut places = Vec::new();
+    let mut texts = HashSet::new();
+    let mut at = 0;
+    while at < bytes.len() {
+        let text = until_zero(&bytes[at..]);
+        if places.len() == MOST || !texts.insert(text) {
+            return Err((8, 0));
+        }
+        places.push(header.span.offset as usize + at);
+        at += text.len() + 1;
+    }
+    if header.records.is_some_and(|n| n != places.len() as u64) {
+        return Err((8, 0));
+    }
+    Ok(places)
+}
+
+/// The bytes before the first zero; all where there is none.
+pub fn until_zero(bytes: &[u8]) -> &[u8] {
+    let end = bytes.iter().position(|byte| *byte == 0);
+    &bytes[..end.unwrap_or(bytes.len())]
+}
+
+/// 9: "tree table: entry cut short, type not 1 to 5, a 2,049th entry (before its type is read), or count differs", told the
+/// entry, or 0 for the count. The image places.
+fn tree_table(image: &[u8], header: &Header) -> Result<Vec<usize>, Refusal> {
+    let mut at = header.span.offset as usize;
+    let end = at + header.span.size as usize;
+    let mut places = Vec::new();
+    while at < end {
+        let number = places.len() as u64 + 1;
+        if places.len() == MOST {
+            return Err((9, number));
+        }
+        let entry = Entry::at(image, at, end).ok_or((9, number))?;
+        places.push(at);
+        at += entry.kind.entry();
+    }
+    if header.records.is_some_and(|n| n != places.len() as u64) {
+        return Err((9, 0));
+    }
+    Ok(places)
+}
+
+/// The entries at places that the walk found whole.
+fn read_nodes(image: &[u8], places: &[usize]) -> Vec<Entry> {
+    let read = |place: &usize| Entry::at(image, *place, image.len()).expect("walked");
+    places.iter().map(read).collect()
+}
+
+/// The name of a node: its string, without the zero.
+fn name<'a>(image: &'a [u8], node: &Entry, strings: &[usize]) -> &'a [u8] {
+    until_zero(&image[strings[node.string as usize]..])
+}
+
+/// 10: "parent or string number does not exist, or the string is no subkey", told the lowest node.
+fn numbers_exist(image: &[u8], nodes: &[Entry], strings: &[usize]) -> Result<(), Refusal> {
+    for (number, node) in (1..).zip(nodes) {
+        let parent = node.parent <= nodes.len() as u64;
+        let string = node.string < strings.len() as u64;
+        if !parent || !string || !is_subkey(name(image, node, strings)) {
+            return Err((10, number));
+        }
+    }
+    Ok(())
+}
+
+/// Whether the climb by parents from a node reaches the root. In as many steps as there are nodes it must.
+pub fn reaches_root(nodes: &[Entry], number: u64) -> bool {
+    let mut at = number;
+    for _ in 0..nodes.len() {
+        if at == 0 {
+            return true;
+        }
+        at = nodes[at as usize - 1].parent;
+    }
+    at == 0
+}
+
+/// 11: "the climb does not reach the root", told the lowest node.
+fn climbs_end(nodes: &[Entry]) -> Result<(), Refusal> {
+    let lost = (1..=nodes.len() as u64).find(|number| !reaches_root(nodes, *number));
+    lost.map_or(Ok(()), |number| Err((11, number)))
+}
+
+/// 12: "a lower-numbered sibling has its name", told the lowest node. Names are compared, not string numbers.
+fn siblings_differ(image: &[u8], nodes: &[Entry], strings: &[usize]) -> Result<(), Refusal> {
+    let mut seen = HashSet::new();
+    for (number, node) in (1..).zip(nodes) {
+        if !seen.insert((node.parent, name(image, node, strings))) {
+            return Err((12, number));
+        }
+    }
+    Ok(())
+}
+
+/// 13: "data not inside the data section", told the lowest node. Offsets count from the start of the file.
+fn data_inside(nodes: &[Entry], data: Span) -> Result<(), Refusal> {
+    for (number, node) in (1..).zip(nodes) {
+        if node.kind != Kind::Void && !data.holds(node.offset, node.bytes()) {
+            return Err((13, number));
+        }
+    }
+    Ok(())
+}

@@ -1,0 +1,567 @@
+//! Random runs of the writer: the model's images beside the tree that the calls describe, cut after any number of stores,
+//! and beside the library's writer where it is linked.
+
+use crate::answers::{decoded, judged, Lent, Reader};
+use crate::format::{Edition, Kind, MOST};
+use crate::images::subkey;
+use crate::open::open;
+use crate::random::Random;
+use crate::report::Report;
+use crate::writer::{Numbers, Record, State, Told, Writer, TEXT_AREA, TREE_AREA};
+
+/// One call with its arguments; allowances come from a total that is handed down.
+#[derive(Clone, Debug)]
+pub enum Call {
+    Begin(Vec<u8>),
+    Make(u64, Vec<u8>),
+    Put(u64, u64, Vec<u8>),
+    Close,
+    /// No call of the library: the caller alters what is lent.
+    Alter(Alteration),
+}
+
+/// A number of the record, or a byte of room, text area or tree area.
+#[derive(Clone, Copy, Debug)]
+pub enum Alteration {
+    Length(u64),
+    Strings(u64),
+    Text(u64),
+    Nodes(u64),
+    Data(u64),
+    Byte(usize, usize, u8),
+}
+
+/// What takes the calls of a run: the model, or the library's writer.
+pub trait Desk {
+    fn call(&mut self, call: &Call, allowance: u64) -> Told;
+    /// Room, text area, tree area.
+    fn memory(&self) -> [&[u8]; 3];
+    /// The record.
+    fn numbers(&self) -> Numbers;
+}
+
+impl Desk for Writer {
+    fn call(&mut self, call: &Call, allowance: u64) -> Told {
+        match call {
+            Call::Begin(form) => self.begin(form, allowance),
+            Call::Make(parent, name) => self.make(*parent, name),
+            Call::Put(node, code, bytes) => self.put(*node, *code, bytes, allowance),
+            Call::Close => self.close(allowance),
+            Call::Alter(alteration) => self.alter(alteration),
+        }
+    }
+
+    fn memory(&self) -> [&[u8]; 3] {
+        [&self.room, &self.text, &self.tree]
+    }
+
+    fn numbers(&self) -> Numbers {
+        self.record.numbers()
+    }
+}
+
+impl Writer {
+    fn alter(&mut self, alteration: &Alteration) -> Told {
+        match *alteration {
+            Alteration::Length(number) => self.record.length = number,
+            Alteration::Strings(number) => self.record.strings = number,
+            Alteration::Text(number) => self.record.text = number,
+            Alteration::Nodes(number) => self.record.nodes = number,
+            Alteration::Data(number) => self.record.data = number,
+            Alteration::Byte(area, place, byte) => {
+                let area =
+                    [&mut self.room, &mut self.text, &mut self.tree][area % 3].get_mut(place);
+                if let Some(old) = area {
+                    *old = byte;
+                }
+            }
+        }
+        Ok(0)
+    }
+}
+
+/// A run: what is lent, and the calls.
+pub struct Run {
+    pub room: Vec<u8>,
+    pub text: Vec<u8>,
+    pub tree: Vec<u8>,
+    pub calls: Vec<Call>,
+}
+
+impl Run {
+    fn desk(&self) -> Writer {
+        Writer::lent(self.room.clone(), self.text.clone(), self.tree.clone())
+    }
+
+    fn is_altered(&self) -> bool {
+        self.calls.iter().any(|call| matches!(call, Call::Alter(_)))
+    }
+}
+
+/// Stores that a call made: an accepted make tells a node, and stores nothing.
+fn stores(call: &Call, told: &Told) -> u64 {
+    match (call, told) {
+        (Call::Make(..), _) => 0,
+        (_, Ok(made)) => *made,
+        (_, Err((23, made))) => *made,
+        _ => 0,
+    }
+}
+
+/// Plays the calls with a total allowance: each gets what the earlier ones left. The answers.
+pub fn play(desk: &mut dyn Desk, calls: &[Call], total: u64) -> Vec<Told> {
+    let mut left = total;
+    let mut answers = Vec::new();
+    for call in calls {
+        let told = desk.call(call, left);
+        left -= stores(call, &told);
+        answers.push(told);
+    }
+    answers
+}
+
+/// A node as the calls describe it.
+#[derive(Clone)]
+struct Described {
+    parent: u64,
+    name: Vec<u8>,
+    kind: Kind,
+    bytes: Vec<u8>,
+}
+
+/// "Calls describe a tree by their arguments and by which were accepted. It starts as node 0, nameless and Void."
+fn described(calls: &[Call], answers: &[Told]) -> Vec<Described> {
+    let root = Described {
+        parent: 0,
+        name: Vec::new(),
+        kind: Kind::Void,
+        bytes: Vec::new(),
+    };
+    let mut tree = vec![root.clone()];
+    for (call, told) in calls.iter().zip(answers) {
+        match (call, told) {
+            (Call::Begin(_), Ok(_)) => tree.truncate(1),
+            (Call::Make(parent, name), Ok(_)) => tree.push(Described {
+                parent: *parent,
+                name: name.clone(),
+                ..root.clone()
+            }),
+            (Call::Put(node, code, bytes), Ok(_)) => {
+                let node = &mut tree[*node as usize];
+                node.kind = Kind::from_code(*code).expect("accepted");
+                node.bytes = bytes.clone();
+            }
+            _ => (),
+        }
+    }
+    tree
+}
+
+/// "Paths go by parents."
+fn path_in(tree: &[Described], number: usize) -> Vec<u8> {
+    match number {
+        0 => Vec::new(),
+        _ => {
+            let node = &tree[number];
+            let mut path = path_in(tree, node.parent as usize);
+            path.push(b'/');
+            path.extend(&node.name);
+            path
+        }
+    }
+}
+
+/// "An opened file shows this tree if each of the tree's numbers answers with its name, path (output long enough), type, count
+/// and bytes, and any other number with 15."
+fn shows(room: &[u8], form: &[u8], tree: &[Described], report: &mut Report) {
+    let opened = open(room, form);
+    report.same("opened", &true, &opened.is_ok());
+    let Ok(opened) = opened else { return };
+    let lent = Lent {
+        image: room,
+        record: opened.record,
+        strings: &opened.strings,
+        entries: &opened.entries,
+    };
+    let Ok(reader) = judged(&lent) else {
+        report.same("24", &true, &false);
+        return;
+    };
+    report.same("order", &(tree.len() as u64), &order_length(&reader));
+    for (number, node) in tree.iter().enumerate() {
+        let n = number as u64;
+        let path = if n == 0 {
+            b"/".to_vec()
+        } else {
+            path_in(tree, number)
+        };
+        report.same("name", &Ok(node.name.as_slice()), &reader.name(n));
+        report.same("lookup", &Ok(n), &reader.lookup(&path));
+        let mut output = vec![b'.'; path.len() + 2];
+        let length = reader.path_into(n, &mut output);
+        report.same("path length", &Ok(path.len() as u64), &length);
+        report.same("path", &[path.as_slice(), b".."].concat(), &output);
+        report.same("kind", &Ok(node.kind), &reader.kind(n));
+        shows_data(&reader, n, node, room, report);
+    }
+    let past = [tree.len() as u64, u64::MAX].map(|n| reader.kind(n));
+    report.same("other numbers", &[Err(15), Err(15)], &past);
+}
+
+/// The numbers that listing order writes, each once.
+fn order_length(reader: &Reader) -> u64 {
+    let mut area = vec![0; reader.nodes() as usize + 1];
+    let written = reader.order_into(&mut area).unwrap_or(0);
+    area.sort_unstable();
+    area.dedup();
+    written.min(area.len() as u64)
+}
+
+/// Count, bytes, and each element decoded.
+fn shows_data(reader: &Reader, n: u64, node: &Described, room: &[u8], report: &mut Report) {
+    let width = node.kind.width().max(1);
+    let count = (node.bytes.len() / width) as u64;
+    let view = reader.view(n).map(|part| {
+        let part = part.unwrap_or_default();
+        room[part.offset as usize..][..part.size as usize].to_vec()
+    });
+    report.same("count", &Ok(count), &reader.count(n));
+    report.same("bytes", &Ok(node.bytes.clone()), &view);
+    report.same("no element", &Err(16), &reader.element(n, count));
+    for (index, bytes) in (0..).zip(node.bytes.chunks(width)) {
+        let element = Ok(decoded(node.kind, bytes));
+        report.same("element", &element, &reader.element(n, index));
+    }
+}
+
+/// What a run is like.
+#[derive(Clone, Copy, PartialEq, Eq)]
+enum Style {
+    Usual,
+    /// Up to 2,049 nodes.
+    Many,
+    /// Long names, up to the end of the text area.
+    Long,
+    /// What is lent is altered between calls.
+    Altered,
+}
+
+/// A random run: mostly short, sometimes up to the limits of nodes, strings and text.
+pub fn random_run(random: &Random) -> Run {
+    let style = match random.below(120) {
+        0 => Style::Many,
+        1..=4 => Style::Long,
+        5..=40 => Style::Altered,
+        _ => Style::Usual,
+    };
+    let mut run = Run {
+        room: room(random, style),
+        text: random.bytes(area(random, TEXT_AREA)),
+        tree: random.bytes(area(random, TREE_AREA)),
+        calls: Vec::new(),
+    };
+    let mut model = run.desk();
+    add(&mut run, &mut model, begin(random));
+    let calls = match style {
+        Style::Many => 2 * MOST,
+        Style::Long => 60,
+        _ => random.pick(&[0, 3, 8, 12, 60]),
+    };
+    for _ in 0..calls {
+        if style == Style::Altered && random.one_in(6) {
+            alter_and_restore(random, &mut run, &mut model);
+        }
+        let call = middle(random, &model, style);
+        add(&mut run, &mut model, call);
+    }
+    add(&mut run, &mut model, Call::Close);
+    for _ in 0..random.below(3) {
+        let more = [Call::Close, middle(random, &model, style)];
+        add(&mut run, &mut model, random.pick(&more));
+    }
+    if style == Style::Usual && model.record.state == State::Closed && random.one_in(3) {
+        // The finished size, or one byte around it: the last calls that need room are refused or just fit.
+        run.room
+            .resize(model.finished() as usize - 1 + random.below(3), 5);
+    }
+    if random.one_in(6) {
+        let again = [begin(random), Call::Make(0, b"again".to_vec()), Call::Close];
+        run.calls.extend(again);
+    }
+    run
+}
+
+/// Adds a call, and plays it on the model, so that the next one can be drawn to suit.
+fn add(run: &mut Run, model: &mut Writer, call: Call) {
+    model.call(&call, u64::MAX).ok();
+    run.calls.push(call);
+}
+
+/// A room: of zeros, of anything, or one that holds a finished file; of any length about the least, or long enough.
+fn room(random: &Random, style: Style) -> Vec<u8> {
+    let length = match (style, random.below(7)) {
+        (Style::Many | Style::Long, _) => 140_000,
+        (_, 0) => random.pick(&[0, 1, 167, 168, 169, 181, 213, 214]),
+        (_, 1..=3) => 168 + random.below(400),
+        _ => 4000,
+    };
+    match random.below(3) {
+        0 => vec![0; length],
+        1 => random.bytes(length),
+        _ => {
+            let mut old = Writer::lent(vec![9; length], vec![0; TEXT_AREA], vec![0; TREE_AREA]);
+            let calls = [Call::Begin(Edition::Two.form().to_vec()), Call::Close];
+            play(&mut old, &calls, u64::MAX);
+            old.room
+        }
+    }
+}
+
+fn area(random: &Random, size: usize) -> usize {
+    match random.below(60) {
+        0 => random.pick(&[0, size - 1, size + 1]),
+        _ => size,
+    }
+}
+
+fn begin(random: &Random) -> Call {
+    let mut form = Edition::Two.form().to_vec();
+    match random.below(40) {
+        0 => form.truncate(11),
+        1 => form.push(0),
+        2 => form = random.bytes(12),
+        _ => (),
+    }
+    Call::Begin(form)
+}
+
+/// A make or a put, most of them lawful.
+fn middle(random: &Random, now: &Writer, style: Style) -> Call {
+    let nodes = now.record.nodes.min(MOST as u64) as usize;
+    match (style, random.below(12)) {
+        (Style::Many, 1) => put(random, nodes),
+        (Style::Many, _) => make(random, now, style),
+        (_, 1..=4) => put(random, nodes),
+        _ => make(random, now, style),
+    }
+}
+
+fn make(random: &Random, now: &Writer, style: Style) -> Call {
+    let nodes = now.record.nodes.min(MOST as u64) as usize;
+    let left = TEXT_AREA.saturating_sub(now.record.text as usize);
+    let parent = match random.below(30) {
+        0 => random.pick(&[nodes as u64 + 1, u64::MAX, 1 << 32]),
+        _ => random.below(nodes + 1) as u64,
+    };
+    let mut name = subkey(random);
+    match (style, random.below(30)) {
+        (_, 0) => name = random.pick(&BAD_NAMES).to_vec(),
+        (Style::Long, 1) => name = vec![b'k'; random.between(20_000, 33_000)],
+        // As long as the text area takes with a zero, or one byte longer.
+        (Style::Long, 2..=3) => name = vec![b'm'; left.max(2) - random.below(2)],
+        (Style::Long, _) => name.extend(vec![b'l'; random.below(2000)]),
+        (Style::Many, _) => name.extend(nodes.to_string().bytes()),
+        // Names that an altered text area may hold twice.
+        (Style::Altered, 1..=16) => name = vec![random.pick(b"ab")],
+        (_, 1..=20) => name.truncate(1),
+        _ => (),
+    }
+    Call::Make(parent, name)
+}
+
+const BAD_NAMES: [&[u8]; 6] = [b"", b"9a", b"a/b", b"a\0", b"/", b"a\xe9"];
+
+fn put(random: &Random, nodes: usize) -> Call {
+    let node = random.below(nodes + 2) as u64;
+    let code = match random.below(12) {
+        0 => random.pick(&[0, 1, 6, 259, 1 << 32 | 3, u64::MAX]),
+        _ => random.between(2, 5) as u64,
+    };
+    let width = Kind::from_code(code).map_or(1, |kind| kind.width().max(1));
+    let mut size = random.below(6) * width;
+    if random.one_in(12) {
+        size += 1;
+    }
+    Call::Put(node, code, random.bytes(size))
+}
+
+/// Another number in the record, or another byte where strings, entries or data stand.
+fn alteration(random: &Random, now: &Writer) -> Alteration {
+    let record = &now.record;
+    let any = random.next();
+    let other = |number: u64| {
+        let near = [
+            number.wrapping_add(1),
+            number.wrapping_sub(1),
+            0,
+            number | 1 << 32,
+            u64::MAX,
+            any,
+        ];
+        random.pick(&near)
+    };
+    match random.below(14) {
+        0 => Alteration::Length(other(record.length)),
+        1 => Alteration::Strings(other(record.strings)),
+        2 => Alteration::Text(other(record.text)),
+        3 => Alteration::Nodes(other(record.nodes)),
+        4 => Alteration::Data(other(record.data)),
+        5..=6 => Alteration::Byte(0, random.below(now.room.len()), random.byte()),
+        7..=9 => {
+            let place = random.below(record.text.min(TEXT_AREA as u64) as usize + 1);
+            Alteration::Byte(1, place, random.pick(b"ab/9aabb\0"))
+        }
+        _ => slot_byte(random, record),
+    }
+}
+
+/// Another byte in a node's slot: its type, or the end of its parent, string, count or offset, most of them near what exists.
+fn slot_byte(random: &Random, record: &Record) -> Alteration {
+    let node = random.below(record.nodes.clamp(1, MOST as u64) as usize);
+    let strings = record.strings.clamp(1, 250) as usize;
+    let (field, low, high) = random.pick(&[
+        (0, 0, 6),
+        (8, 0, node),
+        (8, node, node + 2),
+        (12, 0, strings),
+        (16, 0, 3),
+        (24, 164, 172),
+        (24, 0, 255),
+        (7, 0, 1),
+        (23, 0, 1),
+    ]);
+    Alteration::Byte(2, 25 * node + field, random.between(low, high) as u8)
+}
+
+/// The alteration that undoes another.
+fn undone(alteration: &Alteration, now: &Writer) -> Alteration {
+    let record = &now.record;
+    match *alteration {
+        Alteration::Length(_) => Alteration::Length(record.length),
+        Alteration::Strings(_) => Alteration::Strings(record.strings),
+        Alteration::Text(_) => Alteration::Text(record.text),
+        Alteration::Nodes(_) => Alteration::Nodes(record.nodes),
+        Alteration::Data(_) => Alteration::Data(record.data),
+        Alteration::Byte(area, place, byte) => {
+            let old = [&now.room, &now.text, &now.tree][area % 3].get(place);
+            Alteration::Byte(area, place, *old.unwrap_or(&byte))
+        }
+    }
+}
+
+/// An alteration and a call; then, mostly, what was altered is put back.
+fn alter_and_restore(random: &Random, run: &mut Run, model: &mut Writer) {
+    let altered = alteration(random, model);
+    let restored = undone(&altered, model);
+    add(run, model, Call::Alter(altered));
+    let calls = [middle(random, model, Style::Altered), Call::Close];
+    let close = usize::from(random.one_in(12));
+    add(run, model, calls[close].clone());
+    if !random.one_in(4) {
+        add(run, model, Call::Alter(restored));
+    }
+}
+
+/// Makes a desk for a run that has not begun.
+pub type NewDesk = fn(&Run) -> Box<dyn Desk>;
+
+/// One run: whole, at some cuts, and beside another desk where there is one.
+pub fn compare(seed: u64, number: u64, other: Option<NewDesk>, report: &mut Report) {
+    let random = Random::of(seed, number);
+    let run = random_run(&random);
+    report.begin_run(seed, number);
+    let mut whole = run.desk();
+    let answers = play(&mut whole, &run.calls, u64::MAX);
+    let total: u64 = run
+        .calls
+        .iter()
+        .zip(&answers)
+        .map(|(c, t)| stores(c, t))
+        .sum();
+    answers.iter().for_each(|told| report.told(told));
+    let cuts = cuts(&random, total, run.calls.len());
+    if !run.is_altered() {
+        check_whole(&run, &whole, &answers, report);
+        for cut in &cuts {
+            check_cut(&run, *cut, total, report);
+        }
+    }
+    if let Some(other) = other {
+        for cut in cuts.iter().copied().chain([u64::MAX]) {
+            beside(&run, &mut run.desk(), other(&run).as_mut(), cut, report);
+        }
+    }
+    report.end(&[]);
+}
+
+/// All cuts of a short run, some of a long one.
+fn cuts(random: &Random, total: u64, calls: usize) -> Vec<u64> {
+    if total <= 260 {
+        return (0..=total).collect();
+    }
+    let some = if calls > 100 { 1 } else { 12 };
+    let mut cuts: Vec<u64> = (0..some)
+        .map(|_| random.below(total as usize) as u64)
+        .collect();
+    cuts.extend([0, 1, total - 1, total]);
+    cuts
+}
+
+/// After an accepted close the room opens and shows the tree.
+fn check_whole(run: &Run, whole: &Writer, answers: &[Told], report: &mut Report) {
+    let last = run
+        .calls
+        .iter()
+        .rposition(|call| matches!(call, Call::Begin(_)));
+    let first = last.expect("a run begins");
+    let (calls, told) = (&run.calls[first..], &answers[first..]);
+    let closed = |(call, told): (&Call, &Told)| matches!(call, Call::Close) && told.is_ok();
+    let was_closed = calls.iter().zip(told).any(closed);
+    report.same("close", &told[0].is_ok(), &was_closed);
+    if let (Call::Begin(form), true) = (&calls[0], was_closed) {
+        shows(&whole.room, form, &described(calls, told), report);
+    }
+}
+
+/// A run cut after some number of stores: place 0 is not `L` while a begun file is not finished, so it is refused by 3.
+fn check_cut(run: &Run, cut: u64, total: u64, report: &mut Report) {
+    let mut desk = run.desk();
+    let answers = play(&mut desk, &run.calls, cut);
+    answers.iter().for_each(|told| report.told(told));
+    let made: u64 = run
+        .calls
+        .iter()
+        .zip(&answers)
+        .map(|(c, t)| stores(c, t))
+        .sum();
+    report.same("stores made", &cut.min(total), &made);
+    let begun = run
+        .calls
+        .iter()
+        .filter(|c| matches!(c, Call::Begin(_)))
+        .count();
+    if begun == 1 && made > 0 && made < total {
+        let told = open(&desk.room, &Edition::Two.form()).map(|_| ()).err();
+        report.same("cut", &Some((3, 0)), &told);
+    }
+}
+
+/// The same calls on the model and on another desk: answers, record and memory after each call.
+fn beside(run: &Run, model: &mut Writer, other: &mut dyn Desk, total: u64, report: &mut Report) {
+    let mut left = total;
+    let mut altered = false;
+    for (number, call) in run.calls.iter().enumerate() {
+        let told = model.call(call, left);
+        let theirs = other.call(call, left);
+        report.same(&format!("call {number}"), &told, &theirs);
+        report.same("record", &model.numbers(), &other.numbers());
+        report.same("memory", &true, &(model.memory() == other.memory()));
+        left -= stores(call, &told);
+        match call {
+            Call::Alter(_) => altered = true,
+            Call::Begin(_) => altered = false,
+            _ if altered => report.judged(told != Err((24, 0))),
+            _ => (),
+        }
+    }
+}

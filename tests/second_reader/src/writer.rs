@@ -1,0 +1,359 @@
+//! A model of the writer, from document 01, "Writing keys": begin, make, put, close, their refusals, and their byte stores in order.
+
+use crate::format::{is_subkey, Edition, Entry, Kind, Refusal, LONGEST_IMAGE, MOST};
+use crate::md5::md5;
+
+/// "The writer has a text area of 32,768 bytes (zeros counted) and a tree area of 51,200 bytes."
+pub const TEXT_AREA: usize = 32_768;
+pub const TREE_AREA: usize = 51_200;
+/// Data go to the image at place 168 and on: behind the header of edition 2.
+const HEADER: u64 = 168;
+/// "the tree area holds node n's entry at place 25(n − 1), 25 bytes".
+const SLOT: usize = 25;
+
+#[derive(Clone, Copy, PartialEq, Eq, Debug, Default)]
+pub enum State {
+    /// The all-zero record: no begin was accepted.
+    #[default]
+    None,
+    Open,
+    Closed,
+    Stopped,
+}
+
+/// What the writer records.
+#[derive(Clone, Copy, PartialEq, Eq, Debug, Default)]
+pub struct Record {
+    pub state: State,
+    pub length: u64,
+    pub strings: u64,
+    pub text: u64,
+    pub nodes: u64,
+    pub data: u64,
+    pub form: [u8; 12],
+}
+
+/// A writer with all that it is lent.
+#[derive(Clone, PartialEq, Eq)]
+pub struct Writer {
+    pub record: Record,
+    pub room: Vec<u8>,
+    pub text: Vec<u8>,
+    pub tree: Vec<u8>,
+}
+
+/// The record as numbers: length, strings, bytes of text, nodes, bytes of data, 1 while open; and the form.
+pub type Numbers = ([u64; 6], [u8; 12]);
+
+impl Record {
+    pub fn numbers(&self) -> Numbers {
+        let open = u64::from(self.state == State::Open);
+        let numbers = [
+            self.length,
+            self.strings,
+            self.text,
+            self.nodes,
+            self.data,
+            open,
+        ];
+        (numbers, self.form)
+    }
+}
+
+/// One store of a byte at a place.
+pub type Store = (usize, u8);
+
+/// What an accepted call tells: stores made, or for make the new node's number.
+pub type Told = Result<u64, Refusal>;
+
+impl Writer {
+    /// A writer that has not begun, with areas and room as they are lent.
+    pub fn lent(room: Vec<u8>, text: Vec<u8>, tree: Vec<u8>) -> Writer {
+        Writer {
+            record: Record::default(),
+            room,
+            text,
+            tree,
+        }
+    }
+
+    /// Makes the first so many stores, and tells how many; 23 where the allowance is smaller than the stores needed.
+    fn store(&mut self, stores: &[Store], allowance: u64) -> Told {
+        let made = allowance.min(stores.len() as u64);
+        for (place, byte) in &stores[..made as usize] {
+            self.room[*place] = *byte;
+        }
+        if made < stores.len() as u64 {
+            self.record.state = State::Stopped;
+            return Err((23, made));
+        }
+        Ok(made)
+    }
+
+    /// "Begin: 1, 21, 23." "begin puts 0 at place 0"; "An accepted begin clears both areas."
+    pub fn begin(&mut self, form: &[u8], allowance: u64) -> Told {
+        self.record = Record::default();
+        let length = self.room.len() as u64;
+        let areas = self.text.len() == TEXT_AREA && self.tree.len() == TREE_AREA;
+        if !areas || form.len() != 12 || length > LONGEST_IMAGE {
+            return Err((1, 0));
+        }
+        if length < HEADER {
+            return Err((21, 0));
+        }
+        self.record = Record {
+            state: State::Open,
+            length,
+            form: form.try_into().expect("12 bytes"),
+            ..Record::default()
+        };
+        let told = self.store(&[(0, 0)], allowance)?;
+        self.text.fill(0);
+        self.tree.fill(0);
+        Ok(told)
+    }
+
+    /// "Make: 24, 22, 15, 14, 17, 20, 21." "Making a child stores nothing."
+    pub fn make(&mut self, parent: u64, name: &[u8]) -> Told {
+        self.judge()?;
+        if parent > self.record.nodes {
+            return Err((15, 0));
+        }
+        if !is_subkey(name) {
+            return Err((14, 0));
+        }
+        if self.has_child(parent, name) {
+            return Err((17, 0));
+        }
+        let string = self.string_of(name);
+        let more = if string.is_some() {
+            0
+        } else {
+            name.len() as u64 + 1
+        };
+        if self.is_full(more) {
+            return Err((20, 0));
+        }
+        if self.finished() + 13 + more > self.record.length {
+            return Err((21, 0));
+        }
+        let number = string.unwrap_or(self.record.strings);
+        if string.is_none() {
+            self.add_string(name);
+        }
+        self.record.nodes += 1;
+        let entry = Entry {
+            kind: Kind::Void,
+            parent,
+            string: number,
+            count: 0,
+            offset: 0,
+        };
+        self.set_slot(self.record.nodes, &entry);
+        Ok(self.record.nodes)
+    }
+
+    /// 20: "a 2,049th node or string, or text past 32,768"; a name that is a string already needs no text.
+    fn is_full(&self, more: u64) -> bool {
+        let new_string = more > 0;
+        self.record.nodes == MOST as u64
+            || (new_string && self.record.strings == MOST as u64)
+            || self.record.text + more > TEXT_AREA as u64
+    }
+
+    /// "Put: 24, 22, 15, 18, 19, 21, 23." "Each put stores its bytes ascending."
+    pub fn put(&mut self, node: u64, code: u64, bytes: &[u8], allowance: u64) -> Told {
+        self.judge()?;
+        if node > self.record.nodes {
+            return Err((15, 0));
+        }
+        if node == 0 || self.node(node).kind != Kind::Void {
+            return Err((18, 0));
+        }
+        let kind = Kind::from_code(code).filter(|kind| *kind != Kind::Void);
+        let kind = kind.ok_or((19, 0))?;
+        if !bytes.chunks_exact(kind.width()).remainder().is_empty() {
+            return Err((19, 0));
+        }
+        let size = bytes.len() as u64;
+        if self.finished() + 12 + size > self.record.length {
+            return Err((21, 0));
+        }
+        let offset = HEADER + self.record.data;
+        let stores: Vec<Store> = (offset as usize..).zip(bytes.iter().copied()).collect();
+        let made = self.store(&stores, allowance)?;
+        let entry = Entry {
+            kind,
+            count: size / kind.width() as u64,
+            offset,
+            ..self.node(node)
+        };
+        self.set_slot(node, &entry);
+        self.record.data += size;
+        Ok(made)
+    }
+
+    /// "Close: 24, 22, 23." "Close stores strings, entries, header bytes 1 to 167 ascending, and last the `L` at place 0."
+    pub fn close(&mut self, allowance: u64) -> Told {
+        self.judge()?;
+        let made = self.store(&self.closing(), allowance)?;
+        self.record.state = State::Closed;
+        Ok(made)
+    }
+
+    /// The stores of close.
+    fn closing(&self) -> Vec<Store> {
+        let symbols = &self.text[..self.record.text as usize];
+        let tree = self.entries();
+        let header = self.header(symbols, &tree);
+        let start = (HEADER + self.record.data) as usize;
+        let tables = symbols.iter().chain(&tree).copied();
+        let mut stores: Vec<Store> = (start..).zip(tables).collect();
+        stores.extend((0..).zip(header.iter().copied()).skip(1));
+        stores.push((0, header[0]));
+        stores
+    }
+
+    /// "at close the strings ... follow, then the entries in order of making, in edition 2."
+    fn header(&self, symbols: &[u8], tree: &[u8]) -> Vec<u8> {
+        let data = &self.room[HEADER as usize..][..self.record.data as usize];
+        let full = (1..=self.record.nodes)
+            .filter(|number| self.node(*number).kind != Kind::Void)
+            .count();
+        let sections = [
+            (symbols, self.record.data, self.record.strings),
+            (
+                tree,
+                self.record.data + symbols.len() as u64,
+                self.record.nodes,
+            ),
+            (data, 0, full as u64),
+        ];
+        let mut header = [Edition::Two.text().as_slice(), &self.record.form].concat();
+        for (bytes, before, records) in sections {
+            header.extend((HEADER + before).to_be_bytes());
+            header.extend((bytes.len() as u64).to_be_bytes());
+            header.extend(records.to_be_bytes());
+            header.extend(md5(bytes));
+        }
+        let sum = md5(&header);
+        header.extend(sum);
+        header
+    }
+
+    /// The tree table: 13 bytes of a Void node's slot, 25 of another's.
+    fn entries(&self) -> Vec<u8> {
+        let mut tree = Vec::new();
+        for number in 1..=self.record.nodes {
+            let slot = (number as usize - 1) * SLOT;
+            let size = self.node(number).kind.entry();
+            tree.extend_from_slice(&self.tree[slot..slot + size]);
+        }
+        tree
+    }
+
+    /// The entry of a node above 0 in the tree area.
+    fn slot(&self, number: u64) -> Option<Entry> {
+        let place = (number as usize - 1) * SLOT;
+        Entry::at(&self.tree, place, place + SLOT)
+    }
+
+    fn node(&self, number: u64) -> Entry {
+        self.slot(number).expect("24 has been judged")
+    }
+
+    fn set_slot(&mut self, number: u64, entry: &Entry) {
+        let mut slot = vec![entry.kind.code()];
+        slot.extend(entry.parent.to_be_bytes());
+        slot.extend((entry.string as u32).to_be_bytes());
+        slot.extend((entry.count as u32).to_be_bytes());
+        slot.extend(entry.offset.to_be_bytes());
+        let place = (number as usize - 1) * SLOT;
+        self.tree[place..place + SLOT].copy_from_slice(&slot);
+    }
+
+    fn strings(&self) -> Vec<&[u8]> {
+        let text = &self.text[..self.record.text as usize];
+        let strings = text.split_inclusive(|byte| *byte == 0);
+        strings.map(|string| &string[..string.len() - 1]).collect()
+    }
+
+    /// The lowest string that is the name: "each once, reused by name".
+    fn string_of(&self, name: &[u8]) -> Option<u64> {
+        let strings = self.strings();
+        let found = strings.iter().position(|string| *string == name);
+        found.map(|number| number as u64)
+    }
+
+    fn add_string(&mut self, name: &[u8]) {
+        let place = self.record.text as usize;
+        self.text[place..place + name.len()].copy_from_slice(name);
+        self.text[place + name.len()] = 0;
+        self.record.text += name.len() as u64 + 1;
+        self.record.strings += 1;
+    }
+
+    /// 17: "the child exists already": a node of that parent with that name.
+    fn has_child(&self, parent: u64, name: &[u8]) -> bool {
+        let strings = self.strings();
+        (1..=self.record.nodes).any(|number| {
+            let node = self.node(number);
+            node.parent == parent && strings[node.string as usize] == name
+        })
+    }
+
+    /// "Finished size = 168 + data bytes + string bytes with their zeros + 13 for each Void node + 25 for each other."
+    pub fn finished(&self) -> u64 {
+        let entries: u64 = (1..=self.record.nodes)
+            .map(|number| self.node(number).kind.entry() as u64)
+            .sum();
+        HEADER + self.record.data + self.record.text + entries
+    }
+
+    /// 24, then 22: "writer closed or stopped".
+    fn judge(&self) -> Result<(), Refusal> {
+        if !self.belongs() {
+            return Err((24, 0));
+        }
+        match self.record.state {
+            State::Open => Ok(()),
+            _ => Err((22, 0)),
+        }
+    }
+
+    /// 24 of the writer, over all that is recorded.
+    fn belongs(&self) -> bool {
+        let record = &self.record;
+        let sizes = self.room.len() as u64 == record.length
+            && record.length <= LONGEST_IMAGE
+            && self.text.len() == TEXT_AREA
+            && self.tree.len() == TREE_AREA
+            && record.text <= TEXT_AREA as u64
+            && record.strings <= MOST as u64
+            && record.nodes <= MOST as u64;
+        sizes
+            && self.text_belongs()
+            && (1..=record.nodes).all(|number| self.slot_belongs(number))
+            && u128::from(record.data) + u128::from(LONGEST_IMAGE) < u128::from(u64::MAX)
+            && self.finished() <= record.length
+    }
+
+    /// "the text area does not hold the recorded number of strings in the recorded length".
+    fn text_belongs(&self) -> bool {
+        let text = &self.text[..self.record.text as usize];
+        let zeros = text.iter().filter(|byte| **byte == 0).count() as u64;
+        zeros == self.record.strings && text.last().is_none_or(|byte| *byte == 0)
+    }
+
+    /// "a type or string number does not exist; a parent is not lower than its child; data fall outside what was put".
+    fn slot_belongs(&self, number: u64) -> bool {
+        let Some(entry) = self.slot(number) else {
+            return false;
+        };
+        let end = u128::from(HEADER) + u128::from(self.record.data);
+        let data = entry.kind == Kind::Void
+            || (entry.offset >= HEADER
+                && u128::from(entry.offset) + u128::from(entry.bytes()) <= end);
+        entry.string < self.record.strings && entry.parent < number && data
+    }
+}
