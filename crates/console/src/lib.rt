@@ -1,4 +1,6 @@
-// What the programs share: text, numbers and refusals on standard output, and, for tests, images on standard input.
+// What the programs share: text, numbers, refusals and elements on standard output, and, for tests, images on standard input.
+use aff_format::Element;
+use aff_format::ElementAnswer;
 use aff_format::Refusal;
 use aff_format::number;
 use libc::STDIN_FILENO;
@@ -8,6 +10,14 @@ ghost use lib.ListN.{length};
 
 pub fn text(bytes: &[u8]) {
     io::write_all(STDOUT_FILENO, bytes);
+}
+
+// The first bytes of a run; nothing where it has fewer.
+pub fn front(bytes: &[u8], size: usize) {
+    if bytes.len() < size {
+        return;
+    }
+    text(&bytes[..size]);
 }
 
 pub fn decimal(n: u64) {
@@ -20,6 +30,42 @@ pub fn refusal(refusal: Refusal) {
     decimal(refusal.number() as u64);
     text(b" ");
     decimal(refusal.place() as u64);
+}
+
+// A double by its bits in hexadecimal; which NaN it is, is free.
+pub fn real(x: f64) {
+    if x == x {
+        io::print_hex(STDOUT_FILENO, f64::to_bits(x), 16);
+        return;
+    }
+    text(b"nan");
+}
+
+pub fn int(n: i32) {
+    if n < 0 {
+        text(b"-");
+        decimal((-1 - n) as u64 + 1);
+        return;
+    }
+    decimal(n as u64);
+}
+
+// An element, or the refusal, behind a space.
+pub fn element(answer: ElementAnswer) {
+    text(b" ");
+    match answer {
+        ElementAnswer::Value(element) => match element {
+            Element::Byte(n) => decimal(n as u64),
+            Element::Int(n) => int(n),
+            Element::Real(x) => real(x),
+            Element::Pair(x, y) => {
+                real(x);
+                text(b",");
+                real(y);
+            }
+        },
+        ElementAnswer::Refused(why) => refusal(why),
+    }
 }
 
 // Whether there was one more image, and its length.

@@ -1,47 +1,9 @@
 // A room opened and read back: every node's answers, and those of the number behind the last.
 use crate::show;
-use aff_format::Element;
-use aff_format::ElementAnswer;
 use aff_format::NumberAnswer;
 use aff_format::Verdict;
 use aff_open::Reader;
 use aff_read::KindAnswer;
-use libc::STDOUT_FILENO;
-
-// A double by its bits.
-fn real(x: f64) {
-    if x == x {
-        io::print_hex(STDOUT_FILENO, f64::to_bits(x), 16);
-        return;
-    }
-    console::text(b"nan");
-}
-
-fn int(n: i32) {
-    if n < 0 {
-        console::text(b"-");
-        console::decimal((-1 - n) as u64 + 1);
-        return;
-    }
-    console::decimal(n as u64);
-}
-
-fn element(answer: ElementAnswer) {
-    console::text(b" ");
-    match answer {
-        ElementAnswer::Value(element) => match element {
-            Element::Byte(n) => console::decimal(n as u64),
-            Element::Int(n) => int(n),
-            Element::Real(x) => real(x),
-            Element::Pair(x, y) => {
-                real(x);
-                console::text(b",");
-                real(y);
-            }
-        },
-        ElementAnswer::Refused(refusal) => console::refusal(refusal),
-    }
-}
 
 // The elements of a node, and what stands behind them: 16.
 fn elements(
@@ -55,17 +17,17 @@ fn elements(
     console::text(b"  elements");
     let mut k: usize = 0;
     while k < count {
-        element(aff_read::node::element(image, reader, strings, entries, node, k));
+        console::element(aff_read::node::element(image, reader, strings, entries, node, k));
         k += 1;
     }
-    element(aff_read::node::element(image, reader, strings, entries, node, count));
+    console::element(aff_read::node::element(image, reader, strings, entries, node, count));
     console::text(b"\n");
 }
 
 fn path(image: &[u8], reader: Reader, strings: &[u32], entries: &[u32], node: usize) {
     let mut out = [0u8; 1024];
     match aff_read::paths::path(image, reader, strings, entries, node, &mut out) {
-        NumberAnswer::Value(n) => show::front(&out, n),
+        NumberAnswer::Value(n) => console::front(&out, n),
         NumberAnswer::Refused(refusal) => console::refusal(refusal),
     }
 }

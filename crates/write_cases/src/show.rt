@@ -38,14 +38,6 @@ pub fn sum(bytes: &[u8]) {
     io::print_hex(STDOUT_FILENO, number::be64(&sum, 8), 16);
 }
 
-// At most so many bytes of the front.
-pub fn front(bytes: &[u8], size: usize) {
-    if bytes.len() < size {
-        return;
-    }
-    console::text(&bytes[..size]);
-}
-
 // `accepted N` or `refused N P`.
 pub fn answer(answer: NumberAnswer) {
     match answer {

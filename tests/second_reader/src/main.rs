@@ -3,6 +3,7 @@
 #[cfg(feature = "library")]
 mod agree;
 mod answers;
+mod cases;
 mod damage;
 mod format;
 mod images;
@@ -26,6 +27,7 @@ use std::process::ExitCode;
 
 const USAGE: &str = "second_reader list FILE
 second_reader make SEED COUNT FOLDER
+second_reader cases SEED COUNT FOLDER
 second_reader agree SEED COUNT
 second_reader lists SEED COUNT PROGRAM
 second_reader writes SEED COUNT";
@@ -50,6 +52,7 @@ fn run(words: &[&str]) -> Outcome {
     match words {
         ["list", file] => list(Path::new(file)),
         ["make", seed, count, folder] => make(seed.parse()?, count.parse()?, Path::new(folder)),
+        ["cases", seed, count, folder] => cases(seed.parse()?, count.parse()?, Path::new(folder)),
         ["agree", seed, count] => agree(seed.parse()?, count.parse()?),
         ["lists", seed, count, program] => lists(seed.parse()?, count.parse()?, Path::new(program)),
         ["writes", seed, count] => writes(seed.parse()?, count.parse()?),
@@ -77,6 +80,15 @@ fn make(seed: u64, count: u64, folder: &Path) -> Outcome {
         index += &format!("{name} {} bytes  {}\n", image.bytes.len(), image.what);
     }
     std::fs::write(folder.join("INDEX.txt"), index)?;
+    Ok(true)
+}
+
+/// Writes the sample of the gate: FOLDER/stdin has the images, FOLDER/stdout the answers.
+fn cases(seed: u64, count: usize, folder: &Path) -> Outcome {
+    let sample =
+        cases::sample(seed, count).map_err(|number| format!("an accepted image got {number}"))?;
+    std::fs::write(folder.join("stdin"), sample.input)?;
+    std::fs::write(folder.join("stdout"), sample.output)?;
     Ok(true)
 }
 

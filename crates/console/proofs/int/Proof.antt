@@ -11,8 +11,8 @@ use lib.Signed.{ltZ, nonNeg}
 use mir.Syntax.{w32, w64}
 use mir.Val.{Fits, SFits, toZ, ofZ}
 use mir.ValLaws.{toZ-ofZ}
-use Rattle.write_cases.proofs.reading.int.Statement.{statement}
-use Rattle.write_cases.proofs.reading.int.Tie as tie
+use Rattle.console.proofs.int.Statement.{statement}
+use Rattle.console.proofs.int.Tie as tie
 
 abbrev Castable : ℤ → Type 0
 Castable z = SFits w32 z × (T (nonNeg z) × (natAbs z < 2147483648))

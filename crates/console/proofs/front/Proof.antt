@@ -2,8 +2,8 @@
 use borrow.Author.Needs.{needs}
 use mathlib.Core.Path.{sym}
 use lib.Seq.{length-take-le}
-use Rattle.write_cases.proofs.show.front.Statement.{statement}
-use Rattle.write_cases.proofs.show.front.Tie as tie
+use Rattle.console.proofs.front.Statement.{statement}
+use Rattle.console.proofs.front.Tie as tie
 
 slice-aggregate-text : tie.Need-slice-aggregate-text
 slice-aggregate-text c = sym (length-take-le _ _ (search needs))

@@ -4,8 +4,8 @@ use mathlib.Core.Path.{_≡_, sym, subst}
 use mathlib.Core.Bool.{true, not}
 use lib.Dec.{T}
 use lib.Ieee.{Float, nan, inf, fin, isNan, eq}
-use Rattle.write_cases.proofs.reading.real.Statement.{statement}
-use Rattle.write_cases.proofs.reading.real.Tie as tie
+use Rattle.console.proofs.real.Statement.{statement}
+use Rattle.console.proofs.real.Tie as tie
 
 no-nan : (x : Float) → eq x x ≡ true → T (not (isNan x))
 unfolding isNan eq

@@ -1,0 +1,80 @@
+//! The frozen sample of the gate: images and this reader's answers, in the form that the program `second_cases` reads and writes.
+
+use crate::answers::{self, Element, Lent};
+use crate::format::form_for;
+use crate::images;
+use crate::open::open;
+
+/// Larger images are left out, so that the sample stays small.
+const LARGEST: usize = 3000;
+
+/// At most so many elements of a node are written.
+const ELEMENTS: u64 = 8;
+
+/// Images one behind another, each behind its length in 4 bytes, and the answers.
+pub struct Sample {
+    pub input: Vec<u8>,
+    pub output: Vec<u8>,
+}
+
+pub fn sample(seed: u64, count: usize) -> Result<Sample, u32> {
+    let mut input = Vec::new();
+    let mut output = Vec::new();
+    let small = (0..)
+        .map(|number| images::image(seed, number).bytes)
+        .filter(|bytes| bytes.len() <= LARGEST);
+    for (number, bytes) in small.take(count).enumerate() {
+        input.extend((bytes.len() as u32).to_be_bytes());
+        input.extend(&bytes);
+        output.extend(format!("{number}\n").into_bytes());
+        output.extend(answer(&bytes)?);
+    }
+    Ok(Sample { input, output })
+}
+
+/// The refusal, or a line for each node in listing order: the lister's, and behind it the first elements.
+fn answer(image: &[u8]) -> Result<Vec<u8>, u32> {
+    match open(image, &form_for(image)) {
+        Err((number, place)) => Ok(format!("refused {number} {place}\n").into_bytes()),
+        Ok(opened) => nodes(&Lent {
+            image,
+            record: opened.record,
+            strings: &opened.strings,
+            entries: &opened.entries,
+        }),
+    }
+}
+
+fn nodes(lent: &Lent) -> Result<Vec<u8>, u32> {
+    let reader = answers::judged(lent)?;
+    let mut output = Vec::new();
+    for number in reader.order() {
+        let count = reader.count(number)?;
+        output.extend(reader.path(number)?);
+        output.extend(format!(" {} {count}", reader.kind(number)?.word()).into_bytes());
+        for index in 0..count.min(ELEMENTS) {
+            output.extend(element(reader.element(number, index)?).into_bytes());
+        }
+        output.push(b'\n');
+    }
+    Ok(output)
+}
+
+fn element(element: Element) -> String {
+    match element {
+        Element::Byte(byte) => format!(" {byte}"),
+        Element::Int(int) => format!(" {int}"),
+        Element::Real(bits) => format!(" {}", real(bits)),
+        Element::Pair(real_bits, imaginary_bits) => {
+            format!(" {},{}", real(real_bits), real(imaginary_bits))
+        }
+    }
+}
+
+/// A double by its bits; which NaN it is, is free.
+fn real(bits: u64) -> String {
+    if f64::from_bits(bits).is_nan() {
+        return "nan".into();
+    }
+    format!("{bits:016x}")
+}
