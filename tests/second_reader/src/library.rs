@@ -319,9 +319,9 @@ pub fn element(lent: &Lent, node: u64, index: u64) -> Result<(f64, f64), u32> {
     told(number, (value, imaginary), (UNSET, UNSET))
 }
 
-/// The library's writer with all that it is lent.
-struct Writer {
-    room: Vec<u8>,
+/// The library's writer with all that it is lent; the room is in memory or a mapped file.
+struct Writer<Room> {
+    room: Room,
     text: Vec<u8>,
     tree: Vec<u8>,
     numbers: [u64; 7],
@@ -330,22 +330,28 @@ struct Writer {
 
 /// The library's writer for a run, not yet begun.
 pub fn desk(run: &Run) -> Box<dyn Desk> {
-    Box::new(Writer {
-        room: run.room.clone(),
+    Box::new(desk_in(run.room.clone(), run))
+}
+
+/// The library's writer for a run in a room of the caller's.
+pub fn desk_in<Room: AsRef<[u8]> + AsMut<[u8]>>(room: Room, run: &Run) -> impl Desk {
+    Writer {
+        room,
         text: run.text.clone(),
         tree: run.tree.clone(),
         numbers: [0; 7],
         kept: [0; 12],
-    })
+    }
 }
 
-impl Writer {
+impl<Room: AsRef<[u8]> + AsMut<[u8]>> Writer<Room> {
     fn begin(&mut self, form: &[u8], allowance: u64) -> u32 {
+        let room = self.room.as_mut();
         // SAFETY: pointers and lengths are of live slices that do not overlap, here and below.
         unsafe {
             aff_begin(
-                self.room.as_mut_ptr(),
-                self.room.len(),
+                room.as_mut_ptr(),
+                room.len(),
                 form.as_ptr(),
                 form.len(),
                 self.text.as_mut_ptr(),
@@ -360,10 +366,11 @@ impl Writer {
     }
 
     fn make(&mut self, parent: u64, name: &[u8]) -> u32 {
+        let room = self.room.as_ref();
         unsafe {
             aff_make(
-                self.room.as_ptr(),
-                self.room.len(),
+                room.as_ptr(),
+                room.len(),
                 self.numbers.as_mut_ptr(),
                 self.kept.as_ptr(),
                 self.text.as_mut_ptr(),
@@ -378,10 +385,11 @@ impl Writer {
     }
 
     fn put(&mut self, node: u64, kind: u64, bytes: &[u8], allowance: u64) -> u32 {
+        let room = self.room.as_mut();
         unsafe {
             aff_put(
-                self.room.as_mut_ptr(),
-                self.room.len(),
+                room.as_mut_ptr(),
+                room.len(),
                 self.numbers.as_mut_ptr(),
                 self.kept.as_ptr(),
                 self.text.as_ptr(),
@@ -398,10 +406,11 @@ impl Writer {
     }
 
     fn close(&mut self, allowance: u64) -> u32 {
+        let room = self.room.as_mut();
         unsafe {
             aff_close(
-                self.room.as_mut_ptr(),
-                self.room.len(),
+                room.as_mut_ptr(),
+                room.len(),
                 self.numbers.as_mut_ptr(),
                 self.kept.as_ptr(),
                 self.text.as_ptr(),
@@ -421,8 +430,12 @@ impl Writer {
             Alteration::Nodes(number) => self.numbers[4] = number,
             Alteration::Data(number) => self.numbers[5] = number,
             Alteration::Byte(area, place, byte) => {
-                let areas = [&mut self.room, &mut self.text, &mut self.tree];
-                if let Some(old) = areas[area % 3].get_mut(place) {
+                let areas = [self.room.as_mut(), &mut self.text, &mut self.tree];
+                if let Some(old) = areas
+                    .into_iter()
+                    .nth(area % 3)
+                    .and_then(|a| a.get_mut(place))
+                {
                     *old = byte;
                 }
             }
@@ -430,7 +443,7 @@ impl Writer {
     }
 }
 
-impl Desk for Writer {
+impl<Room: AsRef<[u8]> + AsMut<[u8]>> Desk for Writer<Room> {
     fn call(&mut self, call: &Call, allowance: u64) -> Told {
         let number = match call {
             Call::Begin(form) => self.begin(form, allowance),
@@ -449,7 +462,7 @@ impl Desk for Writer {
     }
 
     fn memory(&self) -> [&[u8]; 3] {
-        [&self.room, &self.text, &self.tree]
+        [self.room.as_ref(), &self.text, &self.tree]
     }
 
     fn numbers(&self) -> Numbers {

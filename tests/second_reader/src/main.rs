@@ -8,13 +8,23 @@ mod damage;
 mod format;
 mod images;
 #[cfg(feature = "library")]
+mod kills;
+#[cfg(feature = "library")]
 mod library;
+#[cfg(feature = "library")]
+mod linked;
 mod lists;
+#[cfg(feature = "library")]
+mod mapped;
 mod md5;
 mod open;
+#[cfg(feature = "library")]
+mod plans;
 mod random;
 mod report;
 mod runs;
+#[cfg(feature = "library")]
+mod steps;
 #[cfg(test)]
 mod tests;
 mod writer;
@@ -30,7 +40,9 @@ second_reader make SEED COUNT FOLDER
 second_reader cases SEED COUNT FOLDER
 second_reader agree SEED COUNT
 second_reader lists SEED COUNT PROGRAM
-second_reader writes SEED COUNT";
+second_reader writes SEED COUNT
+second_reader kills SEED COUNT FOLDER
+second_reader steps SEED COUNT FOLDER";
 
 /// True where nothing differs.
 type Outcome = Result<bool, Box<dyn Error>>;
@@ -53,10 +65,9 @@ fn run(words: &[&str]) -> Outcome {
         ["list", file] => list(Path::new(file)),
         ["make", seed, count, folder] => make(seed.parse()?, count.parse()?, Path::new(folder)),
         ["cases", seed, count, folder] => cases(seed.parse()?, count.parse()?, Path::new(folder)),
-        ["agree", seed, count] => agree(seed.parse()?, count.parse()?),
         ["lists", seed, count, program] => lists(seed.parse()?, count.parse()?, Path::new(program)),
         ["writes", seed, count] => writes(seed.parse()?, count.parse()?),
-        _ => Err(USAGE.into()),
+        _ => linked_run(words),
     }
 }
 
@@ -92,21 +103,20 @@ fn cases(seed: u64, count: usize, folder: &Path) -> Outcome {
     Ok(true)
 }
 
-/// Compares the library with this reader over images in memory.
+/// The commands that call the library.
 #[cfg(feature = "library")]
-fn agree(seed: u64, count: u64) -> Outcome {
-    println!("seed {seed}, {count} images");
-    let mut report = Report::default();
-    for number in 0..count {
-        agree::compare(seed, number, &mut report);
-    }
-    agree::limits(&mut report);
-    Ok(report.finish())
+fn linked_run(words: &[&str]) -> Outcome {
+    linked::run(words)
 }
 
 #[cfg(not(feature = "library"))]
-fn agree(_: u64, _: u64) -> Outcome {
-    Err("agree: built without the library; see README.md, feature `library`".into())
+fn linked_run(words: &[&str]) -> Outcome {
+    match words {
+        ["agree" | "kills" | "steps", ..] => {
+            Err("built without the library; see README.md, feature `library`".into())
+        }
+        _ => Err(USAGE.into()),
+    }
 }
 
 /// Compares a program `list` with this reader.

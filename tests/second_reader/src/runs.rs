@@ -89,7 +89,8 @@ pub struct Run {
 }
 
 impl Run {
-    fn desk(&self) -> Writer {
+    /// The model for this run, not yet begun.
+    pub fn desk(&self) -> Writer {
         Writer::lent(self.room.clone(), self.text.clone(), self.tree.clone())
     }
 
@@ -118,6 +119,18 @@ pub fn play(desk: &mut dyn Desk, calls: &[Call], total: u64) -> Vec<Told> {
         answers.push(told);
     }
     answers
+}
+
+/// "child `a` of the root, child `n` of it, put one Int −70 there, close".
+#[cfg(any(test, feature = "library"))]
+pub fn worked_calls() -> Vec<Call> {
+    vec![
+        Call::Begin(Edition::Two.form().to_vec()),
+        Call::Make(0, b"a".to_vec()),
+        Call::Make(1, b"n".to_vec()),
+        Call::Put(2, 3, vec![0xff, 0xff, 0xff, 0xba]),
+        Call::Close,
+    ]
 }
 
 /// A node as the calls describe it.
@@ -481,7 +494,7 @@ pub fn compare(seed: u64, number: u64, other: Option<NewDesk>, report: &mut Repo
     answers.iter().for_each(|told| report.told(told));
     let cuts = cuts(&random, total, run.calls.len());
     if !run.is_altered() {
-        check_whole(&run, &whole, &answers, report);
+        shows_run(&run.calls, &answers, &whole.room, report);
         for cut in &cuts {
             check_cut(&run, *cut, total, report);
         }
@@ -507,19 +520,18 @@ fn cuts(random: &Random, total: u64, calls: usize) -> Vec<u64> {
     cuts
 }
 
-/// After an accepted close the room opens and shows the tree.
-fn check_whole(run: &Run, whole: &Writer, answers: &[Told], report: &mut Report) {
-    let last = run
-        .calls
+/// After an accepted close the room opens and shows the tree that the calls since the last begin describe.
+pub fn shows_run(calls: &[Call], answers: &[Told], room: &[u8], report: &mut Report) {
+    let last = calls
         .iter()
         .rposition(|call| matches!(call, Call::Begin(_)));
     let first = last.expect("a run begins");
-    let (calls, told) = (&run.calls[first..], &answers[first..]);
+    let (calls, told) = (&calls[first..], &answers[first..]);
     let closed = |(call, told): (&Call, &Told)| matches!(call, Call::Close) && told.is_ok();
     let was_closed = calls.iter().zip(told).any(closed);
     report.same("close", &told[0].is_ok(), &was_closed);
     if let (Call::Begin(form), true) = (&calls[0], was_closed) {
-        shows(&whole.room, form, &described(calls, told), report);
+        shows(room, form, &described(calls, told), report);
     }
 }
 

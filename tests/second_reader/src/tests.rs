@@ -5,28 +5,17 @@ use crate::format::{form_for, is_path, is_subkey, Edition, Kind};
 use crate::images::image;
 use crate::open::open;
 use crate::report::Report;
-use crate::runs::{play, Call};
+use crate::runs::{play, worked_calls, Call};
 use crate::writer::{Writer, TEXT_AREA, TREE_AREA};
 
 fn desk(room: usize) -> Writer {
     Writer::lent(vec![0; room], vec![0; TEXT_AREA], vec![0; TREE_AREA])
 }
 
-/// "child `a` of the root, child `n` of it, put one Int −70 there, close".
-fn worked() -> Vec<Call> {
-    vec![
-        Call::Begin(Edition::Two.form().to_vec()),
-        Call::Make(0, b"a".to_vec()),
-        Call::Make(1, b"n".to_vec()),
-        Call::Put(2, 3, vec![0xff, 0xff, 0xff, 0xba]),
-        Call::Close,
-    ]
-}
-
 #[test]
 fn worked_file() {
     let mut desk = desk(214);
-    let answers = play(&mut desk, &worked(), u64::MAX);
+    let answers = play(&mut desk, &worked_calls(), u64::MAX);
     assert_eq!(answers, [Ok(1), Ok(1), Ok(2), Ok(4), Ok(210)]);
     assert_eq!(&desk.room[168..176], b"\xff\xff\xff\xbaa\0n\0");
     let lines = b"/ void 0\n/a void 0\n/a/n int 1\n";
@@ -38,7 +27,7 @@ fn worked_file() {
 fn cut_drill() {
     for total in 0..=215 {
         let mut desk = desk(214);
-        play(&mut desk, &worked(), total);
+        play(&mut desk, &worked_calls(), total);
         let told = open(&desk.room, &Edition::Two.form()).map(|_| ()).err();
         let refused = (total < 215).then_some((3, 0));
         assert_eq!(told, refused, "{total}");
@@ -48,21 +37,21 @@ fn cut_drill() {
 /// "room 167 is 21, room 168 takes an empty tree; room 213 refuses the put above, 214 takes it".
 #[test]
 fn rooms() {
-    let empty = [worked()[0].clone(), Call::Close];
+    let empty = [worked_calls()[0].clone(), Call::Close];
     assert_eq!(
         play(&mut desk(167), &empty, 999),
         [Err((21, 0)), Err((24, 0))]
     );
     assert_eq!(play(&mut desk(168), &empty, 999), [Ok(1), Ok(168)]);
-    assert_eq!(play(&mut desk(213), &worked(), 999)[3], Err((21, 0)));
-    assert_eq!(play(&mut desk(214), &worked(), 999)[3], Ok(4));
+    assert_eq!(play(&mut desk(213), &worked_calls(), 999)[3], Err((21, 0)));
+    assert_eq!(play(&mut desk(214), &worked_calls(), 999)[3], Ok(4));
 }
 
 /// P1 to P10.
 #[test]
 fn cases_on_each_side() {
     let mut desk = desk(214);
-    play(&mut desk, &worked(), u64::MAX);
+    play(&mut desk, &worked_calls(), u64::MAX);
     let opened = open(&desk.room, &Edition::Two.form()).ok().unwrap();
     let lent = Lent {
         image: &desk.room,

@@ -180,8 +180,7 @@ impl Writer {
             return Err((21, 0));
         }
         let offset = HEADER + self.record.data;
-        let stores: Vec<Store> = (offset as usize..).zip(bytes.iter().copied()).collect();
-        let made = self.store(&stores, allowance)?;
+        let made = self.store(&self.putting(bytes), allowance)?;
         let entry = Entry {
             kind,
             count: size / kind.width() as u64,
@@ -193,6 +192,12 @@ impl Writer {
         Ok(made)
     }
 
+    /// The stores of put: its bytes ascending, behind the data put before.
+    pub fn putting(&self, bytes: &[u8]) -> Vec<Store> {
+        let offset = (HEADER + self.record.data) as usize;
+        (offset..).zip(bytes.iter().copied()).collect()
+    }
+
     /// "Close: 24, 22, 23." "Close stores strings, entries, header bytes 1 to 167 ascending, and last the `L` at place 0."
     pub fn close(&mut self, allowance: u64) -> Told {
         self.judge()?;
@@ -202,7 +207,7 @@ impl Writer {
     }
 
     /// The stores of close.
-    fn closing(&self) -> Vec<Store> {
+    pub fn closing(&self) -> Vec<Store> {
         let symbols = &self.text[..self.record.text as usize];
         let tree = self.entries();
         let header = self.header(symbols, &tree);

@@ -1,0 +1,295 @@
+//! Real kills: a process writes a file through the library into a mapped file on disk and is ended by SIGKILL at a random moment; the
+//! file that it leaves is judged.
+
+use crate::library;
+use crate::mapped::Mapped;
+use crate::plans::{self, Left, Plan};
+use crate::random::Random;
+use crate::report::Report;
+use crate::runs::{play, Run};
+use crate::writer::Store;
+use std::collections::BTreeMap;
+use std::io::{self, BufRead, BufReader, Write};
+use std::os::unix::process::ExitStatusExt;
+use std::path::{Path, PathBuf};
+use std::process::{Child, ChildStdout, Command, Stdio};
+use std::time::{Duration, Instant};
+
+/// How often each run is made and killed.
+const KILLS_OF_A_RUN: u64 = 10;
+const SIGKILL: i32 = 9;
+
+/// The run that kill `number` of a seed is of.
+fn run_of(seed: u64, number: u64) -> Run {
+    let random = Random::of(seed, number / KILLS_OF_A_RUN);
+    let nodes = random.pick(&[3, 60, 400, 1200, 2048]);
+    plans::run(&random, nodes, random.pick(&[8, 200]))
+}
+
+/// The process that is killed: the calls of a run through the library, into a mapped file that holds its room. It says when it begins
+/// and when it has closed.
+pub fn write(seed: u64, number: u64, file: &Path) -> io::Result<()> {
+    let run = run_of(seed, number);
+    let mut desk = library::desk_in(Mapped::of(file)?, &run);
+    say("begins")?;
+    let answers = play(&mut desk, &run.calls, u64::MAX);
+    match answers.iter().find(|told| told.is_err()) {
+        Some(told) => Err(io::Error::other(format!("a call was refused: {told:?}"))),
+        None => say("closed"),
+    }
+}
+
+fn say(word: &str) -> io::Result<()> {
+    let mut out = io::stdout();
+    writeln!(out, "{word}")?;
+    out.flush()
+}
+
+/// When a process is killed: so long after it begins, or after a store is seen in the file.
+struct Moment {
+    seen: Option<usize>,
+    more: Duration,
+}
+
+/// A process that writes, with what it says.
+struct Writing {
+    child: Child,
+    words: BufReader<ChildStdout>,
+}
+
+impl Writing {
+    fn start(seed: u64, number: u64, file: &Path) -> io::Result<Writing> {
+        let mut child = Command::new(std::env::current_exe()?)
+            .args(["write", &seed.to_string(), &number.to_string()])
+            .arg(file)
+            .stdout(Stdio::piped())
+            .spawn()?;
+        let words = BufReader::new(child.stdout.take().expect("piped"));
+        let mut writing = Writing { child, words };
+        match writing.word()?.as_str() {
+            "begins" => Ok(writing),
+            word => Err(io::Error::other(format!("not 'begins' but '{word}'"))),
+        }
+    }
+
+    fn word(&mut self) -> io::Result<String> {
+        let mut line = String::new();
+        self.words.read_line(&mut line)?;
+        Ok(line.trim_end().to_string())
+    }
+
+    /// Waits until a store is seen, or until the process has ended.
+    fn watch(&mut self, mapped: &Mapped, (place, byte): Store) -> io::Result<()> {
+        let mut looks = 0_u64;
+        while mapped.byte(place) != byte {
+            looks += 1;
+            if looks.is_multiple_of(65_536) && self.child.try_wait()?.is_some() {
+                break;
+            }
+        }
+        Ok(())
+    }
+
+    /// Kills it; tells whether the signal was what ended it, and whether it had said that it closed.
+    fn kill(mut self) -> io::Result<(bool, bool)> {
+        self.child.kill()?;
+        let closed = self.word()? == "closed";
+        let status = self.child.wait()?;
+        Ok((status.signal() == Some(SIGKILL), closed))
+    }
+
+    /// Waits for its end.
+    fn end(mut self) -> io::Result<()> {
+        let closed = self.word()? == "closed";
+        match self.child.wait()?.success() && closed {
+            true => Ok(()),
+            false => Err(io::Error::other(
+                "a process that was not killed did not close",
+            )),
+        }
+    }
+}
+
+/// Waits without sleep: a sleeping process is woken too late.
+fn spin(time: Duration) {
+    let start = Instant::now();
+    while start.elapsed() < time {
+        std::hint::spin_loop();
+    }
+}
+
+/// What the killed processes left.
+#[derive(Default)]
+struct Counts {
+    left: BTreeMap<Left, usize>,
+    inside_close: usize,
+    in_order: usize,
+    by_signal: usize,
+    closed: usize,
+}
+
+/// A run that is made again and again in one file.
+struct Target {
+    seed: u64,
+    plan: Plan,
+    file: PathBuf,
+    times: Times,
+}
+
+/// What a run that is not killed takes: in all; from the last store before close to the first of close; from that to the last.
+#[derive(Clone, Copy, Default)]
+struct Times {
+    run: Duration,
+    sums: Duration,
+    stores: Duration,
+}
+
+/// About how long a signal takes to end a process.
+const SIGNAL: Duration = Duration::from_micros(40);
+
+impl Target {
+    /// Makes the run once without a kill: the file must be whole.
+    fn new(seed: u64, number: u64, folder: &Path, report: &mut Report) -> io::Result<Target> {
+        let mut target = Target {
+            seed,
+            plan: Plan::of(run_of(seed, number), report),
+            file: folder.join("kill.aff"),
+            times: Times::default(),
+        };
+        target.times = target.timed(number)?;
+        let room = std::fs::read(&target.file)?;
+        report.same("not killed", &true, &(room == target.plan.finished));
+        Ok(target)
+    }
+
+    /// A process that writes into the file as it was before the run.
+    fn start(&self, number: u64) -> io::Result<Writing> {
+        std::fs::write(&self.file, &self.plan.run.room)?;
+        Writing::start(self.seed, number, &self.file)
+    }
+
+    fn timed(&self, number: u64) -> io::Result<Times> {
+        let mut writing = self.start(number)?;
+        let mapped = Mapped::of(&self.file)?;
+        let start = Instant::now();
+        let close = self.plan.before_close;
+        let mut seen = |store: Option<usize>| -> io::Result<Duration> {
+            if let Some(store) = store {
+                writing.watch(&mapped, self.plan.stores[store])?;
+            }
+            Ok(start.elapsed())
+        };
+        let put = seen(self.last_put())?;
+        let first = seen((close..self.plan.stores.len()).find(|i| self.is_visible(*i)))?;
+        let last = seen((close..self.plan.stores.len()).rfind(|i| self.is_visible(*i)))?;
+        writing.end()?;
+        Ok(Times {
+            run: start.elapsed(),
+            sums: first - put,
+            stores: last - first,
+        })
+    }
+
+    /// Starts a process, kills it, and hands back the file that it left; one that said that it closed must have left it whole.
+    fn left_by(
+        &self,
+        number: u64,
+        moment: Moment,
+        counts: &mut Counts,
+        report: &mut Report,
+    ) -> io::Result<Vec<u8>> {
+        let mut writing = self.start(number)?;
+        if let Some(store) = moment.seen {
+            writing.watch(&Mapped::of(&self.file)?, self.plan.stores[store])?;
+        }
+        spin(moment.more);
+        let (by_signal, closed) = writing.kill()?;
+        counts.by_signal += usize::from(by_signal);
+        counts.closed += usize::from(closed);
+        let room = std::fs::read(&self.file)?;
+        let whole = room == self.plan.finished;
+        report.same("closed, and not whole", &false, &(closed && !whole));
+        Ok(room)
+    }
+
+    /// A moment: in the whole time of the run, at any store, or about the stores of close.
+    fn moment(&self, random: &Random) -> Moment {
+        let part = |time: Duration| time * random.below(1001) as u32 / 1000;
+        match random.below(10) {
+            0..=2 => Moment {
+                seen: None,
+                more: part(self.times.run * 11 / 10),
+            },
+            3..=4 => {
+                let any = random.below(self.plan.before_close);
+                Moment {
+                    seen: (any..self.plan.before_close).find(|i| self.is_visible(*i)),
+                    more: part(SIGNAL),
+                }
+            }
+            _ => {
+                let early = self.times.sums.saturating_sub(2 * SIGNAL);
+                Moment {
+                    seen: self.last_put(),
+                    more: early + part(self.times.stores + 3 * SIGNAL),
+                }
+            }
+        }
+    }
+
+    /// The last store before close that can be seen.
+    fn last_put(&self) -> Option<usize> {
+        (0..self.plan.before_close).rfind(|i| self.is_visible(*i))
+    }
+
+    /// Whether a store can be seen when it is made: it changes a byte, and not the first, which is stored twice.
+    fn is_visible(&self, store: usize) -> bool {
+        let (place, byte) = self.plan.stores[store];
+        place > 0 && self.plan.run.room[place] != byte
+    }
+}
+
+/// Kills so many processes; counts what they left.
+pub fn kills(seed: u64, count: u64, folder: &Path, report: &mut Report) -> io::Result<()> {
+    std::fs::create_dir_all(folder)?;
+    let mut counts = Counts::default();
+    let mut target: Option<Target> = None;
+    for number in 0..count {
+        report.begin_run(seed, number);
+        if number % KILLS_OF_A_RUN == 0 {
+            target = Some(Target::new(seed, number, folder, report)?);
+        }
+        let target = target.as_ref().expect("made at number 0");
+        let random = Random::of(!seed, number);
+        let room = target.left_by(number, target.moment(&random), &mut counts, report)?;
+        if let Some(left) = target.plan.left(&room, report) {
+            *counts.left.entry(left).or_insert(0) += 1;
+        }
+        counts.inside_close += usize::from(target.plan.is_inside_close(&room));
+        counts.in_order += usize::from(target.plan.is_in_order(&room));
+        report.end(&room);
+    }
+    std::fs::remove_file(folder.join("kill.aff"))?;
+    counts.print(count);
+    Ok(())
+}
+
+impl Counts {
+    fn print(&self, count: u64) {
+        let of = |left| self.left.get(&left).copied().unwrap_or(0);
+        println!(
+            "{count} processes: {} ended by SIGKILL, of all {} had said that they closed",
+            self.by_signal, self.closed
+        );
+        println!(
+            "left as it was: {}, refused by 3: {}, whole: {}",
+            of(Left::AsItWas),
+            of(Left::Refused),
+            of(Left::Whole)
+        );
+        println!(
+            "killed between the stores of a close: {}; exactly the first so many stores in order: {}",
+            self.inside_close, self.in_order
+        );
+    }
+}

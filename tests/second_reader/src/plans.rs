@@ -1,0 +1,236 @@
+//! Runs of the writer for processes that are stopped half-way: the file before, the calls, the stores in document 01's order, and
+//! what may be left of the file at any moment.
+
+use crate::format::{Edition, Kind, Refusal};
+use crate::images::subkey;
+use crate::library;
+use crate::open::open;
+use crate::random::Random;
+use crate::report::Report;
+use crate::runs::{play, shows_run, worked_calls, Call, Run};
+use crate::writer::{Store, Writer, TEXT_AREA, TREE_AREA};
+
+/// A run that is accepted to its end, with what is known of it beforehand.
+pub struct Plan {
+    pub run: Run,
+    /// Every store of its calls, in order.
+    pub stores: Vec<Store>,
+    /// How many of them come before those of close.
+    pub before_close: usize,
+    /// The file after the last store.
+    pub finished: Vec<u8>,
+}
+
+/// What a stopped process left.
+#[derive(Clone, Copy, PartialEq, Eq, PartialOrd, Ord, Debug)]
+pub enum Left {
+    AsItWas,
+    Refused,
+    Whole,
+}
+
+/// The calls of a run of so many nodes, and the file that it writes into. `most` is how many elements a node gets at most.
+pub fn run(random: &Random, nodes: usize, most: usize) -> Run {
+    let mut calls = vec![Call::Begin(Edition::Two.form().to_vec())];
+    let mut size = 168;
+    for node in 1..=nodes {
+        // A number at the end keeps the names of siblings apart; some names come again below other parents.
+        let parent = random.below(node);
+        let mut name = if random.one_in(3) {
+            b"t".to_vec()
+        } else {
+            subkey(random)[..1].to_vec()
+        };
+        name.extend(node.to_string().bytes());
+        size += name.len() + 26;
+        calls.push(Call::Make(parent as u64, name));
+        if !random.one_in(5) {
+            let code = random.between(2, 5) as u64;
+            let width = Kind::from_code(code).map_or(1, |kind| kind.width());
+            let bytes = random.bytes(random.below(most + 1) * width);
+            size += bytes.len();
+            calls.push(Call::Put(node as u64, code, bytes));
+        }
+    }
+    calls.push(Call::Close);
+    Run {
+        room: before(random, size + random.below(3) * 512),
+        text: random.bytes(TEXT_AREA),
+        tree: random.bytes(TREE_AREA),
+        calls,
+    }
+}
+
+/// Document 01's worked run, in a room of 214 zeros.
+pub fn worked() -> Run {
+    Run {
+        room: vec![0; 214],
+        text: vec![0; TEXT_AREA],
+        tree: vec![0; TREE_AREA],
+        calls: worked_calls(),
+    }
+}
+
+/// A file before a run: zeros, any bytes, or an older file that opens.
+fn before(random: &Random, size: usize) -> Vec<u8> {
+    match random.below(3) {
+        0 => vec![0; size],
+        1 => random.bytes(size),
+        _ => {
+            let room = random.bytes(size);
+            let mut old = Writer::lent(room, vec![0; TEXT_AREA], vec![0; TREE_AREA]);
+            let calls = [Call::Begin(Edition::Two.form().to_vec()), Call::Close];
+            play(&mut old, &calls, u64::MAX);
+            old.room
+        }
+    }
+}
+
+impl Plan {
+    /// Plays a run on the model, call by call; the run must be accepted, and its file must show the tree that it describes.
+    pub fn of(run: Run, report: &mut Report) -> Plan {
+        let mut model = run.desk();
+        let mut stores = Vec::new();
+        let mut before_close = 0;
+        let mut answers = Vec::new();
+        for call in &run.calls {
+            match call {
+                Call::Begin(_) => stores.push((0, 0)),
+                Call::Put(_, _, bytes) => stores.extend(model.putting(bytes)),
+                Call::Close => {
+                    before_close = stores.len();
+                    stores.extend(model.closing());
+                }
+                _ => (),
+            }
+            answers.extend(play(&mut model, std::slice::from_ref(call), u64::MAX));
+        }
+        shows_run(&run.calls, &answers, &model.room, report);
+        Plan {
+            finished: model.room,
+            run,
+            stores,
+            before_close,
+        }
+    }
+
+    /// What is left of the file: as it was, refused by 3, or whole. Anything else is told, and is `None`.
+    pub fn left(&self, room: &[u8], report: &mut Report) -> Option<Left> {
+        let by_library = opened_by_library(room);
+        let here = open(room, &Edition::Two.form()).map(|_| ()).err();
+        report.same("opening", &here, &by_library);
+        let left = match here {
+            _ if room == self.run.room => Some(Left::AsItWas),
+            Some((3, 0)) => Some(Left::Refused),
+            None if room == self.finished => Some(Left::Whole),
+            _ => None,
+        };
+        report.same("as it was, refused by 3, or whole", &true, &left.is_some());
+        left
+    }
+
+    /// Whether a file is exactly what the first so many stores in order leave, for some number of them.
+    pub fn is_in_order(&self, room: &[u8]) -> bool {
+        let before = &self.run.room;
+        let mut different = before.iter().zip(room).filter(|(a, b)| a != b).count();
+        let mut first = before[0];
+        for (place, byte) in &self.stores {
+            if different == 0 {
+                return true;
+            }
+            // Place 0 is stored twice, any other place at most once.
+            let old = match place {
+                0 => std::mem::replace(&mut first, *byte),
+                _ => before[*place],
+            };
+            different += usize::from(*byte != room[*place]);
+            different -= usize::from(old != room[*place]);
+        }
+        different == 0
+    }
+
+    /// Whether some store of close is to be seen in a file, but not all.
+    pub fn is_inside_close(&self, room: &[u8]) -> bool {
+        let seen = |(place, byte): &Store| room[*place] == *byte && self.run.room[*place] != *byte;
+        room != self.finished && self.stores[self.before_close..].iter().any(seen)
+    }
+}
+
+/// What the library's opening tells of a file: none where it accepts.
+fn opened_by_library(room: &[u8]) -> Option<Refusal> {
+    let (mut strings, mut entries) = (vec![0; 2048], vec![0; 2048]);
+    let form = library::form_for(room);
+    library::open(room, &form, &mut strings, &mut entries)
+        .0
+        .err()
+}
+
+#[cfg(test)]
+mod tests {
+    use super::*;
+    use crate::runs::Call;
+
+    fn planned(run: Run) -> Plan {
+        let mut report = Report::default();
+        let plan = Plan::of(run, &mut report);
+        report.end(&[]);
+        assert!(report.finish());
+        plan
+    }
+
+    /// What a file is judged as, and whether anything was told of it.
+    fn judged(plan: &Plan, room: &[u8]) -> (Option<Left>, bool) {
+        let mut report = Report::default();
+        let left = plan.left(room, &mut report);
+        report.end(&[]);
+        (left, report.finish())
+    }
+
+    /// The first so many stores leave the file as it was, refused by 3, or whole.
+    #[test]
+    fn in_order() {
+        let plan = planned(run(&Random::of(3, 7), 4, 3));
+        let mut room = plan.run.room.clone();
+        assert_eq!(judged(&plan, &room), (Some(Left::AsItWas), true));
+        for (made, (place, byte)) in (1..).zip(&plan.stores) {
+            room[*place] = *byte;
+            let left = match made == plan.stores.len() {
+                true => Left::Whole,
+                false if room == plan.run.room => Left::AsItWas,
+                false => Left::Refused,
+            };
+            assert_eq!(judged(&plan, &room), (Some(left), true), "{made}");
+            assert!(plan.is_in_order(&room), "{made}");
+        }
+    }
+
+    /// A file whose `L` stands before all the rest does is none of the three.
+    #[test]
+    fn out_of_order() {
+        let plan = planned(worked());
+        let mut room = plan.finished.clone();
+        let (place, byte) = plan.stores[plan.stores.len() - 2];
+        assert_ne!(byte, plan.run.room[place]);
+        room[place] = plan.run.room[place];
+        assert_eq!(judged(&plan, &room), (None, false));
+        assert!(!plan.is_in_order(&room));
+        assert!(plan.is_inside_close(&room));
+    }
+
+    /// Every call of a planned run is accepted, and the worked run makes 1 + 4 + 210 stores.
+    #[test]
+    fn accepted() {
+        let plan = planned(worked());
+        assert_eq!((plan.before_close, plan.stores.len()), (5, 215));
+        let run = run(&Random::of(5, 5), 2048, 8);
+        let calls = run
+            .calls
+            .iter()
+            .filter(|call| matches!(call, Call::Make(..)));
+        assert_eq!(calls.count(), 2048);
+        let mut desk = run.desk();
+        assert!(play(&mut desk, &run.calls, u64::MAX)
+            .iter()
+            .all(Result::is_ok));
+    }
+}
