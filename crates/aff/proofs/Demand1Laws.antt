@@ -6,18 +6,18 @@ use mathlib.Core.List.{List, [], _∷_}
 use mathlib.Core.Logic.{_↔_, _⊎_, inl, inr}
 use Prim.Native.Nat.{ℕ, _+_, _≤_}
 use native.Mathlib.Omega.{arith}
-use lib.Dec.{eqb, ltb, leb}
+use lib.Dec.{ltb, leb}
 use lib.ListN.{length}
-use borrow.Author.Tests.{eq-eqb, ne-eqb, le-ltb, ltb-false}
+use borrow.Author.Tests.{eq-eqb, ne-eqb, le-ltb, ltb-false, eqb-false}
 use Rattle.aff_format.specs.Answer.{Answer, accepted, refused, Check, check, refusal, firstWrong}
 use Rattle.aff_format.specs.Limits.{imageLimit, textArea, treeArea}
+use Rattle.aff_format.specs.Lowest.{isAt}
 use Rattle.aff_format.specs.Path.{isPath}
 use Rattle.aff_format.specs.Tree.{Tree}
 use Rattle.aff_format.specs.declared.refusal.Told.{Told}
-use Rattle.aff_format.proofs.AnswerLaws.{not-both}
+use Rattle.aff_format.proofs.AnswerLaws.{Others, others-told}
 use Rattle.aff_open.specs.Belongs.{belongs}
 use Rattle.aff_open.specs.Faults.{AllHold, FirstFails, Settled}
-use Rattle.aff_open.specs.Nodes.{isAt}
 use Rattle.aff_open.specs.Opening.{stringsAfter, entriesAfter}
 use Rattle.aff_open.specs.Reader.{noReader}
 use Rattle.aff_open.specs.declared.reader.Reader.{Reader}
@@ -44,15 +44,8 @@ use Rattle.aff.specs.Demand1.{NotBy, Is24, Not24, EachReading, EachWriti
 
 -- ---- Checks that tell other numbers.
 
-abbrev pub Others : ℕ → List Check → Type 0
-Others n [] = Unit {0}
-Others n (check wrong t ∷ checks) = (eqb (t .number) n ≡ false) × Others n checks
-
 pub others-not : {A : Type 0} (n : ℕ) (checks : List Check) (a : A) → Others n checks → NotBy n (firstWrong checks a)
-others-not n [] a o t h e = not-both (sym h)
-others-not n (check true r ∷ checks) a o t h e =
-    let q : r ≡ t = cc in true≢false (sym (eq-eqb (r .number) n (ap (λ (x : Told). x .number) q ∙ e)) ∙ o .0)
-others-not n (check false r ∷ checks) a o t h e = others-not n checks a (o .1) t h e
+others-not n checks a o t h e = eqb-false (t .number) n (others-told n checks o a h) e
 
 -- A call that judges 24 first does not answer it where the record belongs.
 not-24 : {A : Type 0} {b : Bool} → b ≡ true → (checks : List Check) (a : A) → Others 24 checks

@@ -15,6 +15,7 @@ use Rattle.aff_format.specs.Answer.{accepted, refused, check, refusal}
 use Rattle.aff_format.specs.Bytes.{part}
 use Rattle.aff_format.specs.Element.{elementAt}
 use Rattle.aff_format.specs.Kind.{elementSize, isVoid}
+use Rattle.aff_format.specs.Lowest.{isAt}
 use Rattle.aff_format.specs.Path.{isPath, WellFormed}
 use Rattle.aff_format.specs.Tree.{frontBy}
 use Rattle.aff_format.specs.declared.edition.Edition.{Edition}
@@ -23,7 +24,7 @@ use Rattle.aff_format.proofs.EditionLaws.{edition-of-number}
 use Rattle.aff_format.proofs.PathLaws.{path-sound, path-complete}
 use Rattle.aff_format.proofs.TreeLaws.{front-same}
 use Rattle.aff_open.specs.Belongs.{Belongs, belongs}
-use Rattle.aff_open.specs.Nodes.{nodeEntry, isAt}
+use Rattle.aff_open.specs.Nodes.{nodeEntry}
 use Rattle.aff_open.specs.Obeys.{Obeys}
 use Rattle.aff_open.specs.Opening.{opened, readerFor, stringsAfter, entriesAfter}
 use Rattle.aff_open.specs.Recorded.{recordedEntry}

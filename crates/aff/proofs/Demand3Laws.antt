@@ -9,11 +9,12 @@ use lib.Dec.{eqb, ltb}
 use lib.ListN.{length, getD, set, take, length-set}
 use lib.Seq.{take-length, getD-set-same}
 use borrow.Author.Tests.{eq-eqb, le-ltb, ltb-true}
-use Rattle.aff_format.specs.Answer.{Answer, accepted, refused, check, refusal, refusalAt, firstWrong}
+use Rattle.aff_format.specs.Answer.{Answer, accepted, refused, check, refusal, refusalAt}
 use Rattle.aff_format.specs.Edition.{signatureText}
 use Rattle.aff_format.specs.Bytes.{sameBytes}
 use Rattle.aff_format.specs.Limits.{imageLimit, stringLimit, nodeLimit}
 use Rattle.aff_format.specs.declared.refusal.Told.{Told}
+use Rattle.aff_format.proofs.AnswerLaws.{last-told}
 use Rattle.aff_open.specs.Opening.{lentWrong, openChecks, opened}
 use Rattle.aff_open.specs.Sections.{textEdition, isKnown}
 use Rattle.aff_write.specs.Begin.{beginStores, beginAnswer}
@@ -51,26 +52,16 @@ zero-refused image form f lo hi z =
 
 -- ---- A begin that is refused.
 
-told-is : {t u : Told} → _≡_ {A = Answer ℕ} (refused t) (refused u) → u ≡ t
-told-is h = cc
-
--- A 23 of begin tells its allowance, which is below 1.
-spent-told : (a b less : Bool) (w n : ℕ) (t : Told)
-    → firstWrong (check a (refusal 1) ∷ check b (refusal 21) ∷ check less (refusalAt 23 w) ∷ []) n ≡ refused t
-    → eqb (t .number) 23 ≡ true → (less ≡ true) × (t .place ≡ w)
-spent-told true b less w n t h e = absurd (true≢false (sym e ∙ ap (λ (x : Told). eqb (x .number) 23) (told-is h)))
-spent-told false true less w n t h e = absurd (true≢false (sym e ∙ ap (λ (x : Told). eqb (x .number) 23) (told-is h)))
-spent-told false false true w n t h e = (refl, ap (λ (x : Told). x .place) (told-is h))
-spent-told false false false w n t h e = absurd (let z : _≡_ {A = ℕ} 0 1 = cc in omega arith)
-
 module _ (room form text tree : List ℕ) (allowance : ℕ) (t : Told) (h : beginAnswer room form text tree allowance ≡ refused t) where
+  -- A 23 tells the allowance, which is below 1.
   no-stores : (b : Bool) → eqb (t .number) 23 ≡ b → take (cond b (t .place) 0) beginStores ≡ []
   unfolding beginAnswer
   no-stores false e = refl
   no-stores true e =
-      let q = spent-told (lentWrongHere room form text tree) (ltb (length room) dataPlace) (ltb allowance 1) allowance 1 t h e in
-      let l = ltb-true allowance 1 (q .0) in
-      let z : t .place ≡ 0 = omega (arith, q .1) in
+      let q = last-told 23 (check (lentWrongHere room form text tree) (refusal 1) ∷ check (ltb (length room) dataPlace) (refusal 21) ∷ []) (refl, (refl, tt))
+      (ltb allowance 1) (refusalAt 23 allowance) 1 h e in
+      let l = ltb-true allowance 1 (q .1) in
+      let z : t .place ≡ 0 = omega (arith, ap (λ (x : Told). x .place) (q .2)) in
       rw z
 
   none-stored : begun room form text tree allowance .stores ≡ []

@@ -1,7 +1,7 @@
 -- Demand 2. Opening accepts a file exactly when it obeys the format, and else tells the first rule that it breaks; lookup names the node with the
 -- path; name, view and element are the bytes that the node's entry names. So no opener that accepts or refuses all, and no lookup that always
 -- names the root, can pass. All is said of the definitions that the contracts cite. `Obeys` and `rules`, in crates/aff_open/specs, are document 01's
--- rules with no trace of how they are checked; `LowestWith`, `NoneWith` and `OnlyWith` stand in crates/aff_read/proofs, LookupLaws and UniqueLaws.
+-- rules with no trace of how they are checked.
 use mathlib.Core.Path.{_≡_}
 use mathlib.Core.Bool.{cond}
 use mathlib.Core.List.{List, [], _∷_}
@@ -27,10 +27,9 @@ use Rattle.aff_open.specs.declared.reader.Reader.{Reader}
 use Rattle.aff_read.specs.Answers.{nameAnswer, kindAnswer, countAnswer, viewAnswer, elementAnswer}
 use Rattle.aff_read.specs.Calls.{editionBy, lookupAnswer, order}
 use Rattle.aff_read.specs.Cases.{AllHold, caseTable}
+use Rattle.aff_read.specs.Lookup.{LowestWith, NoneWith, OnlyWith}
 use Rattle.aff_read.specs.Once.{occurrences}
 use Rattle.aff_read.specs.Recall.{nameAt, pathAt}
-use Rattle.aff_read.proofs.LookupLaws.{LowestWith, NoneWith}
-use Rattle.aff_read.proofs.UniqueLaws.{OnlyWith}
 use Rattle.aff_run.specs.Shows.{PartIs, Absent}
 
 -- The bytes that an entry names: its count of elements, from its offset on; none where it is Void.

@@ -1,11 +1,12 @@
 -- Laws of answers and of checks in order. Assumes nothing.
-use mathlib.Core.Path.{_≡_, refl}
-use mathlib.Core.Bool.{Bool, true, false}
+use mathlib.Core.Path.{_≡_, refl, sym, ap, _∙_}
+use mathlib.Core.Bool.{Bool, true, false, true≢false}
 use mathlib.Core.List.{List, [], _∷_, _++_}
 use Prim.Native.Nat.{ℕ}
 use native.Mathlib.Omega.{arith}
+use lib.Dec.{eqb}
 use Rattle.aff_format.specs.declared.refusal.Told.{Told}
-use Rattle.aff_format.specs.Answer.{Answer, accepted, refused, Check, check, unless, firstWrong, Clear}
+use Rattle.aff_format.specs.Answer.{Answer, accepted, refused, Check, check, firstWrong, Clear}
 
 -- No answer is both accepted and refused.
 pub not-both : {A X : Type 0} {a : A} {r : Told} → refused r ≡ accepted a → X
@@ -65,3 +66,25 @@ passed-before (check false q ∷ before) after a b e = passed-before before afte
 pub clear-both : (before after : List Check) → Clear (before ++ after) → Clear before × Clear after
 clear-both [] after c = (tt, c)
 clear-both (check wrong r ∷ before) after c = let (a, b) = clear-both before after (c .1) in ((c .0, a), b)
+
+-- ---- By number.
+
+-- The checks tell other numbers than n.
+abbrev pub Others : ℕ → List Check → Type 0
+Others n [] = Unit {0}
+Others n (check wrong t ∷ checks) = (eqb (t .number) n ≡ false) × Others n checks
+
+pub others-told : {A : Type 0} (n : ℕ) (checks : List Check) → Others n checks → (a : A) {t : Told} → firstWrong checks a ≡ refused t → eqb (t .number) n ≡ false
+others-told n [] o a e = not-both (sym e)
+others-told n (check true q ∷ checks) o a {t} e = let p : t ≡ q = cc in rw p (o .0)
+others-told n (check false q ∷ checks) o a e = others-told n checks (o .1) a e
+
+-- A number that the last check alone can tell: those before it found nothing wrong.
+pub last-told : {A : Type 0} (n : ℕ) (before : List Check) → Others n before → (wrong : Bool) (r : Told) (a : A) {t : Told}
+    → firstWrong (before ++ (check wrong r ∷ [])) a ≡ refused t → eqb (t .number) n ≡ true → Clear before × (wrong ≡ true) × (t ≡ r)
+last-told n [] o true r a e h = (tt, refl, cc)
+last-told n [] o false r a e h = not-both (sym e)
+last-told n (check true q ∷ before) o wrong r a {t} e h =
+    let p : t ≡ q = cc in absurd (true≢false (sym h ∙ ap (λ (x : Told). eqb (x .number) n) p ∙ o .0))
+last-told n (check false q ∷ before) o wrong r a e h =
+    let c = last-told n before (o .1) wrong r a e h in ((refl, c .0), c .1, c .2)

@@ -1,7 +1,7 @@
 -- Kinds: code and kind belong to each other, and the sizes of elements and entries. By cases. Assumes nothing.
 use borrow.Author.Tests.{eqb-true}
 use mathlib.Core.Path.{_≡_, refl, sym, ap, _∙_}
-use mathlib.Core.Bool.{Bool, true, false, cond}
+use mathlib.Core.Bool.{Bool, true, false, cond, true≢false}
 use mathlib.Core.List.{List}
 use Prim.Native.Nat.{ℕ, _*_, _/_, _≤_, _<_}
 use native.Mathlib.Nat.{div-one}
@@ -52,6 +52,20 @@ countIn-fits Char l = omega arith
 countIn-fits Int l = omega arith
 countIn-fits Double l = omega arith
 countIn-fits Complex l = omega arith
+
+pub countIn-few : (k : Kind) (l : List ℕ) → countIn k l ≤ length l
+countIn-few Void l = omega arith
+countIn-few Char l = omega arith
+countIn-few Int l = omega arith
+countIn-few Double l = omega arith
+countIn-few Complex l = omega arith
+
+pub countIn-void : (k : Kind) (l : List ℕ) → isVoid k ≡ true → countIn k l ≡ 0
+countIn-void Void l h = refl
+countIn-void Char l h = absurd (true≢false (sym h))
+countIn-void Int l h = absurd (true≢false (sym h))
+countIn-void Double l h = absurd (true≢false (sym h))
+countIn-void Complex l h = absurd (true≢false (sym h))
 
 pub countIn-div : (k : Kind) (l : List ℕ) → isVoid k ≡ false → countIn k l ≡ length l / elementSize k
 countIn-div Void l h = let z : _≡_ {A = ℕ} 0 1 = cc in absurd (omega arith)

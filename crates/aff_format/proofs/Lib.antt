@@ -1,4 +1,5 @@
 -- Laws of the definitions in specs/, which proofs of this crate and of those above cite.
+pub mod TestLaws
 pub mod AnswerLaws
 pub mod VerdictLaws
 pub mod LowestLaws

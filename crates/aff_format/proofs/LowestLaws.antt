@@ -7,7 +7,7 @@ use Prim.Native.Nat.{ℕ, zero, suc, _+_, _-_, _≤_, _<_}
 use native.Mathlib.Nat.{eq-or-lt-of-le}
 use native.Mathlib.Omega.{arith}
 use Rattle.aff_format.specs.Answer.{Check, Clear}
-use Rattle.aff_format.specs.Lowest.{lowestFrom, checkLowest}
+use Rattle.aff_format.specs.Lowest.{lowestFrom, isAt, checkLowest}
 use Rattle.aff_format.specs.declared.lowest.Lowest.{Lowest}
 use Rattle.aff_format.specs.declared.lowest.Lowest.the-variants.{Nothing, At}
 
@@ -78,6 +78,11 @@ unfolding lowestFrom
 lowest-same test other zero k h = refl
 lowest-same test other (suc left) k h =
     rw (h k (omega arith) (omega arith), lowest-same test other left (k + 1) (λ j lo hi. h j (omega arith) (omega arith)))
+
+-- Where the test finds none, there is none.
+pub none-at : (l : Lowest) → isAt l ≡ false → l ≡ Nothing
+none-at Nothing h = refl
+none-at (At k) h = absurd (true≢false h)
 
 -- A check that tells the lowest finds nothing wrong where there is none.
 pub clear-lowest : (number : ℕ) (l : Lowest) (checks : List Check) → Clear (checkLowest number l ∷ checks) → (l ≡ Nothing) × Clear checks

@@ -1,6 +1,6 @@
 -- `sameBytes` tells equality, and the two runs may be compared byte by byte from the front. By induction on the runs.
 use mathlib.Core.Path.{_≡_, refl, sym, ap, ap₂, _∙_}
-use mathlib.Core.Bool.{Bool, true, false, _&&_, true≢false}
+use mathlib.Core.Bool.{Bool, true, false, true≢false}
 use mathlib.Core.List.{List, [], _∷_}
 use Prim.Native.Nat.{ℕ, _+_, _<_, _≤_}
 use native.Mathlib.Numerals.{add-one}
@@ -9,10 +9,7 @@ use lib.ListN.{length, getD, drop, drop-of-length-le}
 use lib.Seq.{drop-cons}
 use borrow.Author.Tests.{eq-eqb, ne-eqb, eqb-true}
 use Rattle.aff_format.specs.Bytes.{sameBytes}
-
-and-true : (a b : Bool) → (a && b) ≡ true → (a ≡ true) × (b ≡ true)
-and-true true b h = (refl, h)
-and-true false b h = absurd (true≢false (sym h))
+use Rattle.aff_format.proofs.TestLaws.{both}
 
 pub same-refl : (a : List ℕ) → sameBytes a a ≡ true
 unfolding sameBytes
@@ -25,7 +22,7 @@ same-eq [] [] h = refl
 same-eq [] (y ∷ b) h = absurd (true≢false (sym h))
 same-eq (x ∷ a) [] h = absurd (true≢false (sym h))
 same-eq (x ∷ a) (y ∷ b) h =
-    let (e, t) = and-true (eqb x y) (sameBytes a b) h in
+    let (e, t) = both (eqb x y) (sameBytes a b) h in
     ap₂ (λ (z : ℕ) (l : List ℕ). z ∷ l) (eqb-true x y e) (same-eq a b t)
 
 pub same-ne : (a b : List ℕ) → sameBytes a b ≡ false → a ≡ b → ⊥

@@ -23,6 +23,20 @@ last-append : (d : ℕ) (s : List ℕ) (x : ℕ) (t : List ℕ) → lastOr d (s 
 last-append d [] x t = refl
 last-append d (y ∷ s) x t = last-append y s x t
 
+last-at : (x : ℕ) (l : List ℕ) → lastOr x l ≡ getD (x ∷ l) (length l) 0
+last-at x [] = refl
+last-at x (y ∷ l) = last-at y l
+
+pub endsInZero-none : (l : List ℕ) → length l ≡ 0 → true ≡ endsInZero l
+unfolding endsInZero
+endsInZero-none [] h = refl
+endsInZero-none (x ∷ l) h = absurd (omega arith)
+
+pub endsInZero-last : (l : List ℕ) → 0 < length l → eqb (getD l (length l - 1) 0) 0 ≡ endsInZero l
+unfolding endsInZero
+endsInZero-last [] h = absurd (omega arith)
+endsInZero-last (x ∷ l) h = let n : suc (length l) - 1 ≡ length l = omega arith in rw (n, last-at x l)
+
 pub endsInZero-append : (s : List ℕ) (x : ℕ) (t : List ℕ) → endsInZero (s ++ (x ∷ t)) ≡ endsInZero (x ∷ t)
 unfolding endsInZero
 endsInZero-append s x t = ap (λ (y : ℕ). eqb y 0) (last-append 0 s x t)
@@ -155,6 +169,16 @@ length-upToZero (x ∷ l) = go (eqb x 0) (length-upToZero l)
     go : (b : Bool) → length (upToZero l) ≤ length l → length (cond b [] (x ∷ upToZero l)) ≤ suc (length l)
     go true h = omega arith
     go false h = omega arith
+
+-- It is the front of the run.
+pub take-upToZero : (l : List ℕ) → take (length (upToZero l)) l ≡ upToZero l
+unfolding upToZero
+take-upToZero [] = refl
+take-upToZero (x ∷ l) = go (eqb x 0) (take-upToZero l)
+  where
+    go : (b : Bool) → take (length (upToZero l)) l ≡ upToZero l → take (length (cond b [] (x ∷ upToZero l))) (x ∷ l) ≡ cond b [] (x ∷ upToZero l)
+    go true h = refl
+    go false h = ap (λ (t : List ℕ). x ∷ t) h
 
 pub upToZero-ends : (l : List ℕ) → length (upToZero l) < length l → getD l (length (upToZero l)) 0 ≡ 0
 unfolding upToZero

@@ -10,6 +10,11 @@ unfoldable pub lowestFrom : (ℕ → Bool) → ℕ → ℕ → Lowest
 lowestFrom test zero k = Nothing
 lowestFrom test (suc left) k = cond (test k) (At k) (lowestFrom test left (k + 1))
 
+-- Whether there is one.
+abbrev pub isAt : Lowest → Bool
+isAt Nothing = false
+isAt (At k) = true
+
 -- The check that tells the lowest as its place.
 abbrev pub checkLowest : ℕ → Lowest → Check
 checkLowest number Nothing = check false (refusal number)

@@ -1,6 +1,5 @@
 -- What is decided before the first line, and what then holds: opening decides, then the paths. Assumes nothing.
-use mathlib.Core.Path.{_≡_, refl, sym, ap, _∙_}
-use mathlib.Core.Bool.{Bool, true, false, true≢false}
+use mathlib.Core.Path.{_≡_, sym, ap, _∙_}
 use mathlib.Core.List.{List, _++_}
 use Prim.Native.Nat.{ℕ, _+_}
 use lib.ListN.{length, take, drop}
@@ -8,14 +7,12 @@ use lib.Seq.{take-at}
 use Rattle.aff_format.specs.Answer.{Answer, accepted, refused, Check, firstWrong}
 use Rattle.aff_format.specs.Refusal.{toldRefusal}
 use Rattle.aff_format.specs.Verdict.{verdictTold}
-use Rattle.aff_format.specs.declared.lowest.Lowest.{Lowest}
-use Rattle.aff_format.specs.declared.lowest.Lowest.the-variants.{Nothing, At}
 use Rattle.aff_format.specs.declared.refusal.Refusal.{Refusal}
 use Rattle.aff_format.specs.declared.verdict.Verdict.{Verdict}
 use Rattle.aff_format.specs.declared.verdict.Verdict.the-variants.{Accepted, Refused}
 use Rattle.aff_format.proofs.AnswerLaws.{passed, passed-value, clear-accepts, same-refusal}
+use Rattle.aff_format.proofs.LowestLaws.{none-at}
 use Rattle.aff_open.specs.Belongs.{Belongs}
-use Rattle.aff_open.specs.Nodes.{isAt}
 use Rattle.aff_open.specs.Opening.{opened, openingTold, verdictOf, stringsAfter, entriesAfter}
 use Rattle.aff_open.specs.Sections.{formFor}
 use Rattle.aff_open.specs.declared.opening.Opening.{Opening}
@@ -25,10 +22,6 @@ use Rattle.aff_open.proofs.OpenedLaws.{opened-belongs}
 use Rattle.aff_read.specs.Calls.{order}
 use Rattle.aff_read.proofs.OnceLaws.{order-length}
 use Rattle.aff_list.specs.Lister.{pathChecks, Ready, withPaths, judged}
-
-none-at : (l : Lowest) → isAt l ≡ false → l ≡ Nothing
-none-at Nothing h = refl
-none-at (At k) h = absurd (true≢false h)
 
 -- Behind an accepted opening: the paths decide.
 module _ (image : List ℕ) (reader : Reader) (strings entries : List ℕ) where

@@ -7,10 +7,9 @@ use lib.Dec.{ltb, leb}
 use lib.ListN.{length, take, drop}
 use Rattle.aff_format.specs.Answer.{Answer, accepted, refused, Check, check, refusal, firstWrong}
 use Rattle.aff_format.specs.Bytes.{spliced}
-use Rattle.aff_format.specs.Lowest.{lowestFrom}
+use Rattle.aff_format.specs.Lowest.{lowestFrom, isAt}
 use Rattle.aff_format.specs.declared.lowest.Lowest.the-variants.{Nothing}
 use Rattle.aff_open.specs.Belongs.{Belongs}
-use Rattle.aff_open.specs.Nodes.{isAt}
 use Rattle.aff_open.specs.Opening.{opened, stringsAfter, entriesAfter}
 use Rattle.aff_open.specs.Sections.{formFor}
 use Rattle.aff_open.specs.declared.reader.Reader.{Reader}

@@ -1,30 +1,31 @@
 -- 24 as a test and as document 01's clauses: each says what the other says. And what a call that passes 24 knows of strings, entries and
 -- climbs. Assumes nothing.
 use mathlib.Core.Path.{_≡_, refl, sym, ap, _∙_}
-use mathlib.Core.Bool.{Bool, true, false, not, _&&_, false≢true, and-eq-true-iff, and-assoc, and-false}
+use mathlib.Core.Bool.{true, false, not, _&&_, false≢true, and-assoc, and-false}
 use mathlib.Core.List.{List}
 use Prim.Native.Nat.{ℕ, zero, suc, _+_, _-_, _≤_, _<_}
 use native.Mathlib.Omega.{arith}
 use lib.Dec.{eqb, leb}
 use lib.ListN.{length, getD, drop, length-drop}
-use borrow.Author.Tests.{eqb-true, leb-true, eq-eqb, le-leb, not-false}
+use borrow.Author.Tests.{eqb-true, leb-true, eq-eqb, le-leb, not-true, not-false}
 use Rattle.aff_format.specs.Edition.{editionOf}
 use Rattle.aff_format.specs.Kind.{entrySize}
 use Rattle.aff_format.specs.Limits.{imageLimit, stringLimit, nodeLimit}
-use Rattle.aff_format.specs.Lowest.{lowestFrom}
+use Rattle.aff_format.specs.Lowest.{lowestFrom, isAt}
 use Rattle.aff_format.specs.Tree.{reachesBy}
 use Rattle.aff_format.specs.declared.edition.Edition.{Edition}
 use Rattle.aff_format.specs.declared.edition.FoundEdition.{FoundEdition}
 use Rattle.aff_format.specs.declared.edition.FoundEdition.the-variants.{Known, Unknown}
 use Rattle.aff_format.specs.declared.entry.FoundEntry.the-variants.{Whole}
 use Rattle.aff_format.specs.declared.lowest.Lowest.{Lowest}
-use Rattle.aff_format.specs.declared.lowest.Lowest.the-variants.{Nothing, At}
+use Rattle.aff_format.specs.declared.lowest.Lowest.the-variants.{Nothing}
 use Rattle.aff_format.proofs.EntryLaws.{entry-inside}
 use Rattle.aff_format.proofs.KindLaws.{entry-size-bounds}
-use Rattle.aff_format.proofs.LowestLaws.{none-holds, holds-none, lowest-same}
+use Rattle.aff_format.proofs.LowestLaws.{none-holds, holds-none, lowest-same, none-at}
+use Rattle.aff_format.proofs.TestLaws.{both, all-seven}
 use Rattle.aff_open.specs.Belongs.{belongs, Belongs, sizesBelong, spanInside, sectionsInside, stringLost, nodeLost, noneLost, climbsBelong, nodesBelong, tablesBelong, ParentsCopied}
 use Rattle.aff_open.specs.Climb.{Linked, parentAt}
-use Rattle.aff_open.specs.Nodes.{isAt, climbEndless}
+use Rattle.aff_open.specs.Nodes.{climbEndless}
 use Rattle.aff_open.specs.Reader.{noReader}
 use Rattle.aff_open.specs.Recorded.{foundEntry, recordedEntry, recordedString}
 use Rattle.aff_open.specs.Sections.{isKnown}
@@ -32,26 +33,6 @@ use Rattle.aff_open.specs.declared.reader.Span.{Span}
 use Rattle.aff_open.specs.declared.reader.Reader.{Reader}
 use Rattle.aff_open.proofs.LostLaws.{Kept, stringEnd, string-kept, kept-string, name-until, name-zero, entry-kept, kept-entry, recorded-found}
 use Rattle.aff_open.proofs.ParentLaws.{reaches-same}
-
--- ---- Tests in a row.
-
-both : (a b : Bool) → (a && b) ≡ true → (a ≡ true) × (b ≡ true)
-both a b = and-eq-true-iff a b .0
-
-all-seven : (a b c d e f g : Bool) → (a && (b && (c && (d && (e && (f && g)))))) ≡ true
-    → (a ≡ true) × (b ≡ true) × (c ≡ true) × (d ≡ true) × (e ≡ true) × (f ≡ true) × (g ≡ true)
-all-seven a b c d e f g h =
-    let p = both a (b && (c && (d && (e && (f && g))))) h in
-    let q = both b (c && (d && (e && (f && g)))) (p .1) in
-    let r = both c (d && (e && (f && g))) (q .1) in
-    let s = both d (e && (f && g)) (r .1) in
-    let t = both e (f && g) (s .1) in
-    let u = both f g (t .1) in
-    (p .0, q .0, r .0, s .0, t .0, u .0, u .1)
-
-none-lost : (l : Lowest) → not (isAt l) ≡ true → l ≡ Nothing
-none-lost Nothing h = refl
-none-lost (At k) h = absurd (false≢true h)
 
 known : (f : FoundEdition) → isKnown f ≡ true → (e : Edition) × (f ≡ Known e)
 known (Known e) h = (e, refl)
@@ -163,8 +144,8 @@ belongs-record {image} {reader} {strings} {entries} h =
     let s = sizes-hold image reader strings entries (p .0) in
     let e = known (editionOf (reader .edition)) (s .6) in
     let d = sections-hold image reader (q .0) in
-    let string = strings-kept image (reader .symbols) strings (reader .strings) (none-lost _ (t .0)) in
-    let node = nodes-kept image (reader .strings) (reader .nodes) entries (none-lost _ (n .0)) in
+    let string = strings-kept image (reader .symbols) strings (reader .strings) (none-at _ (not-true _ (t .0))) in
+    let node = nodes-kept image (reader .strings) (reader .nodes) entries (none-at _ (not-true _ (n .0))) in
     record {
       length-recorded = s .0;
       length-allowed = s .1;
@@ -189,7 +170,7 @@ belongs-record {image} {reader} {strings} {entries} h =
       string-exists = λ k l m. node k l m .1 .string;
       node-data = λ k l m. node k l m .1 .inside;
       climb-ends = λ k l m.
-          not-false _ (none-holds (climbEndless (reader .nodes) (recordedEntry image entries)) (reader .nodes) 1 (none-lost _ (n .1)) k (omega arith) (omega arith));
+          not-false _ (none-holds (climbEndless (reader .nodes) (recordedEntry image entries)) (reader .nodes) 1 (none-at _ (not-true _ (n .1))) k (omega arith) (omega arith));
     }
 
 module _ {image : List ℕ} {reader : Reader} {strings entries : List ℕ} (b : Belongs image reader strings entries) where

@@ -15,7 +15,7 @@ use Rattle.aff_format.specs.Bytes.{part, sameBytes}
 use Rattle.aff_format.specs.Edition.{headerSize, headerSumAt, hasCounts, signatureText}
 use Rattle.aff_format.specs.Kind.{elementSize, isVoid}
 use Rattle.aff_format.specs.Limits.{imageLimit, stringLimit, nodeLimit}
-use Rattle.aff_format.specs.Lowest.{lowestFrom}
+use Rattle.aff_format.specs.Lowest.{lowestFrom, isAt}
 use Rattle.aff_format.specs.Strings.{stringsOf, endsInZero, textOf}
 use Rattle.aff_format.specs.declared.section.Section.{Section}
 use Rattle.aff_format.specs.declared.section.Section.the-variants.{Symbol, Tree, Data}
@@ -23,17 +23,18 @@ use Rattle.aff_format.specs.declared.edition.Edition.{Edition}
 use Rattle.aff_format.specs.declared.entry.Entry.{Entry}
 use Rattle.aff_format.specs.declared.refusal.Told.{Told}
 use Rattle.aff_format.proofs.ClimbLaws.{reaches-within}
-use Rattle.aff_format.proofs.LowestLaws.{none-holds, holds-none}
+use Rattle.aff_format.proofs.LowestLaws.{none-holds, holds-none, none-at}
 use Rattle.aff_format.proofs.SameLaws.{same-eq, same-refl, ne-same}
 use Rattle.aff_format.proofs.StringsLaws.{endsInZero-textOf, textOf-stringsOf}
+use Rattle.aff_format.proofs.TestLaws.{or-false}
 use Rattle.aff_open.specs.Faults.{AllHold, FirstFails, Settled, Inside, Summed, Counted, Distinct, Linked, Climbs, NameFree, DataInside, nodeRules, tableRules, sectionRules, editionRules, rules}
-use Rattle.aff_open.specs.Nodes.{nodeEntry, isAt, outside, linkWrong, climbEndless, nameTaken, sameSite, dataOutside}
+use Rattle.aff_open.specs.Nodes.{nodeEntry, outside, linkWrong, climbEndless, nameTaken, sameSite, dataOutside}
 use Rattle.aff_open.specs.Opening.{isEmpty, lentWrong, nodesChecked, tableChecks, formChecks, bodyChecks, openChecks, opened, readerFor, stringIn, entryIn}
 use Rattle.aff_open.specs.Sections.{textEdition, isKnown, editionIn, sectionOffset, sectionSize, sectionRecords, sectionBytes, headerSumWrong, endsPast, sumWrong, countDiffers}
 use Rattle.aff_open.specs.Tables.{repeats, stringsIn, nodesIn, behindNodes}
 use Rattle.aff_open.specs.declared.reader.Reader.{Reader}
-use Rattle.aff_open.proofs.LinkLaws.{or-false, link-asks, distinct-by-repeats, repeats-by-distinct}
-use Rattle.aff_open.proofs.OpeningLaws.{none-at, lent-right}
+use Rattle.aff_open.proofs.LinkLaws.{link-asks, distinct-by-repeats, repeats-by-distinct}
+use Rattle.aff_open.proofs.OpeningLaws.{lent-right}
 use Rattle.aff_open.proofs.RuleLaws.{AskFor, none, one, each, Each, settled, all-accept, first-refuses}
 use Rattle.aff_open.proofs.SectionLaws.{known-is, text-known, known-text}
 use Rattle.aff_open.proofs.TreeTableLaws.{empty-is}

@@ -1,7 +1,7 @@
 -- Parents, string numbers and names of the nodes: what the pass over them keeps, and the tests 8 and 10 to 13 by what they go by. Tests that
 -- agree node by node have the same lowest node. Assumes nothing.
 use mathlib.Core.Path.{_≡_, refl, sym, ap, _∙_}
-use mathlib.Core.Bool.{Bool, true, false, not, _&&_, _||_, true≢false}
+use mathlib.Core.Bool.{Bool, true, false, not, _&&_, _||_}
 use mathlib.Core.List.{List, []}
 use mathlib.Core.Logic.{⊎-elim, _↔_}
 use Prim.Native.Nat.{ℕ, _+_, _-_, _≤_, _<_}
@@ -13,7 +13,7 @@ use lib.Seq.{getD-set-same, getD-set-other, getD-take, length-take-le}
 use borrow.Author.Count.{below-more}
 use borrow.Author.Tests.{eqb-true, eqb-false, ltb-true, ltb-false, leb-false, le-ltb, lt-leb, not-false}
 use Rattle.aff_format.specs.Bytes.{part, sameBytes}
-use Rattle.aff_format.specs.Lowest.{lowestFrom}
+use Rattle.aff_format.specs.Lowest.{lowestFrom, isAt}
 use Rattle.aff_format.specs.Subkey.{subkeyFrom, isSound, isSubkey}
 use Rattle.aff_format.specs.Tree.{reachesBy}
 use Rattle.aff_format.specs.declared.edition.Edition.{Edition}
@@ -25,18 +25,15 @@ use Rattle.aff_format.proofs.LowestLaws.{lowest-same, none-holds, holds-none}
 use Rattle.aff_format.proofs.SameLaws.{same-refl, ne-same}
 use Rattle.aff_format.proofs.StringsLaws.{isIn-none, none-isIn}
 use Rattle.aff_format.proofs.SubkeyLaws.{sound-shift}
+use Rattle.aff_format.proofs.TestLaws.{or-false}
 use Rattle.aff_open.specs.Climb.{parentAt, Linked}
 use Rattle.aff_open.specs.Distinct.{siblingTaken}
-use Rattle.aff_open.specs.Nodes.{isAt, noParent, outside, linkWrong, climbEndless, nameTaken, dataOutside}
+use Rattle.aff_open.specs.Nodes.{noParent, outside, linkWrong, climbEndless, nameTaken, dataOutside}
 use Rattle.aff_open.specs.Passes.{bit, Judged, linkBad, Copied}
 use Rattle.aff_open.specs.Recorded.{recordedString}
 use Rattle.aff_open.specs.Tables.{nameFrom, repeats}
 use Rattle.aff_open.proofs.ParentLaws.{reaches-same}
 use Rattle.aff_open.proofs.RecordedLaws.{name-part}
-
-pub or-false : (a b : Bool) → (a || b) ≡ false → (a ≡ false) × (b ≡ false)
-or-false true b h = absurd (true≢false h)
-or-false false b h = (refl, h)
 
 -- Strings judged one by one.
 pub judged-name : (e : Edition) (image : List ℕ) (from end to : ℕ) (found g : Grammar) → (from ≤ end) × (end ≤ length image)

@@ -1,6 +1,6 @@
 -- How the passes of an opening join: a refusal of one is the opening's, and what one passes the next decides. Assumes nothing.
-use mathlib.Core.Path.{_≡_, refl, sym, ap, subst, _∙_}
-use mathlib.Core.Bool.{Bool, true, false, not, _||_}
+use mathlib.Core.Path.{_≡_, sym, ap, subst, _∙_}
+use mathlib.Core.Bool.{true, false, not}
 use mathlib.Core.List.{List, _++_}
 use Prim.Native.Nat.{ℕ, _+_, _≤_, _<_}
 use native.Mathlib.Omega.{arith}
@@ -17,7 +17,8 @@ use Rattle.aff_format.specs.declared.refusal.Refusal.the-variants.{LentLength, 
 use Rattle.aff_format.specs.declared.verdict.Verdict.{Verdict}
 use Rattle.aff_format.specs.declared.verdict.Verdict.the-variants.{Accepted, Refused}
 use Rattle.aff_format.proofs.AnswerLaws.{not-both, passed, passed-value, refused-before, passed-before}
-use Rattle.aff_format.proofs.ClimbLaws.{absurd-bool}
+use Rattle.aff_format.proofs.LowestLaws.{none-at}
+use Rattle.aff_format.proofs.TestLaws.{or-false}
 use Rattle.aff_open.specs.Distinct.{Places}
 use Rattle.aff_open.specs.Opening.{lentWrong, headerChecks, bodyChecks, openChecks, opened, verdictOf, areaAfter, stringsAfter, entriesAfter, sectionChecks, symbolChecks, treeChecks, nodeChecks, nodesChecked, tableChecks, stringPlaces, nodePlaces, spanOf, openingTold, readerFor, readerWith, readerAfter}
 use Rattle.aff_open.specs.Passes.{Readable, symbolsTold, AllDistinct, StringsLaid, EntriesLaid, Filled, Opened, refusedOpening}
@@ -29,9 +30,6 @@ use Rattle.aff_open.specs.declared.reader.Span.{Span}
 use Rattle.aff_format.specs.Bytes.{part}
 use Rattle.aff_format.specs.Lowest.{lowestFrom}
 use Rattle.aff_format.specs.Strings.{stringsOf}
-use Rattle.aff_format.specs.declared.lowest.Lowest.{Lowest}
-use Rattle.aff_format.specs.declared.lowest.Lowest.the-variants.{Nothing, At}
-use Rattle.aff_open.specs.Nodes.{isAt}
 use Rattle.aff_open.specs.Sections.{editionIn, sectionOffset, sectionSize, sectionBytes}
 use Rattle.aff_open.specs.Tables.{entriesIn, laidOver, nodesIn, repeats, stringsIn}
 use Rattle.aff_open.proofs.LinkLaws.{distinct-by-repeats}
@@ -66,10 +64,6 @@ module _ {e : Edition} {image strings entries : List ℕ} {n m : ℕ} (ss : Stri
 
   pub reader-by : readerWith e image n m ≡ readerFor e image
   reader-by = rw (ss .counted, es .counted)
-
-pub none-at : (l : Lowest) → isAt l ≡ false → l ≡ Nothing
-none-at Nothing e = refl
-none-at (At k) e = absurd-bool (sym e)
 
 -- A refused opening has filled no area.
 pub refused-fills : {X : Type 0} (o : Opening) (q : Refusal) → o ≡ refusedOpening q → (a : Reader) → openingTold o ≡ accepted a → X
@@ -177,14 +171,10 @@ pub lent-right : (image form : List ℕ) (strings entries : ℕ) → lentWrong i
     → (length form ≡ 12) × (strings ≡ 2048) × (entries ≡ 2048) × (length image < 2147483648)
 unfolding lentWrong
 lent-right image form strings entries h =
-    let (a, b) = or-none (not (eqb (length form) 12)) _ h in
-    let (c, d) = or-none (not (eqb strings 2048)) _ b in
-    let (e, f) = or-none (not (eqb entries 2048)) _ d in
+    let (a, b) = or-false (not (eqb (length form) 12)) _ h in
+    let (c, d) = or-false (not (eqb strings 2048)) _ b in
+    let (e, f) = or-false (not (eqb entries 2048)) _ d in
     (eqb-true _ _ (not-false _ a), eqb-true _ _ (not-false _ c), eqb-true _ _ (not-false _ e), omega (arith, ltb-false 2147483647 (length image) f))
-  where
-    or-none : (a b : Bool) → (a || b) ≡ false → (a ≡ false) × (b ≡ false)
-    or-none true b e = absurd-bool (sym e)
-    or-none false b e = (refl, e)
 
 pub zeros-long : (l : List ℕ) (n : ℕ) → l ≡ replicate n 0 → length l ≡ n → l ≡ replicate (length l) 0
 zeros-long l n is h = is ∙ ap (λ (k : ℕ). replicate k 0) (sym h)

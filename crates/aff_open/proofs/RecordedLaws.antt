@@ -1,17 +1,15 @@
 -- The string that begins at a place: where it ends, byte by byte as a loop sees it, and its bytes as a part of the image. Assumes nothing.
-use mathlib.Core.Path.{_≡_, refl, ap}
-use mathlib.Core.Bool.{Bool, true, false, cond}
-use mathlib.Core.List.{List, [], _∷_}
+use mathlib.Core.Path.{_≡_}
+use mathlib.Core.List.{List}
 use Prim.Native.Nat.{ℕ, _+_, _-_, _≤_, _<_}
 use native.Mathlib.Omega.{arith}
-use lib.Dec.{eqb}
-use lib.ListN.{length, getD, take, drop}
+use lib.ListN.{length, getD, drop}
 use lib.Seq.{take-take}
 use borrow.Author.Tests.{eq-eqb, ne-eqb}
 use Rattle.aff_format.specs.Bytes.{part}
 use Rattle.aff_format.specs.Strings.{upToZero}
 use Rattle.aff_format.proofs.BytesLaws.{part-cons, part-empty, length-part}
-use Rattle.aff_format.proofs.StringsLaws.{length-upToZero}
+use Rattle.aff_format.proofs.StringsLaws.{length-upToZero, take-upToZero}
 use Rattle.aff_open.specs.Tables.{nameFrom}
 
 -- A loop over the bytes of a string stands at `at`: the string ends here, or where it does from the next byte on.
@@ -28,16 +26,6 @@ module _ (image : List ℕ) (end at : ℕ) where
       → at + 1 + length (nameFrom image end (at + 1)) ≡ at + length (nameFrom image end at)
   unfolding nameFrom upToZero
   ends-on h f n = rw (part-cons image at end, ne-eqb (getD image at 0) 0) (omega arith)
-
--- The bytes up to the first zero are the first of the run.
-take-upToZero : (l : List ℕ) → take (length (upToZero l)) l ≡ upToZero l
-unfolding upToZero
-take-upToZero [] = refl
-take-upToZero (x ∷ l) = go (eqb x 0) (take-upToZero l)
-  where
-    go : (b : Bool) → take (length (upToZero l)) l ≡ upToZero l → take (length (cond b [] (x ∷ upToZero l))) (x ∷ l) ≡ cond b [] (x ∷ upToZero l)
-    go true h = refl
-    go false h = ap (λ (t : List ℕ). x ∷ t) h
 
 pub name-part : (image : List ℕ) (end from to : ℕ) → from ≤ end → end ≤ length image → to ≡ from + length (nameFrom image end from)
     → part from (to - from) image ≡ nameFrom image end from

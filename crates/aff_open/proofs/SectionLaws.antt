@@ -1,12 +1,12 @@
 -- Laws of the text, the header and the sections of an image. Assumes nothing.
-use mathlib.Core.Path.{_≡_, refl, sym}
+use mathlib.Core.Path.{_≡_, refl}
 use mathlib.Core.Bool.{Bool, true, false, cond, not, true≢false}
 use mathlib.Core.List.{List}
 use Prim.Native.Nat.{ℕ, _+_, _-_, _≤_, _<_}
 use native.Mathlib.Omega.{arith}
 use lib.Dec.{ltb}
 use lib.ListN.{length, take}
-use borrow.Author.Tests.{ltb-true, ltb-false, lt-ltb, le-ltb}
+use borrow.Author.Tests.{ltb-false, lt-ltb}
 use Rattle.aff_format.specs.Answer.{accepted, firstWrong}
 use Rattle.aff_format.specs.Bytes.{sameBytes}
 use Rattle.aff_format.specs.Edition.{headerSize, sectionHeaderAt, sectionSumAt, signatureText}
@@ -55,13 +55,6 @@ sum-inside Two s image h = omega (arith, section-header-most Two s, section-sum-
 -- Whether `size` from `from` on end past `length`, told without their sum.
 pub begins-past : (from size length : ℕ) → length < from → ltb length (from + size) ≡ true
 begins-past from size length h = lt-ltb length (from + size) (omega arith)
-
-pub ends-past-by : (from size length : ℕ) → from ≤ length → ltb (length - from) size ≡ ltb length (from + size)
-ends-past-by from size length h = go (ltb (length - from) size) refl
-  where
-    go : (t : Bool) → ltb (length - from) size ≡ t → t ≡ ltb length (from + size)
-    go true t = sym (lt-ltb length (from + size) (omega (arith, ltb-true (length - from) size t)))
-    go false t = sym (le-ltb length (from + size) (omega (arith, ltb-false (length - from) size t)))
 
 pub ends-inside : (e : Edition) (s : Section) (image : List ℕ) → endsPast e s image ≡ false
     → sectionOffset e s image + sectionSize e s image ≤ length image

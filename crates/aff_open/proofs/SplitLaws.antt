@@ -1,6 +1,6 @@
 -- The walk that splits a section at its zeros: it stands in a string that began at `start` and has no zero so far. Assumes nothing.
-use mathlib.Core.Path.{_≡_, refl, sym, _∙_}
-use mathlib.Core.Bool.{true, false}
+use mathlib.Core.Path.{_≡_, sym, _∙_}
+use mathlib.Core.Bool.{false}
 use mathlib.Core.List.{List, [], _∷_, _++_}
 use Prim.Native.Nat.{ℕ, zero, suc, _+_, _-_, _≤_, _<_}
 use native.Mathlib.Numerals.{add-one}
@@ -10,7 +10,7 @@ use lib.ListN.{length, getD, set, drop, length-drop, take-append-drop, drop-of-l
 use lib.Seq.{drop-cons, drop-drop, take-suc, take-all, getD-drop}
 use borrow.Author.Tests.{ne-eqb, le-leb, lt-leb}
 use Rattle.aff_format.specs.Bytes.{part, Without}
-use Rattle.aff_format.specs.Strings.{stringsOf, lastOr, endsInZero, placesOf}
+use Rattle.aff_format.specs.Strings.{stringsOf, placesOf}
 use Rattle.aff_format.proofs.BytesLaws.{length-part}
 use Rattle.aff_format.proofs.StringsLaws.{stringsOf-one, length-placesOf}
 use Rattle.aff_open.specs.Passes.{splitOf}
@@ -19,21 +19,7 @@ use Rattle.aff_open.specs.declared.symbols.Parted.{Parted}
 use Rattle.aff_open.specs.declared.symbols.Parted.the-variants as parted
 use Rattle.aff_open.proofs.TableLaws.{Laid, laid-start, laid-store, laid-all, laid-full}
 
--- The last byte, and one byte more.
-
-last-at : (x : ℕ) (l : List ℕ) → lastOr x l ≡ getD (x ∷ l) (length l) 0
-last-at x [] = refl
-last-at x (y ∷ l) = last-at y l
-
-pub ended-empty : (l : List ℕ) → length l ≡ 0 → true ≡ endsInZero l
-unfolding endsInZero
-ended-empty [] h = refl
-ended-empty (x ∷ l) h = absurd (omega arith)
-
-pub ended-at : (l : List ℕ) → 0 < length l → eqb (getD l (length l - 1) 0) 0 ≡ endsInZero l
-unfolding endsInZero
-ended-at [] h = absurd (omega arith)
-ended-at (x ∷ l) h = let n : suc (length l) - 1 ≡ length l = omega arith in rw (n, last-at x l)
+-- One byte more.
 
 without-snoc : (s : List ℕ) (y : ℕ) → Without 0 s → eqb y 0 ≡ false → Without 0 (s ++ (y ∷ []))
 without-snoc [] y w h = (h, tt)

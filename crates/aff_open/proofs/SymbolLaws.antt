@@ -9,7 +9,7 @@ use lib.ListN.{length, getD, take}
 use borrow.Author.Tests.{leb-true, leb-false, lt-ltb, le-ltb}
 use Rattle.aff_format.specs.Answer.{accepted, check, refusal, firstWrong}
 use Rattle.aff_format.specs.Bytes.{part}
-use Rattle.aff_format.specs.Lowest.{lowestFrom}
+use Rattle.aff_format.specs.Lowest.{lowestFrom, isAt}
 use Rattle.aff_format.specs.Strings.{stringsOf, endsInZero, placesOf}
 use Rattle.aff_format.specs.declared.section.Section.the-variants.{Symbol}
 use Rattle.aff_format.specs.declared.edition.Edition.{Edition}
@@ -19,7 +19,6 @@ use Rattle.aff_format.proofs.AnswerLaws.{not-both}
 use Rattle.aff_format.proofs.BytesLaws.{length-part}
 use Rattle.aff_format.proofs.StringsLaws.{length-placesOf, placesOf-from, string-begins, string-ends, string-in-section}
 use Rattle.aff_open.specs.Distinct.{Places}
-use Rattle.aff_open.specs.Nodes.{isAt}
 use Rattle.aff_open.specs.Opening.{symbolChecks, spanOf}
 use Rattle.aff_open.specs.Passes.{Readable, splitOf, symbolsTold, repeatedOr, countedOf}
 use Rattle.aff_open.specs.Recorded.{recordedString}

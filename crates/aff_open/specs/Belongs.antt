@@ -8,14 +8,14 @@ use lib.ListN.{length, getD}
 use Rattle.aff_format.specs.Edition.{editionOf}
 use Rattle.aff_format.specs.Kind.{elementSize, isVoid}
 use Rattle.aff_format.specs.Limits.{imageLimit, stringLimit, nodeLimit}
-use Rattle.aff_format.specs.Lowest.{lowestFrom}
+use Rattle.aff_format.specs.Lowest.{lowestFrom, isAt}
 use Rattle.aff_format.specs.Tree.{reachesBy}
 use Rattle.aff_format.specs.declared.edition.Edition.{Edition}
 use Rattle.aff_format.specs.declared.edition.FoundEdition.the-variants.{Known}
 use Rattle.aff_format.specs.declared.entry.Entry.{Entry}
 use Rattle.aff_format.specs.declared.entry.FoundEntry.{FoundEntry}
 use Rattle.aff_format.specs.declared.entry.FoundEntry.the-variants.{Whole, Broken}
-use Rattle.aff_open.specs.Nodes.{isAt, noParent, noString, outside, climbEndless}
+use Rattle.aff_open.specs.Nodes.{noParent, noString, outside, climbEndless}
 use Rattle.aff_open.specs.Recorded.{foundEntry, recordedEntry, recordedString}
 use Rattle.aff_open.specs.Sections.{isKnown}
 use Rattle.aff_open.specs.declared.reader.Span.{Span}

@@ -1,20 +1,18 @@
 -- What is asked of each node: document 01, 'Numbers handed back', 10 to 13. Nodes are numbered from 1. The tests go by `entry`, which gives
 -- the entry of a node, and by `string`, which gives the string of a number: opening asks them of the tables, 24 of what is recorded.
-use mathlib.Core.Bool.{Bool, true, false, not, _&&_, _||_}
+use mathlib.Core.Bool.{Bool, not, _&&_, _||_}
 use mathlib.Core.List.{List, [], _∷_}
 use Prim.Native.Nat.{ℕ, _+_, _-_, _*_}
 use lib.Dec.{eqb, ltb, leb}
 use lib.ListN.{getD}
 use Rattle.aff_format.specs.Bytes.{sameBytes}
 use Rattle.aff_format.specs.Kind.{elementSize, isVoid}
-use Rattle.aff_format.specs.Lowest.{lowestFrom}
+use Rattle.aff_format.specs.Lowest.{lowestFrom, isAt}
 use Rattle.aff_format.specs.Subkey.{isSubkey}
 use Rattle.aff_format.specs.Tree.{reachesBy}
 use Rattle.aff_format.specs.declared.edition.Edition.{Edition}
 use Rattle.aff_format.specs.declared.entry.Entry.{Entry}
 use Rattle.aff_format.specs.declared.kind.Kind.the-variants.{Void}
-use Rattle.aff_format.specs.declared.lowest.Lowest.{Lowest}
-use Rattle.aff_format.specs.declared.lowest.Lowest.the-variants.{Nothing, At}
 
 -- The root's entry, which no file has: it is its own parent, and Void.
 abbrev pub noEntry : Entry
@@ -23,10 +21,6 @@ noEntry = record { kind = Void; parent = 0; string = 0; count = 0; offset = 0 }
 -- The entry of node k, where the nodes from 1 on have some entries.
 abbrev pub nodeEntry : List Entry → ℕ → Entry
 nodeEntry entries k = getD (noEntry ∷ entries) k noEntry
-
-abbrev pub isAt : Lowest → Bool
-isAt Nothing = false
-isAt (At k) = true
 
 -- An entry's parent number, or its string number, does not exist.
 abbrev pub noParent : ℕ → Entry → Bool

@@ -8,7 +8,7 @@ use Rattle.aff_format.specs.Answer.{Answer, accepted, refused, Check, check, re
 use Rattle.aff_format.specs.Bytes.{part, sameBytes}
 use Rattle.aff_format.specs.Edition.{headerSize, editionNumber}
 use Rattle.aff_format.specs.Limits.{imageLimit, stringLimit, nodeLimit}
-use Rattle.aff_format.specs.Lowest.{lowestFrom, checkLowest}
+use Rattle.aff_format.specs.Lowest.{lowestFrom, checkLowest, isAt}
 use Rattle.aff_format.specs.Strings.{endsInZero, placesOf}
 use Rattle.aff_format.specs.declared.section.Section.{Section}
 use Rattle.aff_format.specs.declared.section.Section.the-variants.{Symbol, Tree, Data}
@@ -17,7 +17,7 @@ use Rattle.aff_format.specs.declared.entry.Entry.{Entry}
 use Rattle.aff_open.specs.Reader.{noReader}
 use Rattle.aff_open.specs.Sections.{textEdition, isKnown, editionIn, sectionOffset, sectionSize, sectionRecords, sectionBytes, headerSumWrong, endsPast, sumWrong, countDiffers}
 use Rattle.aff_open.specs.Tables.{repeats, entryPlaces, laidOver, stringsIn, nodesIn, behindNodes}
-use Rattle.aff_open.specs.Nodes.{nodeEntry, isAt, linkWrong, climbEndless, nameTaken, dataOutside}
+use Rattle.aff_open.specs.Nodes.{nodeEntry, linkWrong, climbEndless, nameTaken, dataOutside}
 use Rattle.aff_format.specs.Refusal.{toldRefusal}
 use Rattle.aff_format.specs.declared.verdict.Verdict.{Verdict}
 use Rattle.aff_format.specs.declared.verdict.Verdict.the-variants.{Accepted, Refused}

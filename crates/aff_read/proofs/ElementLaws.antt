@@ -16,6 +16,7 @@ use Rattle.aff_format.specs.Kind.{elementSize, isVoid}
 use Rattle.aff_format.specs.declared.kind.Kind.{Kind}
 use Rattle.aff_format.specs.declared.kind.Kind.the-variants.{Void, Char, Int, Double, Complex}
 use Rattle.aff_format.proofs.BytesLaws.{length-part}
+use Rattle.aff_format.proofs.KindLaws.{countIn-void}
 use Rattle.aff_open.specs.Belongs.{Belongs}
 use Rattle.aff_open.specs.Recorded.{recordedEntry}
 use Rattle.aff_open.specs.declared.reader.Reader.{Reader}
@@ -30,13 +31,6 @@ counted Int n l v h = omega arith
 counted Double n l v h = omega arith
 counted Complex n l v h = omega arith
 
-counted-void : (k : Kind) (l : List ℕ) → isVoid k ≡ true → countIn k l ≡ 0
-counted-void Void l v = refl
-counted-void Char l v = absurd (let z : _≡_ {A = ℕ} 0 1 = cc in omega arith)
-counted-void Int l v = absurd (let z : _≡_ {A = ℕ} 0 1 = cc in omega arith)
-counted-void Double l v = absurd (let z : _≡_ {A = ℕ} 0 1 = cc in omega arith)
-counted-void Complex l v = absurd (let z : _≡_ {A = ℕ} 0 1 = cc in omega arith)
-
 module _ {image : List ℕ} {reader : Reader} {strings entries : List ℕ} (b : Belongs image reader strings entries) (node : ℕ) (there : node ≤ reader .nodes) where
   -- A Void node's count is 0.
   pub void-count : isVoid (kindAt image entries node) ≡ true → countAt image entries node ≡ 0
@@ -50,7 +44,7 @@ module _ {image : List ℕ} {reader : Reader} {strings entries : List ℕ} (b : 
   count-in = go (isVoid (kindAt image entries node)) refl
     where
       go : (v : Bool) → isVoid (kindAt image entries node) ≡ v → countIn (kindAt image entries node) (bytesAt image entries node) ≡ countAt image entries node
-      go true v = counted-void (kindAt image entries node) (bytesAt image entries node) v ∙ sym (void-count v)
+      go true v = countIn-void (kindAt image entries node) (bytesAt image entries node) v ∙ sym (void-count v)
       go false v = counted (kindAt image entries node) (countAt image entries node) (bytesAt image entries node) v (rw v (length-part _ _ image (data-ends b node there v)))
 
   pub element-decoded : (index : ℕ) → decoded (kindAt image entries node) (bytesAt image entries node) index

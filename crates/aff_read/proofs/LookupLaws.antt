@@ -3,7 +3,7 @@ use mathlib.Core.Path.{_≡_, refl, sym, ap, _∙_}
 use mathlib.Core.Bool.{Bool, true, false}
 use mathlib.Core.List.{List}
 use mathlib.Core.Logic.{_↔_}
-use Prim.Native.Nat.{ℕ, _+_, _≤_, _<_}
+use Prim.Native.Nat.{ℕ, _+_, _≤_}
 use native.Mathlib.Nat.{le-antisymm}
 use native.Mathlib.Omega.{arith}
 use lib.Dec.{ltb}
@@ -20,6 +20,7 @@ use Rattle.aff_open.specs.Belongs.{Belongs, belongs}
 use Rattle.aff_open.specs.declared.reader.Reader.{Reader}
 use Rattle.aff_open.proofs.BelongsLaws.{record-belongs}
 use Rattle.aff_read.specs.Calls.{found, editionBy, lookupAnswer}
+use Rattle.aff_read.specs.Lookup.{LowestWith, NoneWith}
 use Rattle.aff_read.specs.Recall.{pathAt}
 
 module _ (image : List ℕ) (reader : Reader) (strings entries path : List ℕ) where
@@ -41,16 +42,6 @@ module _ (image : List ℕ) (reader : Reader) (strings entries path : List ℕ) 
       pub lookup-at : (n : ℕ) → found image reader strings entries path ≡ At n → accepted n ≡ lookupAnswer image reader strings entries path
       unfolding lookupAnswer
       lookup-at n h = rw (b, p, h)
-
--- Node n is the lowest with the path.
-pub record LowestWith (image : List ℕ) (reader : Reader) (strings entries path : List ℕ) (n : ℕ) : Type 0 where
-  pub exists : n ≤ reader .nodes
-  pub has : pathAt image reader strings entries n ≡ path
-  pub least : (k : ℕ) → k < n → pathAt image reader strings entries k ≡ path → ⊥
-
--- No node has the path.
-abbrev pub NoneWith : List ℕ → Reader → List ℕ → List ℕ → List ℕ → Type 0
-NoneWith image reader strings entries path = (k : ℕ) → k ≤ reader .nodes → pathAt image reader strings entries k ≡ path → ⊥
 
 -- There is one lowest at most.
 lowest-least : {image : List ℕ} {reader : Reader} {strings entries path : List ℕ} {m n : ℕ}

@@ -25,14 +25,9 @@ use Rattle.aff_open.proofs.BelongsLaws.{belongs-record}
 use Rattle.aff_open.proofs.ObeysLaws.{NodesHold, accepted-nodes}
 use Rattle.aff_open.proofs.OpenedLaws.{OpenedShape, opened-shape, opened-belongs}
 use Rattle.aff_read.specs.Calls.{editionBy, lookupAnswer}
+use Rattle.aff_read.specs.Lookup.{OnlyWith}
 use Rattle.aff_read.specs.Recall.{parentAt, nameAt, pathAt}
 use Rattle.aff_read.proofs.LookupLaws.{lookup-accepts}
-
--- Node n, and no other, has the path.
-pub record OnlyWith (image : List ℕ) (reader : Reader) (strings entries path : List ℕ) (n : ℕ) : Type 0 where
-  pub exists : n ≤ reader .nodes
-  pub has : pathAt image reader strings entries n ≡ path
-  pub only : (k : ℕ) → k ≤ reader .nodes → pathAt image reader strings entries k ≡ path → k ≡ n
 
 module _ (image form strings entries : List ℕ) {r : Reader} (h : opened image form (length strings) (length entries) ≡ accepted r) where
   abbrev e : Edition

@@ -7,7 +7,7 @@ use lib.ListN.{length, drop}
 use Rattle.aff_format.specs.Answer.{Answer, accepted, refused, Check, check, refusal, firstWrong}
 use Rattle.aff_format.specs.Bytes.{sameBytes}
 use Rattle.aff_format.specs.Edition.{editionOf}
-use Rattle.aff_format.specs.Lowest.{lowestFrom}
+use Rattle.aff_format.specs.Lowest.{lowestFrom, isAt}
 use Rattle.aff_format.specs.Path.{isPath}
 use Rattle.aff_format.specs.declared.edition.Edition.{Edition}
 use Rattle.aff_format.specs.declared.kind.Kind.{Kind}
@@ -15,7 +15,6 @@ use Rattle.aff_format.specs.declared.kind.Kind.the-variants.{Void, Char, Int, D
 use Rattle.aff_format.specs.declared.lowest.Lowest.{Lowest}
 use Rattle.aff_format.specs.declared.lowest.Lowest.the-variants.{Nothing, At}
 use Rattle.aff_open.specs.Belongs.{belongs}
-use Rattle.aff_open.specs.Nodes.{isAt}
 use Rattle.aff_open.specs.Sections.{orTwo}
 use Rattle.aff_open.specs.declared.reader.Reader.{Reader}
 use Rattle.aff_read.specs.Answers.{nodeChecks}

@@ -2,6 +2,7 @@
 pub mod Recall
 pub mod Answers
 pub mod Calls
+pub mod Lookup
 pub mod Fit
 pub mod Written
 pub mod Once

@@ -12,6 +12,7 @@ use Rattle.aff_format.specs.Answer.{accepted, Clear}
 use Rattle.aff_format.specs.Limits.{imageLimit, textArea, treeArea}
 use Rattle.aff_format.specs.Strings.{textOf}
 use Rattle.aff_format.proofs.AnswerLaws.{passed, passed-value}
+use Rattle.aff_format.proofs.TestLaws.{or-false}
 use Rattle.aff_write.specs.Begin.{lentWrong, beginStores, beginChecks, beginAnswer}
 use Rattle.aff_write.specs.Stores.{applyStores, storesFrom}
 use Rattle.aff_write.specs.Writer.{dataPlace, begunWriter}
@@ -19,7 +20,6 @@ use Rattle.aff_write.proofs.StoreLaws.{apply-length}
 use Rattle.aff_run.specs.Described.{namesFrom, dataSize, entriesSize, sizeOf}
 use Rattle.aff_run.specs.Run.{next, begun}
 use Rattle.aff_run.proofs.GoodLaws.{Good}
-use Rattle.aff_run.proofs.MakeGoodLaws.{or-false}
 use Rattle.aff_run.proofs.SlotsLaws.{slotsOf}
 
 -- What is lent is right where check 1 finds nothing.

@@ -12,7 +12,7 @@ use borrow.Author.Tests.{ltb-true, ltb-false, lt-ltb, le-ltb}
 use Rattle.aff_format.specs.Answer.{Answer, accepted, refused, Check, check, refusal, refusalAt, firstWrong}
 use Rattle.aff_format.specs.Kind.{kindOf}
 use Rattle.aff_format.specs.declared.refusal.Told.{Told}
-use Rattle.aff_format.proofs.AnswerLaws.{not-both, refused-before, passed-before}
+use Rattle.aff_format.proofs.AnswerLaws.{refused-before, passed-before, Others, others-told}
 use Rattle.aff_write.specs.Areas.{finishedSize}
 use Rattle.aff_write.specs.Begin.{lentWrong, beginStores, beginAnswer, beginWriter, beginArea}
 use Rattle.aff_write.specs.Belongs.{writerChecks}
@@ -32,18 +32,8 @@ pub data Compared (lent full : Turn) (left : ℕ) : Type 0 where
   alike : lent ≡ full → length (full .stores) ≤ left → Compared lent full left
   givesOut : lent .stores ≡ take left (full .stores) → left < length (full .stores) → lent .writer .live ≡ false → Compared lent full left
 
--- No check tells 23.
-abbrev NoSpent : List Check → Type 0
-NoSpent [] = Unit {0}
-NoSpent (check wrong t ∷ checks) = (eqb (t .number) 23 ≡ false) × NoSpent checks
-
-not-spent : (checks : List Check) → NoSpent checks → (v : ℕ) (t : Told) → firstWrong checks v ≡ refused t → eqb (t .number) 23 ≡ false
-not-spent [] n v t e = not-both (sym e)
-not-spent (check true q ∷ checks) n v t e = let p : t ≡ q = cc in rw p (n .0)
-not-spent (check false q ∷ checks) n v t e = not-spent checks (n .1) v t e
-
 -- A call judges its allowance last.
-module _ (before : List Check) (none : NoSpent before) (all : List Store) where
+module _ (before : List Check) (none : Others 23 before) (all : List Store) where
   abbrev judged : ℕ → Answer ℕ
   judged allowance = firstWrong (before ++ (check (ltb allowance (length all)) (refusalAt 23 allowance) ∷ [])) (length all)
 
@@ -71,7 +61,7 @@ module _ (before : List Check) (none : NoSpent before) (all : List Store) where
 
       by-checks : (a : Answer ℕ) → firstWrong before 0 ≡ a → length (take (storesTold (judged allowance)) all) ≡ storesTold (judged allowance)
       by-checks (accepted c) e = by-number c e (ltb allowance (length all)) refl
-      by-checks (refused t) e = rw (stands t allowance e, not-spent before none 0 t e)
+      by-checks (refused t) e = rw (stands t allowance e, others-told 23 before none 0 e)
 
   -- Its turn goes by its answer.
   module _ (by : Answer ℕ → Turn) (made : (a : Answer ℕ) → by a .stores ≡ take (storesTold a) all)
@@ -113,7 +103,7 @@ module _ (before : List Check) (none : NoSpent before) (all : List Store) where
     by-checks : (a : Answer ℕ) → firstWrong before 0 ≡ a → Compared (by (judged (min allowance left))) (by (judged allowance)) left
     by-checks (accepted c) e = by-numbers c e (ltb allowance (length all)) (ltb left (cond (ltb allowance (length all)) allowance (length all))) refl refl
     by-checks (refused t) e =
-        alike-by (refused t) (stands t (min allowance left) e) (stands t allowance e) (rw (not-spent before none 0 t e) (omega arith))
+        alike-by (refused t) (stands t (min allowance left) e) (stands t allowance e) (rw (others-told 23 before none 0 e) (omega arith))
 
     compared : Compared (by (judged (min allowance left))) (by (judged allowance)) left
     compared = by-checks (firstWrong before 0) refl

@@ -1,7 +1,7 @@
 -- Each call of a run is answered as the tree described so far decides: the writer's checks over its areas agree with the checks over the tree,
 -- check by check, each where those before it pass. For a run by induction on the calls, by the answer. Assumes nothing.
 use mathlib.Core.Path.{_≡_, refl, sym, ap, ap₂, _∙_, subst}
-use mathlib.Core.Bool.{Bool, true, false, cond, not, _&&_, _||_, true≢false}
+use mathlib.Core.Bool.{Bool, true, false, cond, not, _&&_, _||_}
 use mathlib.Core.List.{List, [], _∷_, _++_}
 use Prim.Native.Nat.{ℕ, zero, suc, _+_, _-_, _≤_, _<_}
 use native.Mathlib.Nat.{mul-zero}
@@ -14,14 +14,16 @@ use Rattle.aff_format.specs.Answer.{Answer, accepted, refused, Check, check, re
 use Rattle.aff_format.specs.Bytes.{sameBytes}
 use Rattle.aff_format.specs.Kind.{kindOf, entrySize, isVoid}
 use Rattle.aff_format.specs.Limits.{imageLimit, stringLimit, nodeLimit, textArea, treeArea}
-use Rattle.aff_format.specs.Lowest.{lowestFrom}
+use Rattle.aff_format.specs.Lowest.{lowestFrom, isAt}
 use Rattle.aff_format.specs.Strings.{textOf}
 use Rattle.aff_format.specs.Tree.{Node, Tree, root, nodeAt}
 use Rattle.aff_format.specs.declared.entry.Entry.{Entry}
 use Rattle.aff_format.specs.declared.kind.Kind.{Kind}
 use Rattle.aff_format.specs.declared.refusal.Told.{Told}
+use Rattle.aff_format.proofs.AnswerLaws.{last-told}
 use Rattle.aff_format.proofs.LowestLaws.{lowest-same}
-use Rattle.aff_open.specs.Nodes.{isAt, nodeEntry}
+use Rattle.aff_format.proofs.TestLaws.{or-false}
+use Rattle.aff_open.specs.Nodes.{nodeEntry}
 use Rattle.aff_write.specs.Areas.{usedText, entriesOut, finishedSize}
 use Rattle.aff_write.specs.Belongs.{belongs, sizesBelong, textBelongs, nodesBelong}
 use Rattle.aff_write.specs.Begin.{lentWrong, beginStores, beginAnswer}
@@ -38,7 +40,7 @@ use Rattle.aff_run.specs.Exact.{hasChild, tooLarge, closeNeeds, exactChe
 use Rattle.aff_run.specs.Run.{Call, make, put, close, State, Turn, next, makeTurn, putTurn, closeTurn, turn, answersOf, begun, afterBegin, runAnswers, runStores, isAccepted, grown}
 use Rattle.aff_run.proofs.GoodLaws.{Good, used-text, names-in, entry-in, stored-in, name-in, entries-in, sizes-in-bytes, size-in, good-belongs}
 use Rattle.aff_run.proofs.NamesLaws.{length-add, text-add, names-snoc}
-use Rattle.aff_run.proofs.MakeGoodLaws.{or-false, child, size-child, length-snoc, made-good}
+use Rattle.aff_run.proofs.MakeGoodLaws.{child, size-child, length-snoc, made-good}
 use Rattle.aff_run.proofs.PutGoodLaws.{names-set, data-set, entries-set, data-right, void-size, put-good}
 use Rattle.aff_run.proofs.ClosedLaws.{length-header}
 use Rattle.aff_run.proofs.TurnLaws.{asleep-turn, asleep-next, asleep-stores}
@@ -319,14 +321,6 @@ exact-run (c ∷ cs) s tree g = (exact-turn s tree g c, by-answer s tree g cs (e
 
 -- ---- A whole run, by what its begin answers.
 
--- A begin refused by 23 found nothing wrong before.
-spent-clear : (a b c : Bool) (allowance : ℕ) (t : Told)
-    → firstWrong {A = ℕ} (check a (refusal 1) ∷ check b (refusal 21) ∷ check c (refusalAt 23 allowance) ∷ []) 1 ≡ refused t → eqb (t .number) 23 ≡ true
-    → (a ≡ false) × (b ≡ false)
-spent-clear true b c allowance t h e = let q : refusal 1 ≡ t = cc in absurd (true≢false (sym e ∙ ap (λ (r : Told). eqb (r .number) 23) (sym q)))
-spent-clear false true c allowance t h e = let q : refusal 21 ≡ t = cc in absurd (true≢false (sym e ∙ ap (λ (r : Told). eqb (r .number) 23) (sym q)))
-spent-clear false false c allowance t h e = (refl, refl)
-
 -- The record that it leaves belongs: over areas that were not cleared, since it records no string and no node.
 begun-belongs : (size : ℕ) (room form text tree : List ℕ) → length room ≡ size → length form ≡ 12 → length text ≡ textArea → length tree ≡ treeArea → size ≤ imageLimit
     → dataPlace ≤ size → belongs (length room) (stopped (begunWriter size form)) text tree ≡ true
@@ -344,9 +338,13 @@ module _ (room form text tree : List ℕ) (allowance : ℕ) (calls : List Call) 
 
   module _ (t : Told) (h : beginAnswer room form text tree allowance ≡ refused t) where
     module _ (spent : eqb (t .number) 23 ≡ true) where
+      -- A begin refused by 23 found nothing wrong before.
       right : (lentWrong room form text tree ≡ false) × (ltb (length room) dataPlace ≡ false)
       unfolding beginAnswer
-      right = spent-clear (lentWrong room form text tree) (ltb (length room) dataPlace) (ltb allowance 1) allowance t h spent
+      right =
+          let c = last-told 23 (check (lentWrong room form text tree) (refusal 1) ∷ check (ltb (length room) dataPlace) (refusal 21) ∷ []) (refl, (refl, tt))
+          (ltb allowance 1) (refusalAt 23 allowance) 1 h spent .0 in
+          (c .0, c .1 .0)
 
       spent-live : afterBegin room form text tree allowance calls .writer .live ≡ false
       unfolding begun

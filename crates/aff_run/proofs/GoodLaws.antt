@@ -4,7 +4,6 @@ use mathlib.Core.Path.{_≡_, refl, sym, ap, _∙_}
 use mathlib.Core.Bool.{Bool, true, false}
 use mathlib.Core.List.{List, [], _∷_, _++_}
 use Prim.Native.Nat.{ℕ, zero, suc, _+_, _-_, _*_, _^_, _≤_, _<_}
-use native.Mathlib.Nat.{div-le-self}
 use native.Mathlib.Numerals.{one-add}
 use native.Mathlib.Omega.{arith}
 use lib.ListN.{length, getD, take, length-append}
@@ -20,10 +19,8 @@ use Rattle.aff_format.specs.Subkey.{isSubkey}
 use Rattle.aff_format.specs.Tree.{Node, Tree, root, nodeAt}
 use Rattle.aff_format.specs.declared.entry.Entry.{Entry}
 use Rattle.aff_format.specs.declared.entry.FoundEntry.the-variants.{Whole}
-use Rattle.aff_format.specs.declared.kind.Kind.{Kind}
-use Rattle.aff_format.specs.declared.kind.Kind.the-variants.{Void, Char, Int, Double, Complex}
-use Rattle.aff_format.proofs.ClimbLaws.{absurd-bool}
 use Rattle.aff_format.proofs.EntryLaws.{length-entryBytes}
+use Rattle.aff_format.proofs.KindLaws.{countIn-few, countIn-void}
 use Rattle.aff_format.proofs.StringsLaws.{stringsOf-textOf, endsInZero-textOf}
 use Rattle.aff_format.proofs.SubkeyLaws.{subkey-no-zero}
 use Rattle.aff_open.specs.Nodes.{noEntry, nodeEntry}
@@ -91,20 +88,6 @@ pub record Good (s : State) (tree : Tree) : Type 0 where
 
 -- ---- Each node, by its number.
 
-count-few : (k : Kind) (l : List ℕ) → countIn k l ≤ length l
-count-few Void l = omega arith
-count-few Char l = omega arith
-count-few Int l = div-le-self (length l) 4
-count-few Double l = div-le-self (length l) 8
-count-few Complex l = div-le-self (length l) 16
-
-count-void : (k : Kind) (l : List ℕ) → isVoid k ≡ true → countIn k l ≡ 0
-count-void Void l v = refl
-count-void Char l v = absurd-bool v
-count-void Int l v = absurd-bool v
-count-void Double l v = absurd-bool v
-count-void Complex l v = absurd-bool v
-
 module _ (names : List (List ℕ)) (room : List ℕ) (size : ℕ) where
   pub each-length : (i : ℕ) (es : List Entry) (ts : Tree) → Each names room size i es ts → length es ≡ length ts
   each-length i [] [] h = refl
@@ -133,9 +116,9 @@ module _ (names : List (List ℕ)) (room : List ℕ) (size : ℕ) where
         record {
           parent-fits = omega (arith, s .parent-is, s .parent-lower);
           string-fits = omega (arith, s .string-exists);
-          count-fits = omega (arith, s .count-is, count-few (t .kind) (t .bytes), s .short);
+          count-fits = omega (arith, s .count-is, countIn-few (t .kind) (t .bytes), s .short);
           offset-fits = offset (isVoid (t .kind)) refl;
-          void-count = λ v. s .count-is ∙ count-void (t .kind) (t .bytes) (ap isVoid (sym (s .kind-is)) ∙ v);
+          void-count = λ v. s .count-is ∙ countIn-void (t .kind) (t .bytes) (ap isVoid (sym (s .kind-is)) ∙ v);
           void-offset = λ v. s .void-offset (ap isVoid (sym (s .kind-is)) ∙ v);
         }
       where

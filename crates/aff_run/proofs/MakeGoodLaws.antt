@@ -1,7 +1,7 @@
 -- An accepted make leaves record and areas of the tree with the child. From its checks: the parent exists, the name is a subkey that no child
 -- of it has, and there is room. Assumes nothing.
 use mathlib.Core.Path.{_≡_, refl, sym, ap, _∙_}
-use mathlib.Core.Bool.{Bool, true, false, cond, not, _&&_, _||_, true≢false}
+use mathlib.Core.Bool.{Bool, true, false, cond, not, _&&_, true≢false}
 use mathlib.Core.List.{List, [], _∷_, _++_}
 use mathlib.Core.Logic.{_⊎_, inl, inr, ⊎-elim}
 use Prim.Native.Nat.{ℕ, zero, suc, _+_, _-_, _*_, _≤_, _<_}
@@ -23,14 +23,13 @@ use Rattle.aff_format.specs.Subkey.{isSubkey}
 use Rattle.aff_format.specs.Tree.{Node, Tree, root, nodeAt}
 use Rattle.aff_format.specs.declared.entry.Entry.{Entry}
 use Rattle.aff_format.specs.declared.kind.Kind.the-variants.{Void}
-use Rattle.aff_format.specs.declared.lowest.Lowest.{Lowest}
-use Rattle.aff_format.specs.declared.lowest.Lowest.the-variants.{Nothing, At}
 use Rattle.aff_format.proofs.AnswerLaws.{passed, clear-both}
 use Rattle.aff_format.proofs.BytesLaws.{length-spliced}
 use Rattle.aff_format.proofs.EntryLaws.{length-slotBytes}
-use Rattle.aff_format.proofs.LowestLaws.{none-holds}
+use Rattle.aff_format.proofs.LowestLaws.{none-holds, none-at}
 use Rattle.aff_format.proofs.SameLaws.{same-refl}
-use Rattle.aff_open.specs.Nodes.{isAt, nodeEntry}
+use Rattle.aff_format.proofs.TestLaws.{or-false}
+use Rattle.aff_open.specs.Nodes.{nodeEntry}
 use Rattle.aff_write.specs.Areas.{namesIn, slotAt, slotEntry, finishedSize}
 use Rattle.aff_write.specs.Belongs.{writerChecks}
 use Rattle.aff_write.specs.Make.{addedStrings, addedText, tooMany, isChild, childExists, childChecks, madeWriter, madeText, madeEntry, madeTree, makeAnswer}
@@ -41,14 +40,6 @@ use Rattle.aff_run.specs.Run.{State, makeTurn, next}
 use Rattle.aff_run.proofs.GoodLaws.{Stored, Each, Good, names-in, count-same, entry-in, stored-in, name-in, size-in}
 use Rattle.aff_run.proofs.NamesLaws.{index-in, index-name, length-add, text-add, add-longer, add-old, text-stored, subkeys-add, distinct-add, names-snoc}
 use Rattle.aff_run.proofs.SlotsLaws.{slotsOf, slot-added}
-
-pub or-false : (a b : Bool) → (a || b) ≡ false → (a ≡ false) × (b ≡ false)
-or-false true b h = absurd (true≢false h)
-or-false false b h = (refl, h)
-
-pub none-at : (l : Lowest) → isAt l ≡ false → l ≡ Nothing
-none-at Nothing h = refl
-none-at (At k) h = absurd (true≢false h)
 
 -- ---- One node more.
 

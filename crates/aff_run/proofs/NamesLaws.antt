@@ -16,6 +16,7 @@ use Rattle.aff_format.specs.Strings.{isIn, indexIn, textOf}
 use Rattle.aff_format.specs.Subkey.{isSubkey}
 use Rattle.aff_format.specs.Tree.{Node, Tree}
 use Rattle.aff_format.specs.declared.edition.Edition.{Edition}
+use Rattle.aff_format.proofs.PathLaws.{subkeys-more}
 use Rattle.aff_format.proofs.StringsLaws.{textOf-snoc, length-textOf-snoc, indexIn-within, indexIn-found, isIn-indexIn, isIn-none}
 use Rattle.aff_run.specs.Described.{addName, namesFrom, namesOf}
 
@@ -23,10 +24,6 @@ use Rattle.aff_run.specs.Described.{addName, namesFrom, namesOf}
 name-behind : (p y rest : List ℕ) → spliced (length p) y (p ++ rest) ≡ (p ++ y) ++ drop (length y) rest
 unfolding spliced
 name-behind p y rest = rw (take-at p rest (length p), drop-append-add, append-assoc)
-
-subkeys-snoc : (e : Edition) (names : List (List ℕ)) (x : List ℕ) → Subkeys e names → isSubkey e x ≡ true → Subkeys e (names ++ (x ∷ []))
-subkeys-snoc e [] x s h = (h, tt)
-subkeys-snoc e (y ∷ names) x s h = (s .0, subkeys-snoc e names x (s .1) h)
 
 module _ (names : List (List ℕ)) (x : List ℕ) where
   -- The names with x, where it is one of them or not.
@@ -92,7 +89,7 @@ module _ (names : List (List ℕ)) (x : List ℕ) where
     where
       go : (b : Bool) → Subkeys e (with-x b)
       go true = s
-      go false = subkeys-snoc e names x s h
+      go false = subkeys-more e names x s h
 
   pub distinct-add : ((i k : ℕ) → i < k → k < length names → getD names i [] ≡ getD names k [] → ⊥)
       → (i k : ℕ) → i < k → k < length (addName names x) → getD (addName names x) i [] ≡ getD (addName names x) k [] → ⊥

@@ -1,7 +1,7 @@
 -- A run stores to place 0 at its begin, and again only with the last store of an accepted close. So a room after some of its stores, but not all of
 -- a closed run, has a zero at place 0, and opening answers 3. Assumes nothing.
 use mathlib.Core.Path.{_≡_, refl, sym, ap, _∙_}
-use mathlib.Core.Bool.{Bool, true, false, cond, not, _&&_, _||_, true≢false}
+use mathlib.Core.Bool.{Bool, true, false, cond, _&&_, _||_}
 use mathlib.Core.List.{List, [], _∷_, _++_, append-nil, append-assoc}
 use mathlib.Core.Logic.{_⊎_, inl, inr, ⊎-elim}
 use Prim.Native.Nat.{ℕ, zero, suc, _+_, _-_, _≤_, _<_}
@@ -11,10 +11,11 @@ use lib.Dec.{eqb, ltb}
 use lib.ListN.{length, getD, set, take, drop, length-append}
 use lib.Seq.{take-append-le}
 use borrow.Author.Tests.{ltb-true}
-use Rattle.aff_format.specs.Answer.{Answer, accepted, refused, Check, check, refusal, refusalAt, firstWrong}
+use Rattle.aff_format.specs.Answer.{Answer, accepted, refused, refusalAt}
 use Rattle.aff_format.specs.Edition.{signatureText}
 use Rattle.aff_format.specs.declared.refusal.Told.{Told}
-use Rattle.aff_write.specs.Belongs.{belongs}
+use Rattle.aff_format.proofs.AnswerLaws.{last-told}
+use Rattle.aff_write.specs.Belongs.{writerChecks}
 use Rattle.aff_write.specs.Close.{symbolsPlace, treePlace, closeHeader, closeStores, storeChecks, closeAnswer}
 use Rattle.aff_write.specs.Header.{headerFront, withSum}
 use Rattle.aff_write.specs.Areas.{usedText, entriesOut}
@@ -106,31 +107,20 @@ shaped-after a ss true p (mid, last, q, e) = (a ++ mid, last, behind-append a mi
 
 -- ---- Each call of a run.
 
-told-is : {t u : Told} → _≡_ {A = Answer ℕ} (refused t) (refused u) → u ≡ t
-told-is h = cc
-
--- A 23 of a close: its allowance, which is below the stores needed, is told.
-spent-told : (b live less : Bool) (a n : ℕ) (t : Told)
-    → firstWrong (check (not b) (refusal 24) ∷ check (not live) (refusal 22) ∷ check less (refusalAt 23 a) ∷ []) n ≡ refused t
-    → eqb (t .number) 23 ≡ true → (less ≡ true) × (t .place ≡ a)
-spent-told false live less a n t h e = absurd (true≢false (sym e ∙ ap (λ (x : Told). eqb (x .number) 23) (told-is h)))
-spent-told true false less a n t h e = absurd (true≢false (sym e ∙ ap (λ (x : Told). eqb (x .number) 23) (told-is h)))
-spent-told true true true a n t h e = (refl, ap (λ (x : Told). x .place) (told-is h))
-spent-told true true false a n t h e = absurd (let z : _≡_ {A = ℕ} 0 1 = cc in omega arith)
-
 put-behind : (s : State) (node type : ℕ) (bytes : List ℕ) (allowance : ℕ) → Behind (putTurn s node type bytes allowance .stores)
 unfolding putTurn
 put-behind s node type bytes allowance =
     behind-take (storesTold (putAnswer (length (s .room)) (s .writer) (s .text) (s .tree) node type bytes allowance)) (putStores (s .writer) bytes)
     (behind-from (putPlace (s .writer)) bytes (omega arith))
 
+-- A 23 tells the allowance, which is below the stores needed.
 close-spent : (s : State) (allowance : ℕ) (t : Told) → closeTurn s allowance .answer ≡ refused t → eqb (t .number) 23 ≡ true → Behind (closeTurn s allowance .stores)
 unfolding closeTurn closeAnswer
 close-spent s allowance t h e =
     let all = closeStores (s .room) (s .writer) (s .text) (s .tree) in
-    let q = spent-told (belongs (length (s .room)) (s .writer) (s .text) (s .tree)) (s .writer .live) (ltb allowance (length all)) allowance (length all) t h e in
-    let l = ltb-true allowance (length all) (q .0) in
-    let p : t .place < length all = rw (q .1) l in
+    let q = last-told 23 (writerChecks (length (s .room)) (s .writer) (s .text) (s .tree)) (refl, (refl, tt)) (ltb allowance (length all)) (refusalAt 23 allowance) (length all) h e in
+    let l = ltb-true allowance (length all) (q .1) in
+    let p : t .place < length all = rw (q .2) l in
     rw (h, e) (shaped-take all true (t .place) (close-shape s) (λ r. omega (arith, r .0)) (omega arith))
 
 module _ (s : State) (cs : List Call) (later : (s′ : State) → Shaped (storesOf s′ cs) (closedBy cs (answersOf s′ cs))) where

@@ -28,6 +28,7 @@ use Rattle.aff_format.proofs.AnswerLaws.{passed, passed-value, clear-both}
 use Rattle.aff_format.proofs.BytesLaws.{length-spliced, take-spliced, part-spliced, drop-take}
 use Rattle.aff_format.proofs.EntryLaws.{length-slotBytes}
 use Rattle.aff_format.proofs.KindLaws.{countIn-div}
+use Rattle.aff_format.proofs.TestLaws.{or-false}
 use Rattle.aff_open.specs.Nodes.{noEntry, nodeEntry}
 use Rattle.aff_write.specs.Areas.{slotAt, slotEntry, finishedSize}
 use Rattle.aff_write.specs.Belongs.{writerChecks}
@@ -38,7 +39,6 @@ use Rattle.aff_write.proofs.StoreLaws.{apply-spliced}
 use Rattle.aff_run.specs.Described.{withData, addName, namesFrom, namesOf, dataSize, entriesSize, sizeOf}
 use Rattle.aff_run.specs.Run.{State, putTurn, next}
 use Rattle.aff_run.proofs.GoodLaws.{Stored, Each, Good, count-same, entry-in, stored-in, size-in, small}
-use Rattle.aff_run.proofs.MakeGoodLaws.{or-false}
 use Rattle.aff_run.proofs.SlotsLaws.{slotsOf, slot-changed}
 
 -- ---- One node changed.

@@ -8,7 +8,7 @@ use Prim.Native.Nat.{ℕ, zero, suc, _+_, _-_, _*_, _≤_, _<_}
 use native.Mathlib.Nat.{mul-zero}
 use native.Mathlib.Omega.{arith}
 use lib.Dec.{eqb, ltb}
-use lib.ListN.{length, getD, take, drop, length-append}
+use lib.ListN.{length, getD, drop, length-append}
 use lib.Seq.{take-take, drop-drop, drop-append-add, take-append-le, drop-append-le}
 use borrow.Author.Tests.{ne-eqb, le-ltb, lt-ltb}
 use Rattle.aff_format.specs.Answer.{Answer, accepted, refused, Check, check, refusal, firstWrong}
@@ -23,7 +23,7 @@ use Rattle.aff_format.specs.declared.edition.Edition.the-variants.{Two}
 use Rattle.aff_format.specs.declared.kind.Kind.{Kind}
 use Rattle.aff_format.specs.declared.kind.Kind.the-variants.{Void, Char, Int, Double, Complex}
 use Rattle.aff_format.proofs.ClimbLaws.{absurd-bool}
-use Rattle.aff_format.proofs.StringsLaws.{length-upToZero}
+use Rattle.aff_format.proofs.StringsLaws.{length-upToZero, take-upToZero}
 use Rattle.aff_format.proofs.TreeLaws.{front-same}
 use Rattle.aff_open.specs.Belongs.{belongs}
 use Rattle.aff_open.specs.Nodes.{noEntry, nodeEntry}
@@ -48,19 +48,10 @@ use Rattle.aff_run.proofs.GoodLaws.{Stored, Good, count-same, stored-in
 use Rattle.aff_run.proofs.ClosedLaws.{closed, closed-obeys, closed-edition, closed-strings, closed-nodes, data-there}
 
 -- A string is the front of the bytes from its place on.
-until-front : (l : List ℕ) → take (length (upToZero l)) l ≡ upToZero l
-unfolding upToZero
-until-front [] = refl
-until-front (x ∷ l) = go (eqb x 0) (until-front l)
-  where
-    go : (b : Bool) → take (length (upToZero l)) l ≡ upToZero l → take (length (cond b [] (x ∷ upToZero l))) (x ∷ l) ≡ cond b [] (x ∷ upToZero l)
-    go true h = refl
-    go false h = ap (λ (r : List ℕ). x ∷ r) h
-
 front-string : (image : List ℕ) (at n : ℕ) → part at (length (upToZero (part at n image))) image ≡ upToZero (part at n image)
 front-string image at n =
     let l = part at n image in
-    sym (take-take (length (upToZero l)) n (drop at image) (omega (arith, length-upToZero l, length-take-most n (drop at image)))) ∙ until-front l
+    sym (take-take (length (upToZero l)) n (drop at image) (omega (arith, length-upToZero l, length-take-most n (drop at image)))) ∙ take-upToZero l
 
 -- Where the name of a node that is not the root stands.
 name-span : (image : List ℕ) (reader : Reader) (strings entries : List ℕ) (node : ℕ) → (node ≡ 0 → ⊥)

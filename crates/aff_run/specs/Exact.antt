@@ -9,11 +9,10 @@ use Rattle.aff_format.specs.Answer.{Answer, accepted, refused, Check, check, re
 use Rattle.aff_format.specs.Bytes.{sameBytes}
 use Rattle.aff_format.specs.Kind.{kindOf, isVoid}
 use Rattle.aff_format.specs.Limits.{stringLimit, nodeLimit, textArea}
-use Rattle.aff_format.specs.Lowest.{lowestFrom}
+use Rattle.aff_format.specs.Lowest.{lowestFrom, isAt}
 use Rattle.aff_format.specs.Strings.{textOf}
 use Rattle.aff_format.specs.Subkey.{isSubkey}
 use Rattle.aff_format.specs.Tree.{Tree, nodeAt}
-use Rattle.aff_open.specs.Nodes.{isAt}
 use Rattle.aff_write.specs.Put.{wrongData, dataKind}
 use Rattle.aff_write.specs.Writer.{written, dataPlace}
 use Rattle.aff_run.specs.Described.{withChild, withData, namesOf, entriesSize, sizeOf}

@@ -1,14 +1,14 @@
 -- 24 for the writer: the test in the order of the passes, the test and document 01's clauses (both ways), and what `judge` says to its
 -- callers. Node by node: an entry is lost, or has all that the clauses ask. Assumes nothing.
 use mathlib.Core.Path.{_≡_, refl, sym, ap, _∙_}
-use mathlib.Core.Bool.{Bool, true, false, not, _&&_, _||_, and-false, and-eq-true-iff, true≢false, false≢true}
-use mathlib.Core.List.{List, [], _∷_, _++_}
+use mathlib.Core.Bool.{Bool, true, false, not, _&&_, _||_, and-false, true≢false}
+use mathlib.Core.List.{List, _++_}
 use Prim.Native.Nat.{ℕ, _+_, _*_, _≤_, _<_}
 use native.Mathlib.Omega.{arith}
 use lib.Dec.{eqb, ltb, leb}
 use lib.ListN.{length}
-use borrow.Author.Tests.{eq-eqb, le-leb, lt-leb, le-ltb, eqb-true, leb-true, leb-false, not-false}
-use Rattle.aff_format.specs.Answer.{accepted, refused, Check, check, refusal, firstWrong}
+use borrow.Author.Tests.{eq-eqb, le-leb, lt-leb, le-ltb, eqb-true, leb-true, leb-false, not-true, not-false}
+use Rattle.aff_format.specs.Answer.{accepted, refused, Check, firstWrong}
 use Rattle.aff_format.specs.Kind.{elementSize, isVoid}
 use Rattle.aff_format.specs.Limits.{imageLimit, stringLimit, nodeLimit, textArea, treeArea}
 use Rattle.aff_format.specs.Lowest.{lowestFrom}
@@ -18,17 +18,16 @@ use Rattle.aff_format.specs.Verdict.{verdictTold}
 use Rattle.aff_format.specs.declared.entry.Entry.{Entry}
 use Rattle.aff_format.specs.declared.entry.FoundEntry.{FoundEntry}
 use Rattle.aff_format.specs.declared.entry.FoundEntry.the-variants.{Whole, Broken}
-use Rattle.aff_format.specs.declared.lowest.Lowest.{Lowest}
 use Rattle.aff_format.specs.declared.lowest.Lowest.the-variants.{Nothing, At}
 use Rattle.aff_format.specs.declared.refusal.Refusal.{Refusal}
-use Rattle.aff_format.specs.declared.refusal.Told.{Told}
 use Rattle.aff_format.specs.declared.verdict.Verdict.{Verdict}
 use Rattle.aff_format.specs.declared.verdict.Verdict.the-variants.{Accepted, Refused}
-use Rattle.aff_format.proofs.AnswerLaws.{not-both, passed, refused-before, passed-before}
-use Rattle.aff_format.proofs.LowestLaws.{none-holds, holds-none}
+use Rattle.aff_format.proofs.AnswerLaws.{passed, refused-before, passed-before, others-told}
+use Rattle.aff_format.proofs.LowestLaws.{none-holds, holds-none, none-at}
 use Rattle.aff_format.proofs.StringsLaws.{strings-zeros}
+use Rattle.aff_format.proofs.TestLaws.{both, all-seven}
 use Rattle.aff_open.specs.Belongs.{noneLost}
-use Rattle.aff_open.specs.Nodes.{isAt, noString, outside}
+use Rattle.aff_open.specs.Nodes.{noString, outside}
 use Rattle.aff_open.specs.Recorded.{orNone}
 use Rattle.aff_open.proofs.LostLaws.{data-within}
 use Rattle.aff_write.specs.Areas.{usedText, namesIn, foundSlot, slotEntry, entrySizes, finishedSize}
@@ -37,26 +36,6 @@ use Rattle.aff_write.specs.Stores.{Store, applyStores, roomAfter}
 use Rattle.aff_write.specs.Writer.{dataPlace, noWriter, writerAfter}
 use Rattle.aff_write.specs.declared.writer.Writer.{Writer}
 use Rattle.aff_write.proofs.AreaLaws.{slot-found}
-
--- ---- Tests in a row.
-
-both : (a b : Bool) → (a && b) ≡ true → (a ≡ true) × (b ≡ true)
-both a b = and-eq-true-iff a b .0
-
-all-seven : (a b c d e f g : Bool) → (a && (b && (c && (d && (e && (f && g)))))) ≡ true
-    → (a ≡ true) × (b ≡ true) × (c ≡ true) × (d ≡ true) × (e ≡ true) × (f ≡ true) × (g ≡ true)
-all-seven a b c d e f g h =
-    let p = both a (b && (c && (d && (e && (f && g))))) h in
-    let q = both b (c && (d && (e && (f && g)))) (p .1) in
-    let r = both c (d && (e && (f && g))) (q .1) in
-    let s = both d (e && (f && g)) (r .1) in
-    let t = both e (f && g) (s .1) in
-    let u = both f g (t .1) in
-    (p .0, q .0, r .0, s .0, t .0, u .0, u .1)
-
-none-lost : (l : Lowest) → not (isAt l) ≡ true → l ≡ Nothing
-none-lost Nothing h = refl
-none-lost (At k) h = absurd (false≢true h)
 
 -- ---- The test in the order of the passes.
 
@@ -178,7 +157,7 @@ belongs-record {room} {writer} {text} {tree} h =
     let t = both (endsInZero (usedText writer text)) (eqb (length (namesIn writer text)) (writer .strings)) (q .0) in
     let n = both (noneLost (nodeLost (writer .strings) (writer .«data») tree) (writer .nodes) 1) (leb (finishedSize writer tree) (writer .length)) (q .1) in
     let s = sizes-hold room writer text tree (p .0) in
-    let node = nodes-kept (writer .strings) (writer .«data») (writer .nodes) tree (none-lost _ (n .0)) in
+    let node = nodes-kept (writer .strings) (writer .«data») (writer .nodes) tree (none-at _ (not-true _ (n .0))) in
     record {
       length-recorded = s .0;
       length-allowed = s .1;
@@ -239,12 +218,6 @@ judged {room} {writer} {text} {tree} h =
     let (b, (l, _)) = passed (writerChecks room writer text tree) (tt {0}) h in
     (belongs-record (not-false (belongs room writer text tree) b), not-false (writer .live) l)
 
-other-number : (b l : Bool) (t : Told) → refused t ≡ firstWrong (check (not b) (refusal 24) ∷ check (not l) (refusal 22) ∷ []) (tt {0})
-    → eqb (t .number) 23 ≡ false
-other-number false l t h = let e : t ≡ refusal 24 = cc in rw e
-other-number true false t h = let e : t ≡ refusal 22 = cc in rw e
-other-number true true t h = not-both h
-
 module _ (room : ℕ) (writer : Writer) (text tree : List ℕ) (v : Verdict)
     (told : verdictTold v ≡ firstWrong (writerChecks room writer text tree) (tt {0})) where
   -- Accepted: the record belongs and is live, and the checks behind decide.
@@ -260,7 +233,7 @@ module _ (room : ℕ) (writer : Writer) (text tree : List ℕ) (v : Verdict)
   judge-refuses more a q e = sym (refused-before (writerChecks room writer text tree) more (tt {0}) a (sym told ∙ ap verdictTold e))
 
   pub judged-other : (q : Refusal) → v ≡ Refused q → eqb (toldRefusal q .number) 23 ≡ false
-  judged-other q e = other-number (belongs room writer text tree) (writer .live) (toldRefusal q) (sym (ap verdictTold e) ∙ told)
+  judged-other q e = others-told 23 (writerChecks room writer text tree) (refl, (refl, tt)) (tt {0}) (sym told ∙ ap verdictTold e)
 
   pub judged-record : (q : Refusal) (next given : Writer) → v ≡ Refused q → writerAfter (refused (toldRefusal q)) next given ≡ given
   judged-record q next given e = rw (judged-other q e)

@@ -1,13 +1,13 @@
 -- Make a child, in the terms of its code: whether a name is new, what 20 and 21 ask, and the calls behind one another, which hand a
 -- refusal on or leave the rest to the next. Assumes nothing.
-use mathlib.Core.Path.{_≡_, refl, sym, ap, subst, _∙_}
-use mathlib.Core.Bool.{Bool, true, false, cond, _||_, true≢false}
+use mathlib.Core.Path.{_≡_, refl, ap, subst, _∙_}
+use mathlib.Core.Bool.{Bool, true, false, cond}
 use mathlib.Core.List.{List, [], _∷_, _++_}
 use Prim.Native.Nat.{ℕ, _+_, _-_, _≤_, _<_}
 use native.Mathlib.Omega.{arith}
 use lib.Dec.{eqb, ltb}
 use lib.ListN.{length, set}
-use borrow.Author.Tests.{lt-ltb, le-ltb, ltb-true, ltb-false}
+use borrow.Author.Tests.{lt-ltb, le-ltb, ltb-false}
 use Rattle.aff_format.specs.Answer.{accepted, refused, Check, firstWrong}
 use Rattle.aff_format.specs.Bytes.{spliced}
 use Rattle.aff_format.specs.Entry.{slotBytes}
@@ -20,6 +20,7 @@ use Rattle.aff_format.specs.declared.refusal.Refusal.{Refusal}
 use Rattle.aff_format.specs.declared.verdict.NumberAnswer.the-variants as answered
 use Rattle.aff_format.proofs.BytesLaws.{spliced-next, set-spliced, length-spliced}
 use Rattle.aff_format.proofs.StringsLaws.{isIn-indexIn, indexIn-within}
+use Rattle.aff_format.proofs.TestLaws.{or-false, left-short}
 use Rattle.aff_write.specs.Areas.{namesIn, slotAt, finishedSize}
 use Rattle.aff_write.specs.Belongs.{Belongs}
 use Rattle.aff_write.specs.Make.{addedStrings, addedText, tooMany, madeWriter, madeText, madeTree}
@@ -35,21 +36,9 @@ name-stored at name l₀ l₁ h e =
     spliced-next at (at + length name) name (0 ∷ []) l₀ l₁ (set l₁ (at + length name) 0) refl (omega arith) e
     (set-spliced (at + length name) 0 l₁ (omega arith))
 
--- What is left of a room.
-room-left : (a s k : ℕ) → s ≤ a → ltb (a - s) k ≡ ltb a (s + k)
-room-left a s k h = go (ltb (a - s) k) refl
-  where
-    go : (b : Bool) → ltb (a - s) k ≡ b → b ≡ ltb a (s + k)
-    go true q = sym (lt-ltb a (s + k) (omega (arith, ltb-true (a - s) k q)))
-    go false q = sym (le-ltb a (s + k) (omega (arith, ltb-false (a - s) k q)))
-
 -- 21, by the size and the text that the code has.
 pub room-short : (a s k : ℕ) {size added : ℕ} → s ≤ a → size ≡ s → added ≡ k → ltb (a - size) (13 + added) ≡ ltb a (s + 13 + k)
-room-short a s k h p q = let e : s + (13 + k) ≡ s + 13 + k = omega arith in rw (p, q) (room-left a s (13 + k) h ∙ ap (ltb a) e)
-
-or-false : (a b : Bool) → (a || b) ≡ false → (a ≡ false) × (b ≡ false)
-or-false true b h = absurd (true≢false h)
-or-false false b h = (refl, h)
+room-short a s k h p q = let e : s + (13 + k) ≡ s + 13 + k = omega arith in rw (p, q) (left-short a s (13 + k) h ∙ ap (ltb a) e)
 
 -- A name is new where no string is it.
 module _ (writer : Writer) (text name : List ℕ) (string : ℕ) (is : string ≡ indexIn name (namesIn writer text))
@@ -89,7 +78,7 @@ module _ (writer : Writer) (text name : List ℕ) (string : ℕ) (is : string �
     pub many-text : writer .strings ≤ stringLimit → writer .text ≤ textArea → writer .strings ≤ string → (writer .strings ≡ stringLimit → ⊥)
         → ltb (textArea - writer .text) (length name + 1) ≡ tooMany writer text name
     unfolding tooMany
-    many-text s t h n = rw (few, is-new h, le-ltb stringLimit (writer .strings + 1) (omega arith)) (room-left textArea (writer .text) (length name + 1) t)
+    many-text s t h n = rw (few, is-new h, le-ltb stringLimit (writer .strings + 1) (omega arith)) (left-short textArea (writer .text) (length name + 1) t)
 
 pub added-most : (writer : Writer) (text name : List ℕ) → addedText writer text name ≤ length name + 1
 added-most writer text name = go (isIn name (namesIn writer text))

@@ -11,12 +11,11 @@ use lib.ListN.{length, getD, set, take, drop, length-append, length-drop, length
 use lib.Seq.{drop-cons, drop-drop, take-all, length-take-le, getD-take}
 use borrow.Author.Tests.{eq-eqb, ne-eqb, eqb-true}
 use Rattle.aff_format.specs.Bytes.{part, sameBytes}
-use Rattle.aff_format.specs.Lowest.{lowestFrom}
+use Rattle.aff_format.specs.Lowest.{lowestFrom, isAt}
 use Rattle.aff_format.specs.Strings.{stringsOf, endsInZero, upToZero, indexIn}
 use Rattle.aff_format.specs.declared.entry.Entry.{Entry}
 use Rattle.aff_format.proofs.LowestLaws.{lowest-same}
 use Rattle.aff_format.proofs.StringsLaws.{endsInZero-append, endsInZero-tail, stringsOf-one, upToZero-without}
-use Rattle.aff_open.specs.Nodes.{isAt}
 use Rattle.aff_open.specs.Tables.{nameFrom, laidOver}
 use Rattle.aff_open.proofs.RecordedLaws.{name-part}
 use Rattle.aff_open.proofs.TableLaws.{Laid, laid-start, laid-store, laid-all, laid-at, laid-front}

@@ -22,7 +22,7 @@ use Rattle.aff_format.specs.declared.kind.FoundKind.{FoundKind}
 use Rattle.aff_format.specs.declared.kind.FoundKind.the-variants.{Known}
 use Rattle.aff_format.specs.declared.refusal.Refusal.{Refusal}
 use Rattle.aff_format.specs.declared.verdict.NumberAnswer.the-variants as answered
-use Rattle.aff_format.proofs.KindLaws.{countIn-div}
+use Rattle.aff_format.proofs.KindLaws.{countIn-few, countIn-div}
 use Rattle.aff_write.specs.Areas.{slotAt, slotEntry, finishedSize}
 use Rattle.aff_write.specs.Belongs.{Belongs}
 use Rattle.aff_write.specs.Put.{takesNone, wrongData, dataKind, putPlace, putStores, storeCheck, roomChecks, dataChecks, putEntry, putTree}
@@ -60,17 +60,10 @@ data-kind Int n h = refl
 data-kind Double n h = refl
 data-kind Complex n h = refl
 
-count-most : (k : Kind) (l : List ℕ) → countIn k l ≤ length l
-count-most Void l = omega arith
-count-most Char l = omega arith
-count-most Int l = omega arith
-count-most Double l = omega arith
-count-most Complex l = omega arith
-
 pub count-divided : (k : Kind) (l : List ℕ) (n : ℕ) → isVoid k ≡ false → n ≡ elementSize k → (length l / n ≡ countIn k l) × (length l / n ≤ length l)
 count-divided k l n v e =
     let d : length l / n ≡ countIn k l = ap (λ (m : ℕ). length l / m) e ∙ sym (countIn-div k l v) in
-    let f = count-most k l in
+    let f = countIn-few k l in
     (d, omega arith)
 
 -- The finished size holds the header, the data and more.

@@ -9,12 +9,11 @@ use Rattle.aff_format.specs.Bytes.{sameBytes, spliced}
 use Rattle.aff_format.specs.Entry.{slotBytes}
 use Rattle.aff_format.specs.Kind.{entrySize}
 use Rattle.aff_format.specs.Limits.{stringLimit, nodeLimit, textArea}
-use Rattle.aff_format.specs.Lowest.{lowestFrom}
+use Rattle.aff_format.specs.Lowest.{lowestFrom, isAt}
 use Rattle.aff_format.specs.Strings.{isIn, indexIn}
 use Rattle.aff_format.specs.Subkey.{isSubkey}
 use Rattle.aff_format.specs.declared.entry.Entry.{Entry}
 use Rattle.aff_format.specs.declared.kind.Kind.the-variants.{Void}
-use Rattle.aff_open.specs.Nodes.{isAt}
 use Rattle.aff_write.specs.Areas.{namesIn, slotAt, slotEntry, nameOf, finishedSize}
 use Rattle.aff_write.specs.Belongs.{writerChecks}
 use Rattle.aff_write.specs.Writer.{written}

@@ -7,9 +7,8 @@ ghost use mathlib.Core.Bool.{true};
 ghost use Prim.Native.Nat.{_≤_};
 ghost use lib.ListN.{length, take};
 ghost use Rattle.aff_format.specs.Limits.{nodeLimit};
-ghost use Rattle.aff_format.specs.Lowest.{lowestFrom};
+ghost use Rattle.aff_format.specs.Lowest.{lowestFrom, isAt};
 ghost use Rattle.aff_format.specs.Strings.{stringsOf, endsInZero};
-ghost use Rattle.aff_open.specs.Nodes.{isAt};
 ghost use Rattle.aff_open.specs.Tables.{laidOver};
 ghost use Rattle.aff_write.specs.Make.{markOf, marksOf, firstMark, isMarked};
 

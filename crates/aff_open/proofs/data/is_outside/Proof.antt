@@ -1,9 +1,9 @@
 -- `data::is_outside` meets its contract: a Void node has no data; else the offset is compared with the section's start and end, and the
 -- bytes with what is left of the section. Assumes nothing.
 use borrow.Author.Needs.{needs}
-use borrow.Author.Tests.{lt-ltb, le-ltb, ltb-true, ltb-false}
-use mathlib.Core.Path.{_≡_, refl, sym, _∙_}
-use mathlib.Core.Bool.{Bool, true, false}
+use borrow.Author.Tests.{lt-ltb, le-ltb}
+use mathlib.Core.Path.{_≡_, sym, _∙_}
+use mathlib.Core.Bool.{true, false}
 use Prim.Native.Nat.{ℕ, _+_, _-_, _*_, _≤_, _<_}
 use native.Mathlib.Omega.{arith}
 use lib.Dec.{ltb}
@@ -11,6 +11,7 @@ use Rattle.aff_format.specs.Kind.{elementSize, isVoid}
 use Rattle.aff_format.specs.declared.kind.Kind.{Kind}
 use Rattle.aff_format.specs.declared.kind.Kind.the-variants.{Void, Char, Int, Double, Complex}
 use Rattle.aff_format.specs.declared.entry.Entry.{Entry}
+use Rattle.aff_format.proofs.TestLaws.{left-short}
 use Rattle.aff_open.specs.Nodes.{outside}
 use Rattle.aff_open.proofs.data.is_outside.Statement.{statement}
 use Rattle.aff_open.proofs.data.is_outside.Tie as tie
@@ -21,13 +22,6 @@ bytes-fit Char n h = omega arith
 bytes-fit Int n h = omega arith
 bytes-fit Double n h = omega arith
 bytes-fit Complex n h = omega arith
-
-left-of : (a b x : ℕ) → b ≤ a → ltb (a - b) x ≡ ltb a (b + x)
-left-of a b x h = go (ltb (a - b) x) refl
-  where
-    go : (t : Bool) → ltb (a - b) x ≡ t → t ≡ ltb a (b + x)
-    go true e = sym (lt-ltb a (b + x) (omega (arith, ltb-true (a - b) x e)))
-    go false e = sym (le-ltb a (b + x) (omega (arith, ltb-false (a - b) x e)))
 
 module _ (from size : ℕ) (e : Entry) where
   void-inside : isVoid (e .kind) ≡ true → false ≡ outside from size e
@@ -45,7 +39,7 @@ module _ (from size : ℕ) (e : Entry) where
   no-room : (n : ℕ) → isVoid (e .kind) ≡ false → from ≤ e .offset → e .offset ≤ from + size → n ≡ elementSize (e .kind)
       → ltb (from + size - e .offset) (e .count * n) ≡ outside from size e
   unfolding outside
-  no-room n v h b s = rw (v, le-ltb (e .offset) from, s) (left-of (from + size) (e .offset) (e .count * elementSize (e .kind)) b)
+  no-room n v h b s = rw (v, le-ltb (e .offset) from, s) (left-short (from + size) (e .offset) (e .count * elementSize (e .kind)) b)
 
 returns : tie.Need-returns
 returns c = void-inside _ _ _ (sym (c .before .is-void .ensures) ∙ c .if1 .taken)

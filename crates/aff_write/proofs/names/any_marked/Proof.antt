@@ -4,9 +4,8 @@ use mathlib.Core.Path.{_≡_, sym, ap, _∙_}
 use Prim.Native.Nat.{_+_, _-_, _≤_}
 use native.Mathlib.Nat.{sub-zero}
 use native.Mathlib.Omega.{arith}
-use Rattle.aff_format.specs.Lowest.{lowestFrom}
+use Rattle.aff_format.specs.Lowest.{lowestFrom, isAt}
 use Rattle.aff_format.proofs.LowestLaws.{lowest-here, lowest-on, lowest-end}
-use Rattle.aff_open.specs.Nodes.{isAt}
 use Rattle.aff_write.specs.Make.{isMarked}
 use Rattle.aff_write.proofs.names.any_marked.Statement.{statement}
 use Rattle.aff_write.proofs.names.any_marked.Tie as tie
