@@ -100,6 +100,11 @@ abbrev pub storesOf : State → List Call → List Store
 storesOf s [] = []
 storesOf s (c ∷ cs) = turn s c .stores ++ storesOf (next (turn s c) (s .room)) cs
 
+-- What they leave.
+abbrev pub stateAfter : State → List Call → State
+stateAfter s [] = s
+stateAfter s (c ∷ cs) = stateAfter (next (turn s c) (s .room)) cs
+
 -- ---- A whole run.
 
 module _ (room form text tree : List ℕ) (allowance : ℕ) (calls : List Call) where
@@ -111,6 +116,9 @@ module _ (room form text tree : List ℕ) (allowance : ℕ) (calls : List Call) 
 
   abbrev pub runStores : List Store
   runStores = begun room form text tree allowance .stores ++ storesOf afterBegin calls
+
+  abbrev pub runState : State
+  runState = stateAfter afterBegin calls
 
 -- ---- What it describes: the calls' arguments and which were accepted, and nothing else.
 
