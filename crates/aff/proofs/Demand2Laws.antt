@@ -183,7 +183,7 @@ module _ (image form strings entries : List ℕ) {r : Reader} (h : opened image 
       ∙ ap (λ (steps : ℕ). frontBy (λ k. itsEntry file k .parent) (itsName file) steps node) nodes-count)
 
   reads-others : (n : ℕ) → r .nodes < n → Absent image r ss es n
-  unfolding nameAnswer kindAnswer countAnswer viewAnswer pathAnswer
+  unfolding nameAnswer kindAnswer countAnswer viewAnswer elementAnswer pathAnswer
   reads-others n l =
       let absent = lt-ltb (r .nodes) n l in
       let here = record-belongs shown in
@@ -192,6 +192,7 @@ module _ (image form strings entries : List ℕ) {r : Reader} (h : opened image 
         kind = rw (here, absent);
         count = rw (here, absent);
         view = rw (here, absent);
+        element = λ index. rw (here, absent);
         path = λ room. rw (here, absent);
       }
 

@@ -36,7 +36,7 @@ use Rattle.aff_open.specs.declared.reader.Reader.{Reader}
 use Rattle.aff_open.specs.declared.reader.Span.{Span}
 use Rattle.aff_open.proofs.ObeysLaws.{obeys-accepted}
 use Rattle.aff_open.proofs.OpenedLaws.{OpenedShape, opened-shape, opened-belongs}
-use Rattle.aff_read.specs.Answers.{partOf, nodeChecks, nameAnswer, kindAnswer, countAnswer, viewAnswer}
+use Rattle.aff_read.specs.Answers.{partOf, nodeChecks, nameAnswer, kindAnswer, countAnswer, viewAnswer, elementAnswer}
 use Rattle.aff_read.specs.Calls.{frontWritten, pathAnswer}
 use Rattle.aff_read.specs.Recall.{symbolsEnd, kindAt, nameAt, nameSpan, dataSpan, spanBytes, parentAt, pathAt}
 use Rattle.aff_write.specs.Writer.{dataPlace}
@@ -208,7 +208,7 @@ module _ (s : State) (tree : Tree) (g : Good s tree) where
         }
 
     other-absent : (n : ℕ) → length tree < n → Absent image reader ss es n
-    unfolding nameAnswer kindAnswer countAnswer viewAnswer pathAnswer
+    unfolding nameAnswer kindAnswer countAnswer viewAnswer elementAnswer pathAnswer
     other-absent n h =
         let absent = lt-ltb (reader .nodes) n (omega (arith, nodes-count)) in
         record {
@@ -216,6 +216,7 @@ module _ (s : State) (tree : Tree) (g : Good s tree) where
           kind = rw (it-belongs, absent);
           count = rw (it-belongs, absent);
           view = rw (it-belongs, absent);
+          element = λ index. rw (it-belongs, absent);
           path = λ room. rw (it-belongs, absent);
         }
 

@@ -9,7 +9,7 @@ use Rattle.aff_format.specs.Limits.{stringLimit, nodeLimit}
 use Rattle.aff_format.specs.Tree.{Tree, nodeAt, countAt, pathIn}
 use Rattle.aff_open.specs.Opening.{opened, stringsAfter, entriesAfter}
 use Rattle.aff_open.specs.declared.reader.Reader.{Reader}
-use Rattle.aff_read.specs.Answers.{partOf, nameAnswer, kindAnswer, countAnswer, viewAnswer}
+use Rattle.aff_read.specs.Answers.{partOf, nameAnswer, kindAnswer, countAnswer, viewAnswer, elementAnswer}
 use Rattle.aff_read.specs.Calls.{frontWritten, pathAnswer}
 use Rattle.aff_read.specs.Recall.{pathAt}
 use Rattle.aff_open.specs.declared.reader.Span.{Span}
@@ -38,6 +38,7 @@ module _ (image : List ℕ) (r : Reader) (strings entries : List ℕ) where
     pub kind : kindAnswer image r strings entries n ≡ refused (refusal 15)
     pub count : countAnswer image r strings entries n ≡ refused (refusal 15)
     pub view : viewAnswer image r strings entries n ≡ refused (refusal 15)
+    pub element : (index : ℕ) → elementAnswer image r strings entries n index ≡ refused (refusal 15)
     pub path : (room : ℕ) → pathAnswer image r strings entries n room ≡ refused (refusal 15)
 
 -- With that form and any areas of 2,048 numbers, opening accepts, and its record and areas show the tree.
