@@ -1,7 +1,8 @@
 -- The worked run of document 01: each call is accepted, 215 stores are made, the room is then the worked file, and it shows the two nodes; a room one
--- byte shorter refuses the put. So what demand 3 says is not said of nothing. Answers from the tree, bytes from the closed room. Assumes nothing.
+-- byte shorter refuses the put, and shows them Void. So what demand 3 says is not said of nothing. Answers from the tree, bytes from the closed room.
+-- Assumes nothing.
 use mathlib.Core.Path.{_≡_, refl, sym, ap, ap₂, _∙_, subst}
-use mathlib.Core.Bool.{Bool, true, false, cond, not, _||_}
+use mathlib.Core.Bool.{Bool, true, false, cond, _||_}
 use mathlib.Core.List.{List, [], _∷_, _++_, append-nil}
 use Prim.Native.Nat.{ℕ, zero, suc, _+_, _≤_, _<_}
 use native.Mathlib.Omega.{arith}
@@ -41,7 +42,7 @@ use Rattle.aff_run.proofs.MakeGoodLaws.{made-good}
 use Rattle.aff_run.proofs.PutGoodLaws.{put-good}
 use Rattle.aff_run.proofs.RunLaws.{turn-form, close-told, make-answer, put-answer}
 use Rattle.aff.specs.Demand3.{roomAt}
-use Rattle.aff.specs.Worked.{workedForm, nameA, nameN, minusSeventy, workedCalls, workedTree, workedFile, WorkedRun, Worked, OneShorter}
+use Rattle.aff.specs.Worked.{workedForm, nameA, nameN, minusSeventy, workedCalls, workedTree, workedFile, WorkedRun, Worked, voidTree, ShorterRun, OneShorter, NoSubkey}
 use Rattle.aff.proofs.Demand3Laws.{demand3}
 use Rattle.aff.proofs.WorkedSums.{symbols-digest, entries-digest, data-digest, workedFront, header-digest}
 
@@ -175,7 +176,7 @@ module _ (s : State) (g : Good s workedTree) (f : s .writer .form ≡ workedForm
       let size : dataPlace + dataSize workedTree + length symbols + length entries ≡ 214 = rw (worked-text, worked-size, found .0) (omega (arith, entry-length)) in
       h ∙ rw (front-here, rest-here (dataPlace + dataSize workedTree + length symbols + length entries) size, worked-text, worked-size, found .0, found .1) worked-is
 
--- ---- The run, in any room of 214 bytes, with any areas of their lengths and any allowances that suffice.
+-- ---- Runs with any areas of their lengths and any allowances that suffice.
 
 pub begin-accepted : (room text tree : List ℕ) (begins : ℕ) → 168 ≤ length room → length room ≤ imageLimit → length text ≡ textArea → length tree ≡ treeArea → 1 ≤ begins
     → beginAnswer room workedForm text tree begins ≡ accepted 1
@@ -183,12 +184,54 @@ unfolding beginAnswer lentWrong numberForm
 begin-accepted room text tree begins lo hi x t b =
     rw (eq-eqb (length text) textArea x, eq-eqb (length tree) treeArea t, le-ltb imageLimit (length room) hi, le-ltb (length room) 168 lo, le-ltb begins 1 b)
 
+-- Demand 3 of a run with a close accepted: the room after all its stores shows the tree described.
+run-shows : (room form text tree : List ℕ) (allowance : ℕ) (calls : List Call) (shown : Tree)
+    → described [] calls (runAnswers room form text tree allowance calls) ≡ shown
+    → closedBy calls (runAnswers room form text tree allowance calls) ≡ true
+    → Shows (applyStores room (runStores room form text tree allowance calls)) form shown
+run-shows room form text tree allowance calls shown e c =
+    let all = runStores room form text tree allowance calls in
+    let d = demand3 room form text tree allowance calls (length all) (omega arith) .all-made refl c in
+    subst (λ (i : List ℕ). Shows i form shown) (ap (applyStores room) (take-length all))
+    (subst (λ (z : Tree). Shows (roomAt room all (length all)) form z) e d)
+
+-- ---- A room of 213 bytes: the answers from the tree, the rest by demand 3.
+
+module _ (room text tree : List ℕ) (begins puts closes : ℕ) (r : length room ≡ 213) (x : length text ≡ textArea) (t : length tree ≡ treeArea)
+    (b : 1 ≤ begins) (c : 198 ≤ closes) where
+  abbrev cs : List Call
+  cs = workedCalls puts closes
+
+  shorter-answers : runAnswers room workedForm text tree begins cs ≡ accepted 1 ∷ accepted 2 ∷ refused (refusal 21) ∷ accepted 198 ∷ []
+  shorter-answers =
+      exact-is cs (length room) false [] (runAnswers room workedForm text tree begins cs) refl
+      (run-exact room workedForm text tree begins cs (begin-accepted room text tree begins (omega arith) (omega arith) x t b))
+      ∙ ap (λ (n : ℕ). expected n false [] cs) r ∙ expected-213 puts closes c
+
+  shorter-tree : described [] cs (runAnswers room workedForm text tree begins cs) ≡ voidTree
+  shorter-tree = ap (described [] cs) shorter-answers
+
+  shorter-shows : Shows (applyStores room (runStores room workedForm text tree begins cs)) workedForm voidTree
+  shorter-shows = run-shows room workedForm text tree begins cs voidTree shorter-tree (ap (closedBy cs) shorter-answers)
+
+  shorter : ShorterRun room text tree begins puts closes
+  shorter = record { answers = shorter-answers; nodes = shorter-tree; shows = shorter-shows }
+
 pub worked-213 : OneShorter
-worked-213 room text tree begins puts closes r x t b c =
-    let cs = workedCalls puts closes in
-    let h = begin-accepted room text tree begins (omega arith) (omega arith) x t b in
-    exact-is cs (length room) false [] (runAnswers room workedForm text tree begins cs) refl (run-exact room workedForm text tree begins cs h)
-    ∙ ap (λ (n : ℕ). expected n false [] cs) r ∙ expected-213 puts closes c
+worked-213 = shorter
+
+-- ---- (P5) for make.
+
+expected-9a : (room : ℕ) → expected room false [] (make 0 (57 ∷ 97 ∷ []) ∷ []) ≡ refused (refusal 14) ∷ []
+unfolding narrowFirst subkeyFrom
+expected-9a room = refl
+
+pub no-subkey : NoSubkey
+no-subkey room form text tree allowance n h =
+    let cs = make 0 (57 ∷ 97 ∷ []) ∷ [] in
+    exact-is cs (length room) false [] (runAnswers room form text tree allowance cs) refl (run-exact room form text tree allowance cs h) ∙ expected-9a (length room)
+
+-- ---- The worked run.
 
 five-lengths : (b m n p c : List Store) → length b ≡ 1 → m ≡ [] → n ≡ [] → length p ≡ 4 → length c ≡ 210 → length (b ++ (m ++ (n ++ (p ++ (c ++ []))))) ≡ 215
 five-lengths b m n p c lb em en lp lc = rw (em, en, append-nil, length-append, length-append p c, lb, lp, lc)
@@ -273,10 +316,8 @@ module _ (room text tree : List ℕ) (begins puts closes : ℕ) (r : length room
   -- Demand 3 of this run: the worked file shows the two nodes.
   pub worked-shows : Shows workedFile workedForm workedTree
   worked-shows =
-      let all = runStores room workedForm text tree begins calls in
-      let d = demand3 room workedForm text tree begins calls (length all) (omega arith) .all-made refl worked-closed in
-      let e : roomAt room all (length all) ≡ workedFile = ap (applyStores room) (take-length all) ∙ worked-room in
-      subst (λ (i : List ℕ). Shows i workedForm workedTree) e (subst (λ (shown : Tree). Shows (roomAt room all (length all)) workedForm shown) worked-tree d)
+      subst (λ (i : List ℕ). Shows i workedForm workedTree) worked-room
+      (run-shows room workedForm text tree begins calls workedTree worked-tree worked-closed)
 
   run : WorkedRun room text tree begins puts closes
   run = record { begun = worked-begins; answers = worked-answers; stores = worked-stores; file = worked-room; nodes = worked-tree; shows = worked-shows }

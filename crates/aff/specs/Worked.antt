@@ -77,8 +77,29 @@ abbrev pub Worked : Type 0
 Worked = (room text tree : List ℕ) (begins puts closes : ℕ) → length room ≡ 214 → length text ≡ textArea → length tree ≡ treeArea
     → 1 ≤ begins → 4 ≤ puts → 210 ≤ closes → WorkedRun room text tree begins puts closes
 
--- A room one byte shorter refuses the put by 21. The close then makes the file of two Void nodes, in 198 stores.
+-- ---- A room one byte shorter.
+
+-- The same nodes with no data.
+abbrev pub voidTree : Tree
+voidTree =
+    record { parent = 0; name = nameA; kind = Void; bytes = [] }
+    ∷ record { parent = 1; name = nameN; kind = Void; bytes = [] }
+    ∷ []
+
+module _ (room text tree : List ℕ) (begins puts closes : ℕ) where
+  pub record ShorterRun : Type 0 where
+    -- The put is refused by 21; the close then makes its file in 198 stores.
+    pub answers : runAnswers room workedForm text tree begins (workedCalls puts closes) ≡ accepted 1 ∷ accepted 2 ∷ refused (refusal 21) ∷ accepted 198 ∷ []
+    -- The calls describe two Void nodes, and the room then shows them.
+    pub nodes : described [] (workedCalls puts closes) (runAnswers room workedForm text tree begins (workedCalls puts closes)) ≡ voidTree
+    pub shows : Shows (applyStores room (runStores room workedForm text tree begins (workedCalls puts closes))) workedForm voidTree
+
 abbrev pub OneShorter : Type 0
 OneShorter = (room text tree : List ℕ) (begins puts closes : ℕ) → length room ≡ 213 → length text ≡ textArea → length tree ≡ treeArea
-    → 1 ≤ begins → 198 ≤ closes
-    → runAnswers room workedForm text tree begins (workedCalls puts closes) ≡ accepted 1 ∷ accepted 2 ∷ refused (refusal 21) ∷ accepted 198 ∷ []
+    → 1 ≤ begins → 198 ≤ closes → ShorterRun room text tree begins puts closes
+
+-- ---- (P5) of document 01's cases, for make: behind every accepted begin a child `9a` is 14. (For a path it is in crates/aff_read/specs/Cases.antt.)
+
+abbrev pub NoSubkey : Type 0
+NoSubkey = (room form text tree : List ℕ) (allowance n : ℕ) → beginAnswer room form text tree allowance ≡ accepted n
+    → runAnswers room form text tree allowance (make 0 (57 ∷ 97 ∷ []) ∷ []) ≡ refused (refusal 14) ∷ []
