@@ -1,46 +1,43 @@
--- Demand 1 from the laws of 24 (`opened-belongs`, `none-belongs`) and of runs (`run-exact`, `run-spent`, `run-refused`). Every reading and writing
--- call judges 24 first, so it answers 24 where the record does not belong, and where it does, no check behind tells 24. Assumes nothing.
-use mathlib.Core.Path.{_≡_, refl, sym, ap, subst, _∙_}
+-- Demand 1 from the laws of rules (`reading-by`, `begin-by`, `writing-by`), of 24 (`opened-belongs`, `none-belongs`) and of runs (`run-exact`,
+-- `run-spent`, `run-refused`). Every reading and writing call judges 24 first, so it answers 24 where the record does not belong, and where it does, no
+-- check behind tells 24. Assumes nothing.
+use mathlib.Core.Path.{_≡_, refl, sym, ap, _∙_}
 use mathlib.Core.Bool.{Bool, true, false, cond, not, _||_, true≢false}
 use mathlib.Core.List.{List, [], _∷_}
 use mathlib.Core.Logic.{_↔_, _⊎_, inl, inr}
-use Prim.Native.Nat.{ℕ, _+_, _≤_}
+use Prim.Native.Nat.{ℕ, _+_}
 use native.Mathlib.Omega.{arith}
 use lib.Dec.{ltb, leb}
 use lib.ListN.{length}
-use borrow.Author.Tests.{eq-eqb, ne-eqb, le-ltb, ltb-false, eqb-false}
-use Rattle.aff_format.specs.Answer.{Answer, accepted, refused, Check, check, refusal, firstWrong}
-use Rattle.aff_format.specs.Limits.{imageLimit, textArea, treeArea}
+use borrow.Author.Tests.{eq-eqb, ne-eqb, eqb-false}
+use Rattle.aff_format.specs.Answer.{Answer, refused, Check, check, refusal, firstWrong}
 use Rattle.aff_format.specs.Lowest.{isAt}
 use Rattle.aff_format.specs.Path.{isPath}
 use Rattle.aff_format.specs.Tree.{Tree}
 use Rattle.aff_format.specs.declared.refusal.Told.{Told}
 use Rattle.aff_format.proofs.AnswerLaws.{Others, others-told}
-use Rattle.aff_open.specs.Belongs.{belongs}
-use Rattle.aff_open.specs.Faults.{AllHold, FirstFails, Settled}
+use Rattle.aff_open.specs.Belongs.{belongs, Belongs as ReaderBelongs}
 use Rattle.aff_open.specs.Opening.{stringsAfter, entriesAfter}
 use Rattle.aff_open.specs.Reader.{noReader}
 use Rattle.aff_open.specs.declared.reader.Reader.{Reader}
-use Rattle.aff_open.proofs.BelongsLaws.{none-belongs}
+use Rattle.aff_open.proofs.BelongsLaws.{belongs-record as reader-clauses, record-belongs as reader-belongs, none-belongs}
 use Rattle.aff_open.proofs.OpenedLaws.{opened-belongs}
-use Rattle.aff_open.proofs.RuleLaws.{AskFor, none, one, settled, all-accept, first-refuses}
 use Rattle.aff_read.specs.Answers.{nameAnswer, kindAnswer, countAnswer, viewAnswer, elementAnswer}
 use Rattle.aff_read.specs.Calls.{editionBy, found, pathAnswer, lookupAnswer, listingAnswer, lineAt, lineAnswer}
 use Rattle.aff_read.specs.Recall.{countAt, pathAt}
-use Rattle.aff_write.specs.Begin.{lentWrong, beginChecks, beginAnswer}
-use Rattle.aff_write.specs.Belongs.{belongs as belongsHere}
-use Rattle.aff_write.specs.Close.{closeAnswer}
-use Rattle.aff_write.specs.Make.{makeAnswer}
-use Rattle.aff_write.specs.Put.{putAnswer}
-use Rattle.aff_write.specs.Writer.{dataPlace, noWriter}
+use Rattle.aff_write.specs.Belongs.{belongs as belongsHere, Belongs as WriterBelongs}
+use Rattle.aff_write.specs.Close.{storeChecks, closeAnswer}
+use Rattle.aff_write.specs.Make.{childChecks, makeAnswer}
+use Rattle.aff_write.specs.Put.{dataChecks, putAnswer}
+use Rattle.aff_write.specs.Writer.{noWriter}
 use Rattle.aff_write.specs.declared.writer.Writer.{Writer}
-use Rattle.aff_write.proofs.BelongsLaws.{none-belongs as none-belongs-here}
+use Rattle.aff_write.proofs.BelongsLaws.{belongs-record as writer-clauses, record-belongs as writer-belongs, none-belongs as none-belongs-here}
 use Rattle.aff_run.specs.Exact.{exactChecks, exactValue, exactAnswer, Exact, stops}
 use Rattle.aff_run.specs.Run.{Call, make, put, close, State, turn, isAccepted, grown}
-use Rattle.aff_run.proofs.BeginGoodLaws.{lent-right}
 use Rattle.aff_run.proofs.CutLaws.{make-stores, put-tells, close-tells, begun-tells}
 use Rattle.aff_run.proofs.ExactLaws.{run-exact, run-spent, run-refused}
-use Rattle.aff.specs.Demand1.{NotBy, Is24, Not24, EachReading, EachWriting, beginRules, Numbered, toldBy, Demand1}
+use Rattle.aff.specs.Demand1.{NotBy, Is24, Not24, EachReading, EachWriting, Numbered, toldBy, Demand1}
+use Rattle.aff.proofs.RulesLaws.{opening-by, decode-by, reading-by, begin-by, writing-by}
 
 -- ---- Checks that tell other numbers.
 
@@ -95,7 +92,54 @@ module _ (image : List ℕ) (r : Reader) (strings entries : List ℕ) where
         line = λ node room. rw b;
       }
 
+-- Of one sort, and so of another.
+each-reading : {S T : (A : Type 0) → Answer A → Type 0} {image : List ℕ} {r : Reader} {strings entries : List ℕ}
+    → ((A : Type 0) (answer : Answer A) → S A answer → T A answer) → EachReading S image r strings entries → EachReading T image r strings entries
+each-reading f e =
+    record {
+      name = λ node. f _ _ (e .name node);
+      kind = λ node. f _ _ (e .kind node);
+      count = λ node. f _ _ (e .count node);
+      view = λ node. f _ _ (e .view node);
+      element = λ node index. f _ _ (e .element node index);
+      path = λ node room. f _ _ (e .path node room);
+      lookup = λ path. f _ _ (e .lookup path);
+      listing = λ room. f _ _ (e .listing room);
+      line = λ node room. f _ _ (e .line node room);
+    }
+
+each-writing : {S T : (A : Type 0) → Answer A → Type 0} {image : List ℕ} {w : Writer} {text tree : List ℕ}
+    → ((A : Type 0) (answer : Answer A) → S A answer → T A answer) → EachWriting S image w text tree → EachWriting T image w text tree
+each-writing f e =
+    record {
+      make = λ parent name. f _ _ (e .make parent name);
+      put = λ node type bytes allowance. f _ _ (e .put node type bytes allowance);
+      close = λ allowance. f _ _ (e .close allowance);
+    }
+
+reads-24 : (image : List ℕ) (r : Reader) (strings entries : List ℕ)
+    → EachReading (λ A answer. Is24 A answer ↔ (ReaderBelongs image r strings entries → ⊥)) image r strings entries
+reads-24 image r strings entries = go (belongs image r strings entries) refl
+  where
+    go : (b : Bool) → belongs image r strings entries ≡ b
+        → EachReading (λ A answer. Is24 A answer ↔ (ReaderBelongs image r strings entries → ⊥)) image r strings entries
+    go true b = each-reading (λ A answer not. (λ h. absurd (not (refusal 24) h refl), λ n. absurd (n (reader-clauses b)))) (reads image r strings entries b)
+    go false b = each-reading (λ A answer is. (λ _ c. true≢false (sym (reader-belongs c) ∙ b), λ _. is)) (wrong-reads image r strings entries b)
+
 -- ---- Writing.
+
+-- The check of 22, then more.
+abbrev awake : Writer → List Check → List Check
+awake w more = check (not (w .live)) (refusal 22) ∷ more
+
+writes : (image : List ℕ) (w : Writer) (text tree : List ℕ) → belongsHere (length image) w text tree ≡ true → EachWriting Not24 image w text tree
+unfolding makeAnswer putAnswer closeAnswer
+writes image w text tree b =
+    record {
+      make = λ parent name. not-24 b (awake w (childChecks w text tree parent name)) _ (refl, (refl, (refl, (refl, (refl, (refl, tt))))));
+      put = λ node type bytes allowance. not-24 b (awake w (dataChecks w tree node type bytes allowance)) _ (refl, (refl, (refl, (refl, (refl, (refl, tt))))));
+      close = λ allowance. not-24 b (awake w (storeChecks image w text tree allowance)) _ (refl, (refl, tt));
+    }
 
 wrong-writes : (image : List ℕ) (w : Writer) (text tree : List ℕ) → belongsHere (length image) w text tree ≡ false → EachWriting Is24 image w text tree
 unfolding makeAnswer putAnswer closeAnswer
@@ -106,30 +150,14 @@ wrong-writes image w text tree b =
       close = λ allowance. rw b;
     }
 
-module _ (room form text tree : List ℕ) (allowance : ℕ) where
-  lent-asks : (lentWrong room form text tree ≡ false)
-      ↔ ((length form ≡ 12) × (length text ≡ textArea) × (length tree ≡ treeArea) × (length room ≤ imageLimit))
-  unfolding lentWrong
-  lent-asks = (
-    lent-right room form text tree,
-    λ (f, x, t, r). rw (eq-eqb (length form) 12 f, eq-eqb (length text) textArea x, eq-eqb (length tree) treeArea t, le-ltb imageLimit (length room) r),
-  )
-
-  begin-asks : AskFor (beginChecks room form text tree allowance) (beginRules room form text tree allowance)
-  begin-asks =
-      one lent-asks
-      (λ h. one (ltb-false (length room) dataPlace, le-ltb (length room) dataPlace)
-      (λ h. one (ltb-false allowance 1, le-ltb allowance 1) (λ h. none)))
-
-  begin-settled : Settled (beginRules room form text tree allowance) 1 (beginAnswer room form text tree allowance)
-  unfolding beginAnswer
-  begin-settled = settled 1 begin-asks
-
-  accepted-hold : beginAnswer room form text tree allowance ≡ accepted 1 → AllHold (beginRules room form text tree allowance)
-  accepted-hold h = subst (Settled (beginRules room form text tree allowance) 1) h begin-settled .0
-
-  refused-first : {t : Told} → beginAnswer room form text tree allowance ≡ refused t → FirstFails (beginRules room form text tree allowance) t
-  refused-first h = subst (Settled (beginRules room form text tree allowance) 1) h begin-settled
+writes-24 : (room : List ℕ) (w : Writer) (text tree : List ℕ)
+    → EachWriting (λ A answer. Is24 A answer ↔ (WriterBelongs (length room) w text tree → ⊥)) room w text tree
+writes-24 room w text tree = go (belongsHere (length room) w text tree) refl
+  where
+    go : (b : Bool) → belongsHere (length room) w text tree ≡ b
+        → EachWriting (λ A answer. Is24 A answer ↔ (WriterBelongs (length room) w text tree → ⊥)) room w text tree
+    go true b = each-writing (λ A answer not. (λ h. absurd (not (refusal 24) h refl), λ n. absurd (n (writer-clauses b)))) (writes room w text tree b)
+    go false b = each-writing (λ A answer is. (λ _ c. true≢false (sym (writer-belongs c) ∙ b), λ _. is)) (wrong-writes room w text tree b)
 
 -- ---- What a run's answers say of 24 and 22.
 
@@ -177,17 +205,16 @@ tells-made s (close allowance) = close-tells s allowance
 pub demand1 : Demand1
 demand1 =
     record {
+      opening = opening-by;
+      reading = reading-by;
+      decode = decode-by;
+      begin = begin-by;
+      writing = writing-by;
+      reading-24 = reads-24;
+      writing-24 = writes-24;
       opened-reads = λ image form strings entries h.
           reads image _ (stringsAfter image form strings entries) (entriesAfter image form strings entries) (opened-belongs image form strings entries h);
       refused-reads = λ image form strings entries h other ss es. rw h (wrong-reads other noReader ss es (none-belongs other ss es));
-      begin-accepts = λ room form text tree allowance. (
-        λ h. accepted-hold room form text tree allowance h,
-        all-accept (beginRules room form text tree allowance) 1 (beginAnswer room form text tree allowance) (begin-settled room form text tree allowance),
-      );
-      begin-refuses = λ room form text tree allowance t. (
-        λ h. refused-first room form text tree allowance h,
-        first-refuses (beginRules room form text tree allowance) 1 (beginAnswer room form text tree allowance) (begin-settled room form text tree allowance),
-      );
       refused-writes = λ room form text tree allowance h other o x y.
           rw (h, ne-eqb _ 23 other) (wrong-writes o noWriter x y (none-belongs-here (length o) x y));
       run = λ room form text tree allowance calls h. run-exact room form text tree allowance calls h;

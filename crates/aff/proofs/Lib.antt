@@ -1,4 +1,5 @@
 -- The proofs of the demands.
+pub mod RulesLaws
 pub mod Demand1Laws
 pub mod Demand2Laws
 pub mod Demand3Laws

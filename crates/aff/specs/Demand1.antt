@@ -1,32 +1,37 @@
 -- Demand 1. Every call ends, does nothing undefined and answers by document 01's table, whatever it is given. That each function ends, stays inside
 -- what it is lent and meets its contract for every input is what the prover proves of it; each contract is an equation with a definition of
--- specs/, and a call's refusals stand there in the order of document 01. This file says what no single contract does: when the numbers 24 and 22 come
--- at all, and that a writer's answers are decided by the tree that the calls describe. So a writer that refuses every call cannot pass, nor one that
--- makes up the number of its stores.
+-- specs/. This file says of those definitions: each call is accepted exactly when its rules hold, in document 01's order, and else refused by the
+-- first that fails, for every record, everything lent and every argument, altered or not (`By` and the rules are in Rules.antt, opening's in
+-- crates/aff_open/specs/Faults.antt); when the numbers 24 and 22 come at all; and that in a run a writer's answers are decided by the tree that the calls
+-- describe. So a writer that refuses every call cannot pass.
 use mathlib.Core.Path.{_≡_}
 use mathlib.Core.Bool.{Bool, true, false, _||_}
 use mathlib.Core.List.{List, [], _∷_}
 use mathlib.Core.Logic.{_↔_}
-use Prim.Native.Nat.{ℕ, _≤_}
+use Prim.Native.Nat.{ℕ}
 use lib.ListN.{length}
-use Rattle.aff_format.specs.Answer.{Answer, accepted, refused, refusal, refusalAt}
-use Rattle.aff_format.specs.Limits.{imageLimit, textArea, treeArea}
+use Rattle.aff_format.specs.Answer.{Answer, accepted, refused, refusal}
+use Rattle.aff_format.specs.Element.{elementAt, decoded}
 use Rattle.aff_format.specs.Tree.{Tree}
+use Rattle.aff_format.specs.declared.kind.Kind.{Kind}
 use Rattle.aff_format.specs.declared.refusal.Told.{Told}
-use Rattle.aff_open.specs.Faults.{Rule, rule, AllHold, FirstFails}
-use Rattle.aff_open.specs.Opening.{opened, readerAfter, stringsAfter, entriesAfter}
+use Rattle.aff_open.specs.Belongs.{Belongs as ReaderBelongs}
+use Rattle.aff_open.specs.Faults.{rules}
+use Rattle.aff_open.specs.Opening.{opened, readerFor, readerAfter, stringsAfter, entriesAfter}
+use Rattle.aff_open.specs.Sections.{editionIn}
 use Rattle.aff_open.specs.declared.reader.Reader.{Reader}
 use Rattle.aff_read.specs.Answers.{nameAnswer, kindAnswer, countAnswer, viewAnswer, elementAnswer}
 use Rattle.aff_read.specs.Calls.{pathAnswer, lookupAnswer, listingAnswer, lineAnswer}
 use Rattle.aff_write.specs.Begin.{beginAnswer, beginWriter}
+use Rattle.aff_write.specs.Belongs.{Belongs as WriterBelongs}
 use Rattle.aff_write.specs.Close.{closeAnswer}
 use Rattle.aff_write.specs.Make.{makeAnswer}
 use Rattle.aff_write.specs.Put.{putAnswer}
 use Rattle.aff_write.specs.Stores.{storesTold}
-use Rattle.aff_write.specs.Writer.{dataPlace}
 use Rattle.aff_write.specs.declared.writer.Writer.{Writer}
 use Rattle.aff_run.specs.Exact.{Exact, AllWrongRecord, stops}
 use Rattle.aff_run.specs.Run.{Call, make, put, close, State, begun, turn, runAnswers, runStores}
+use Rattle.aff.specs.Rules.{By, Is, decodeRules, ReadingByRules, beginRules, WritingByRules}
 
 -- An answer is no refusal by this number.
 abbrev pub NotBy : {A : Type 0} → ℕ → Answer A → Type 0
@@ -57,14 +62,6 @@ pub record EachWriting (Sort : (A : Type 0) → Answer A → Type 0) (image : Li
   pub put : (node type : ℕ) (bytes : List ℕ) (allowance : ℕ) → Sort _ (putAnswer (length image) w text tree node type bytes allowance)
   pub close : (allowance : ℕ) → Sort _ (closeAnswer image w text tree allowance)
 
--- What begin asks, in document 01's order: 1, 21, 23. A room has at least a header's 168 bytes.
-abbrev pub beginRules : List ℕ → List ℕ → List ℕ → List ℕ → ℕ → List Rule
-beginRules room form text tree allowance =
-    rule ((length form ≡ 12) × (length text ≡ textArea) × (length tree ≡ treeArea) × (length room ≤ imageLimit)) (refusal 1)
-    ∷ rule (dataPlace ≤ length room) (refusal 21)
-    ∷ rule (1 ≤ allowance) (refusalAt 23 allowance)
-    ∷ []
-
 -- No answer of a run is 24, and an answer is 22 exactly if the writer was closed or stopped before: by an accepted close or a 23.
 abbrev pub Numbered : Bool → List Call → List (Answer ℕ) → Type 0
 Numbered stopped [] answers = Unit {0}
@@ -79,17 +76,27 @@ toldBy (put node type bytes allowance) answer = storesTold answer
 toldBy (close allowance) answer = storesTold answer
 
 pub record Demand1 : Type 0 where
+  -- The table. Opening, each reading call, the decoding of an element of a view that is held, begin, which tells its one store, and each other writing
+  -- call answer by their rules, whatever record and memory they are given.
+  pub opening : (image form : List ℕ) (strings entries : ℕ)
+      → By (rules image form strings entries) (Is (readerFor (editionIn image) image)) (opened image form strings entries)
+  pub reading : (image : List ℕ) (r : Reader) (strings entries : List ℕ) → ReadingByRules image r strings entries
+  pub decode : (kind : Kind) (bytes : List ℕ) (index : ℕ)
+      → By (decodeRules kind bytes index) (Is (elementAt kind bytes index)) (decoded kind bytes index)
+  pub begin : (room form text tree : List ℕ) (allowance : ℕ)
+      → By (beginRules room form text tree allowance) (Is 1) (beginAnswer room form text tree allowance)
+  pub writing : (room : List ℕ) (w : Writer) (text tree : List ℕ) → WritingByRules room w text tree
+  -- So 24 comes exactly when the record does not belong to what is lent.
+  pub reading-24 : (image : List ℕ) (r : Reader) (strings entries : List ℕ)
+      → EachReading (λ A answer. Is24 A answer ↔ (ReaderBelongs image r strings entries → ⊥)) image r strings entries
+  pub writing-24 : (room : List ℕ) (w : Writer) (text tree : List ℕ)
+      → EachWriting (λ A answer. Is24 A answer ↔ (WriterBelongs (length room) w text tree → ⊥)) room w text tree
   -- Reading. After an accepted opening no reading call on its record, the image and the areas as it left them answers 24.
   pub opened-reads : (image form strings entries : List ℕ) {r : Reader} → opened image form (length strings) (length entries) ≡ accepted r
       → EachReading Not24 image r (stringsAfter image form strings entries) (entriesAfter image form strings entries)
   -- The record that a refused opening hands back, all zero, gets 24 from each reading call, over any image and areas.
   pub refused-reads : (image form : List ℕ) (strings entries : ℕ) {t : Told} → opened image form strings entries ≡ refused t
       → (other ss es : List ℕ) → EachReading Is24 other (readerAfter (opened image form strings entries)) ss es
-  -- Begin. It is accepted, with one store made, exactly when its rules hold, and refused by the first that fails.
-  pub begin-accepts : (room form text tree : List ℕ) (allowance : ℕ)
-      → (beginAnswer room form text tree allowance ≡ accepted 1) ↔ AllHold (beginRules room form text tree allowance)
-  pub begin-refuses : (room form text tree : List ℕ) (allowance : ℕ) (t : Told)
-      → (beginAnswer room form text tree allowance ≡ refused t) ↔ FirstFails (beginRules room form text tree allowance) t
   -- The record that a begin refused otherwise than by 23 hands back, all zero, gets 24 from each writing call, over any image and areas.
   pub refused-writes : (room form text tree : List ℕ) (allowance : ℕ) {t : Told} → beginAnswer room form text tree allowance ≡ refused t
       → (t .number ≡ 23 → ⊥) → (other text' tree' : List ℕ)
@@ -108,8 +115,9 @@ pub record Demand1 : Type 0 where
   -- What `Exact` says of 24 and 22.
   pub exact-numbers : (room : ℕ) (stopped : Bool) (tree : Tree) (calls : List Call) (answers : List (Answer ℕ))
       → Exact room stopped tree calls answers → Numbered stopped calls answers
-  -- The number of stores told is the number made, whatever is lent; none are told but where a call is accepted or answers 23. (Which they are, the
-  -- definitions of `begun` and `turn` say: the first so many of those that the call needs, in document 01's order.)
+  -- No answer tells more stores than its call needs, and none are told but where a call is accepted or answers 23. (The stores of `begun` and `turn` are
+  -- by definition the first so many as the answer tells of those needed. That an accepted call tells all of them and a 23 the allowance is in
+  -- `begin`, `writing` and `Exact`; that the room then holds these and no others is in the contracts, by `roomAfter`.)
   pub begin-tells : (room form text tree : List ℕ) (allowance : ℕ)
       → length (begun room form text tree allowance .stores) ≡ storesTold (begun room form text tree allowance .answer)
   pub tells : (s : State) (c : Call) → length (turn s c .stores) ≡ toldBy c (turn s c .answer)

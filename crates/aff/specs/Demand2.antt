@@ -1,7 +1,8 @@
 -- Demand 2. Opening accepts a file exactly when it obeys the format, and else tells the first rule that it breaks; lookup names the node with the
 -- path; name, view and element are the bytes that the node's entry names. So no opener that accepts or refuses all, and no lookup that always
--- names the root, can pass. All is said of the definitions that the contracts cite. `Obeys` and `rules`, in crates/aff_open/specs, are document 01's
--- rules with no trace of how they are checked.
+-- names the root, can pass. All is said of the definitions that the contracts cite. `Obeys`, in crates/aff_open/specs, is document 01's rules with no
+-- trace of how they are checked; `rules`, there in Faults.antt, is the same rules in document 01's order, of the strings and entries into which the
+-- tables split from the front (`stringsIn`, `nodesIn`, `behindNodes`).
 use mathlib.Core.Path.{_≡_}
 use mathlib.Core.Bool.{cond}
 use mathlib.Core.List.{List, [], _∷_}
