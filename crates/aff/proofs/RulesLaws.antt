@@ -52,7 +52,7 @@ use Rattle.aff_write.specs.declared.writer.Writer.{Writer}
 use Rattle.aff_write.proofs.BelongsLaws.{belongs-record as writer-clauses, record-belongs as writer-belongs}
 use Rattle.aff_write.proofs.StoreLaws.{length-storesFrom}
 use Rattle.aff_run.proofs.BeginGoodLaws.{lent-right}
-use Rattle.aff.specs.Rules.{By, Is, fits, decodeRules, nodeRules, lookupRules, ReadingByRules, beginRules, DataFits, writerRules, NameFree, Few, makeRules, putRules, closeRules, WritingByRules}
+use Rattle.aff.specs.Rules.{By, Is, fits, decodeRules, nodeRules, lookupRules, ReadingByRules, beginRules, DataFits, writerRules, NoSuchChild, Few, makeRules, putRules, closeRules, WritingByRules}
 
 -- ---- What rules settle is answered by them.
 
@@ -78,6 +78,9 @@ is-below n m = (leb-false n m, lt-leb n m)
 is-true : (b : Bool) → (not b ≡ false) ↔ (b ≡ true)
 is-true b = (not-false b, ap not)
 
+fits-asks : (size room : ℕ) → AskFor (check (ltb room size) (refusal 21) ∷ []) (fits size room)
+fits-asks size room = one (at-most room size) (λ _. none)
+
 -- ---- Opening and reading.
 
 pub opening-by : (image form : List ℕ) (strings entries : ℕ)
@@ -96,9 +99,6 @@ module _ (image : List ℕ) (r : Reader) (strings entries : List ℕ) where
   node-asks : (node : ℕ) {cs : List Check} {rs : List Rule} → AskFor cs rs
       → AskFor (nodeChecks image r strings entries node ++ cs) (nodeRules image r strings entries node rs)
   node-asks node more = one reader-asks (λ _. one (at-most (r .nodes) node) (λ _. more))
-
-  fits-asks : (size room : ℕ) → AskFor (check (ltb room size) (refusal 21) ∷ []) (fits size room)
-  fits-asks size room = one (at-most room size) (λ _. none)
 
   -- 15 of a lookup.
   found-asks : (path : List ℕ)
@@ -255,7 +255,7 @@ module _ (room : List ℕ) (w : Writer) (text tree : List ℕ) where
           let p = both (eqb (slotEntry tree k .parent) parent) (sameBytes (nameOf w text tree k) name) e in
           absurd (f (eqb-true (slotEntry tree k .parent) parent (p .0)) (same-eq (nameOf w text tree k) name (p .1)))
 
-  child-asks : (parent : ℕ) (name : List ℕ) → (childExists w text tree parent name ≡ false) ↔ NameFree room w text tree parent name
+  child-asks : (parent : ℕ) (name : List ℕ) → (childExists w text tree parent name ≡ false) ↔ NoSuchChild room w text tree parent name
   unfolding childExists
   child-asks parent name = (
     λ h k lo hi.
@@ -272,8 +272,10 @@ module _ (room : List ℕ) (w : Writer) (text tree : List ℕ) where
   unfolding tooMany
   few-asks name = (
     λ h.
-        let p = or-false (ltb nodeLimit (w .nodes + 1)) (ltb stringLimit (w .strings + addedStrings w text name) || ltb textArea (w .text + addedText w text name)) h in
-        let q = or-false (ltb stringLimit (w .strings + addedStrings w text name)) (ltb textArea (w .text + addedText w text name)) (p .1) in
+        let strings = ltb stringLimit (w .strings + addedStrings w text name) in
+        let bytes = ltb textArea (w .text + addedText w text name) in
+        let p = or-false (ltb nodeLimit (w .nodes + 1)) (strings || bytes) h in
+        let q = or-false strings bytes (p .1) in
         (ltb-false _ _ (p .0), ltb-false _ _ (q .0), ltb-false _ _ (q .1)),
     λ (n, s, t).
         rw (

@@ -40,26 +40,26 @@ pub record By (rules : List Rule) {A : Type 0} (Right : A → Type 0) (answer : 
 abbrev pub Is : {A : Type 0} → A → A → Type 0
 Is value v = v ≡ value
 
--- 21: so many bytes or numbers fit an output.
+-- 21: an output has room for so many bytes or numbers.
 abbrev pub fits : ℕ → ℕ → List Rule
 fits size room = rule (size ≤ room) (refusal 21) ∷ []
 
 -- ---- Reading.
 
--- 16: one element of a view that is held.
+-- An element of a view that is held: 16, the index is below the count.
 abbrev pub decodeRules : Kind → List ℕ → ℕ → List Rule
 decodeRules kind bytes index = rule (index < countIn kind bytes) (refusal 16) ∷ []
 
 module _ (image : List ℕ) (r : Reader) (strings entries : List ℕ) where
-  -- 24: the record belongs to what is lent. 15: the node exists.
+  -- Name, type, count and view: 24, the record belongs to what is lent; 15, the node exists. Path and line: then 21.
   abbrev pub nodeRules : ℕ → List Rule → List Rule
   nodeRules node more = rule (ReaderBelongs image r strings entries) (refusal 24) ∷ rule (node ≤ r .nodes) (refusal 15) ∷ more
 
-  -- 16: the index is below the count.
+  -- Element: 24, 15; 16, the index is below the count.
   abbrev pub elementRules : ℕ → ℕ → List Rule
   elementRules node index = nodeRules node (rule (index < countAt image entries node) (refusal 16) ∷ [])
 
-  -- 24. 14: the path is well-formed. 15: some node has it.
+  -- Lookup: 24; 14, the path is well-formed; 15, some node has it.
   abbrev pub lookupRules : List ℕ → List Rule
   lookupRules path =
       rule (ReaderBelongs image r strings entries) (refusal 24)
@@ -67,7 +67,7 @@ module _ (image : List ℕ) (r : Reader) (strings entries : List ℕ) where
       ∷ rule ((node : ℕ) × (node ≤ r .nodes) × (pathAt image r strings entries node ≡ path)) (refusal 15)
       ∷ []
 
-  -- 24. 21: a number for the root and for each other node.
+  -- Listing order: 24; 21, there is room for a number for each node and the root.
   abbrev pub listingRules : ℕ → List Rule
   listingRules room = rule (ReaderBelongs image r strings entries) (refusal 24) ∷ fits (r .nodes + 1) room
 
@@ -91,7 +91,8 @@ module _ (image : List ℕ) (r : Reader) (strings entries : List ℕ) where
 
 -- ---- Writing.
 
--- 1: each of what is lent has its length, and the room is not too long. 21: it takes a header. 23: the allowance takes the one store.
+-- Begin: 1, each of what is lent has its length, and the room is not too long; 21, the room is at least a header's 168 bytes; 23, the allowance takes
+-- the one store.
 abbrev pub beginRules : List ℕ → List ℕ → List ℕ → List ℕ → ℕ → List Rule
 beginRules room form text tree allowance =
     rule ((length form ≡ 12) × (length text ≡ textArea) × (length tree ≡ treeArea) × (length room ≤ imageLimit)) (refusal 1)
@@ -104,30 +105,31 @@ abbrev pub DataFits : ℕ → ℕ → Type 0
 DataFits type size = (kind : Kind) × (kindCode kind ≡ type) × (2 ≤ type) × (size % elementSize kind ≡ 0)
 
 module _ (room : List ℕ) (w : Writer) (text tree : List ℕ) where
-  -- 24: the record belongs to what is lent. 22: the writer is neither closed nor stopped.
+  -- Make, put and close: 24, the record belongs to what is lent; 22, the writer is neither closed nor stopped; then more.
   abbrev pub writerRules : List Rule → List Rule
   writerRules more = rule (WriterBelongs (length room) w text tree) (refusal 24) ∷ rule (w .live ≡ true) (refusal 22) ∷ more
 
   -- 17: no child of the parent has the name.
-  abbrev pub NameFree : ℕ → List ℕ → Type 0
-  NameFree parent name = (k : ℕ) → 0 < k → k ≤ w .nodes → slotEntry tree k .parent ≡ parent → nameOf w text tree k ≡ name → ⊥
+  abbrev pub NoSuchChild : ℕ → List ℕ → Type 0
+  NoSuchChild parent name = (k : ℕ) → 0 < k → k ≤ w .nodes → slotEntry tree k .parent ≡ parent → nameOf w text tree k ≡ name → ⊥
 
   -- 20: it is no 2,049th node, its name no 2,049th string, and the text does not pass its area; a name that is a string already adds none.
   abbrev pub Few : List ℕ → Type 0
   Few name = (w .nodes + 1 ≤ nodeLimit) × (w .strings + addedStrings w text name ≤ stringLimit) × (w .text + addedText w text name ≤ textArea)
 
-  -- 15: the parent exists. 14: the name is a subkey. 17, 20. 21: the finished size, with a Void entry and the text added, fits the room.
+  -- Make: 24, 22; 15, the parent exists; 14, the name is a subkey; 17; 20; 21, the finished size, with a Void entry and the text added, fits the room.
   abbrev pub makeRules : ℕ → List ℕ → List Rule
   makeRules parent name =
       writerRules
       (rule (parent ≤ w .nodes) (refusal 15)
       ∷ rule (isSubkey written name ≡ true) (refusal 14)
-      ∷ rule (NameFree parent name) (refusal 17)
+      ∷ rule (NoSuchChild parent name) (refusal 17)
       ∷ rule (Few name) (refusal 20)
-      ∷ fits (finishedSize w tree + entrySize Void + addedText w text name) (length room))
+      ∷ rule (finishedSize w tree + entrySize Void + addedText w text name ≤ length room) (refusal 21)
+      ∷ [])
 
-  -- 15: the node exists. 18: it is not the root and has no data. 19. 21: the finished size, with the bytes and the entry's 12 more, fits the room. 23: the
-  -- allowance takes a store for each byte.
+  -- Put: 24, 22; 15, the node exists; 18, it is not the root and has no data; 19; 21, the finished size, with the bytes and the entry's 12 more, fits
+  -- the room; 23, the allowance takes the stores needed, one for each byte.
   abbrev pub putRules : ℕ → ℕ → List ℕ → ℕ → List Rule
   putRules node type bytes allowance =
       writerRules
@@ -138,7 +140,7 @@ module _ (room : List ℕ) (w : Writer) (text tree : List ℕ) where
       ∷ rule (length bytes ≤ allowance) (refusalAt 23 allowance)
       ∷ [])
 
-  -- 23: the allowance takes the stores needed.
+  -- Close: 24, 22; 23, the allowance takes the stores needed.
   abbrev pub closeRules : ℕ → List Rule
   closeRules allowance = writerRules (rule (length (closeStores room w text tree) ≤ allowance) (refusalAt 23 allowance) ∷ [])
 
