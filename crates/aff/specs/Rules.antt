@@ -1,6 +1,6 @@
 -- Document 01's table 'Numbers handed back' and its 'Order' for each call: the rules that the call asks, in order, each with what is told where it
--- fails. They are said of the record, what is lent and the arguments, whatever these hold, and not of how they are checked. Opening's rules are
--- `rules` in crates/aff_open/specs/Faults.antt.
+-- fails. They speak of the record, what is lent and the arguments, whatever these hold. Opening's rules are `rules` in
+-- crates/aff_open/specs/Faults.antt, where `Rule`, `AllHold` and `FirstFails` are too.
 use mathlib.Core.Path.{_≡_}
 use mathlib.Core.Bool.{true}
 use mathlib.Core.List.{List, [], _∷_}
