@@ -17,6 +17,7 @@ mod report;
 mod runs;
 #[cfg(test)]
 mod tests;
+mod times;
 mod writer;
 
 use report::Report;
@@ -30,7 +31,8 @@ second_reader make SEED COUNT FOLDER
 second_reader cases SEED COUNT FOLDER
 second_reader agree SEED COUNT
 second_reader lists SEED COUNT PROGRAM
-second_reader writes SEED COUNT";
+second_reader writes SEED COUNT
+second_reader time CALL ARGUMENTS SAMPLES BATCH";
 
 /// True where nothing differs.
 type Outcome = Result<bool, Box<dyn Error>>;
@@ -56,6 +58,7 @@ fn run(words: &[&str]) -> Outcome {
         ["agree", seed, count] => agree(seed.parse()?, count.parse()?),
         ["lists", seed, count, program] => lists(seed.parse()?, count.parse()?, Path::new(program)),
         ["writes", seed, count] => writes(seed.parse()?, count.parse()?),
+        ["time", rest @ ..] => times::run(rest),
         _ => Err(USAGE.into()),
     }
 }
