@@ -1,43 +1,36 @@
 -- Demand 3 from the laws of runs: the tree by `run-shows`, the kill by `run-shape`, since a room with a zero at place 0 is refused by 3. A begin
 -- that is refused stores nothing. Assumes nothing.
-use mathlib.Core.Path.{_≡_, refl, sym, ap, ap₂, _∙_, subst}
-use mathlib.Core.Bool.{Bool, true, false, cond, not, _||_, true≢false}
+use mathlib.Core.Path.{_≡_, refl, sym, ap, _∙_, subst}
+use mathlib.Core.Bool.{true, false, not, _||_, true≢false}
 use mathlib.Core.List.{List, [], _∷_, _++_}
 use Prim.Native.Nat.{ℕ, zero, suc, _+_, _-_, _≤_, _<_}
 use native.Mathlib.Omega.{arith}
-use lib.Dec.{eqb, ltb}
 use lib.ListN.{length, getD, set, take, length-set}
 use lib.Seq.{take-length, getD-set-same}
-use borrow.Author.Tests.{eq-eqb, le-ltb, ltb-true}
-use Rattle.aff_format.specs.Answer.{Answer, accepted, refused, check, refusal, refusalAt}
+use borrow.Author.Tests.{le-ltb}
+use Rattle.aff_format.specs.Answer.{Answer, accepted, refused, refusal}
 use Rattle.aff_format.specs.Edition.{signatureText}
 use Rattle.aff_format.specs.Bytes.{sameBytes}
 use Rattle.aff_format.specs.Limits.{imageLimit, stringLimit, nodeLimit}
-use Rattle.aff_format.specs.declared.refusal.Told.{Told}
-use Rattle.aff_format.proofs.AnswerLaws.{last-told}
-use Rattle.aff_open.specs.Opening.{lentWrong, openChecks, opened}
+use Rattle.aff_open.specs.Opening.{openChecks, opened}
 use Rattle.aff_open.specs.Sections.{textEdition, isKnown}
-use Rattle.aff_write.specs.Begin.{beginStores, beginAnswer}
-use Rattle.aff_write.specs.Begin.{lentWrong as lentWrongHere}
+use Rattle.aff_open.proofs.FaultLaws.{lent-asks}
+use Rattle.aff_write.specs.Begin.{beginAnswer}
 use Rattle.aff_write.specs.Stores.{Store, applyStores, storesFrom}
-use Rattle.aff_write.specs.Writer.{dataPlace, noWriter, begunWriter, stopped}
+use Rattle.aff_write.specs.Writer.{dataPlace}
 use Rattle.aff_write.proofs.StoreLaws.{apply-append, apply-length}
 use Rattle.aff_run.specs.Described.{sizeOf}
 use Rattle.aff_run.specs.Run.{Call, State, next, begun, storesOf, answersOf, runAnswers, runStores, afterBegin, described, closedBy}
 use Rattle.aff_run.specs.Shows.{Shows}
 use Rattle.aff_run.proofs.BeginGoodLaws.{begin-good, begin-form, begin-stores}
+use Rattle.aff_run.proofs.BeginRefusedLaws.{none-run, none-closed}
 use Rattle.aff_run.proofs.CutLaws.{cut-run-stores, cut-run-room, cut-begin, cut-run-answers-before}
 use Rattle.aff_run.proofs.GoodLaws.{Good}
 use Rattle.aff_run.proofs.PlaceLaws.{Behind, Shaped, behind-first, shaped-take, run-shape}
 use Rattle.aff_run.proofs.RunLaws.{run-shows}
-use Rattle.aff_run.proofs.TurnLaws.{asleep-stores, asleep-closed}
 use Rattle.aff.specs.Demand3.{roomAt, Killed, Demand3, Cut, Demand3Cut}
 
 -- ---- A room with a zero at place 0.
-
-lent-right : (image form : List ℕ) → length form ≡ 12 → length image ≤ imageLimit → lentWrong image form stringLimit nodeLimit ≡ false
-unfolding lentWrong
-lent-right image form f l = rw (eq-eqb (length form) 12 f, le-ltb imageLimit (length image) l)
 
 unknown-text : (image : List ℕ) → 1 ≤ length image → getD image 0 0 ≡ 0 → isKnown (textEdition image) ≡ false
 unfolding textEdition sameBytes signatureText
@@ -48,40 +41,9 @@ pub zero-refused : (image form : List ℕ) → length form ≡ 12 → 144 ≤ le
     → opened image form stringLimit nodeLimit ≡ refused (refusal 3)
 unfolding openChecks
 zero-refused image form f lo hi z =
-    rw (lent-right image form f hi, le-ltb (length image) 144 lo, unknown-text image (omega arith) z)
+    rw (lent-asks image form stringLimit nodeLimit .1 (f, refl, refl, hi), le-ltb (length image) 144 lo, unknown-text image (omega arith) z)
 
 -- ---- A begin that is refused.
-
-module _ (room form text tree : List ℕ) (allowance : ℕ) (t : Told) (h : beginAnswer room form text tree allowance ≡ refused t) where
-  -- A 23 tells the allowance, which is below 1.
-  no-stores : (b : Bool) → eqb (t .number) 23 ≡ b → take (cond b (t .place) 0) beginStores ≡ []
-  unfolding beginAnswer
-  no-stores false e = refl
-  no-stores true e =
-      let q = last-told 23 (check (lentWrongHere room form text tree) (refusal 1) ∷ check (ltb (length room) dataPlace) (refusal 21) ∷ []) (refl, (refl, tt))
-      (ltb allowance 1) (refusalAt 23 allowance) 1 h e in
-      let l = ltb-true allowance 1 (q .1) in
-      let z : t .place ≡ 0 = omega (arith, ap (λ (x : Told). x .place) (q .2)) in
-      rw z
-
-  none-stored : begun room form text tree allowance .stores ≡ []
-  unfolding begun
-  none-stored = rw h (no-stores (eqb (t .number) 23) refl)
-
-  asleep : begun room form text tree allowance .writer .live ≡ false
-  unfolding begun
-  asleep = rw h (go (eqb (t .number) 23))
-    where
-      go : (b : Bool) → (cond b (stopped (begunWriter (length room) form)) noWriter) .live ≡ false
-      go true = refl
-      go false = refl
-
-  module _ (calls : List Call) where
-    none-run : runStores room form text tree allowance calls ≡ []
-    none-run = ap₂ (λ (a b : List Store). a ++ b) none-stored (asleep-stores (afterBegin room form text tree allowance calls) asleep calls)
-
-    none-closed : closedBy calls (runAnswers room form text tree allowance calls) ≡ false
-    none-closed = asleep-closed (afterBegin room form text tree allowance calls) asleep calls
 
 -- A run that stores nothing and is not closed.
 nothing-killed : (room form : List ℕ) (stores : List Store) (calls : List Call) (answers : List (Answer ℕ)) (k : ℕ)

@@ -11,4 +11,5 @@ pub mod RunLaws
 pub mod PlaceLaws
 pub mod CutLaws
 pub mod BeginGoodLaws
+pub mod BeginRefusedLaws
 pub mod ExactLaws
