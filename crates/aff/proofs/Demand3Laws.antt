@@ -20,15 +20,16 @@ use Rattle.aff_write.specs.Stores.{Store, applyStores, storesFrom}
 use Rattle.aff_write.specs.Writer.{dataPlace}
 use Rattle.aff_write.proofs.StoreLaws.{apply-append, apply-length}
 use Rattle.aff_run.specs.Described.{sizeOf}
-use Rattle.aff_run.specs.Run.{Call, State, next, begun, storesOf, answersOf, runAnswers, runStores, afterBegin, described, closedBy}
+use Rattle.aff_run.specs.Run.{Call, State, next, begun, storesOf, answersOf, runAnswers, runStores, runState, afterBegin, described, closedBy}
 use Rattle.aff_run.specs.Shows.{Shows}
 use Rattle.aff_run.proofs.BeginGoodLaws.{begin-good, begin-form, begin-stores}
 use Rattle.aff_run.proofs.BeginRefusedLaws.{none-run, none-closed}
-use Rattle.aff_run.proofs.CutLaws.{cut-run-stores, cut-run-room, cut-begin, cut-run-answers-before}
+use Rattle.aff_run.proofs.CutLaws.{cut-run-stores, cut-run-room, cut-begin, cut-run-answers-before, cut-begin-out, cut-run-answer-out}
 use Rattle.aff_run.proofs.GoodLaws.{Good}
 use Rattle.aff_run.proofs.PlaceLaws.{Behind, Shaped, behind-first, shaped-take, run-shape}
 use Rattle.aff_run.proofs.RunLaws.{run-shows}
-use Rattle.aff.specs.Demand3.{roomAt, Killed, Demand3, Cut, Demand3Cut}
+use Rattle.aff_run.proofs.TurnLaws.{run-room}
+use Rattle.aff.specs.Demand3.{roomAt, Killed, KilledAt, Demand3, Cut, Demand3Cut}
 
 -- ---- A room with a zero at place 0.
 
@@ -45,16 +46,21 @@ zero-refused image form f lo hi z =
 
 -- ---- A begin that is refused.
 
+-- All the stores of a run.
+all-room : (room : List ℕ) (stores : List Store) (last : List ℕ) → last ≡ applyStores room stores → (k : ℕ) → k ≡ length stores → roomAt room stores k ≡ last
+all-room room stores last l k q = ap (λ (ss : List Store). applyStores room ss) (ap (λ (i : ℕ). take i stores) q ∙ take-length stores) ∙ sym l
+
 -- A run that stores nothing and is not closed.
-nothing-killed : (room form : List ℕ) (stores : List Store) (calls : List Call) (answers : List (Answer ℕ)) (k : ℕ)
-    → stores ≡ [] → closedBy calls answers ≡ false → k ≤ length stores → Killed room form stores calls answers k
+nothing-killed : (room form : List ℕ) (stores : List Store) (calls : List Call) (answers : List (Answer ℕ)) (last : List ℕ) (k : ℕ)
+    → stores ≡ [] → closedBy calls answers ≡ false → last ≡ applyStores room stores → k ≤ length stores → Killed room form stores calls answers last k
 unfolding applyStores
-nothing-killed room form stores calls answers k e z le =
+nothing-killed room form stores calls answers last k e z l le =
     let n : length stores ≡ 0 = ap length e in
     record {
       none-made = λ q. rw q;
+      all-left = all-room room stores last l k;
       all-made = λ q c. absurd (true≢false (sym c ∙ z));
-      otherwise = λ l o. absurd (omega arith);
+      otherwise = λ l o lent f. absurd (omega arith);
     }
 
 -- ---- A begin that is accepted.
@@ -99,31 +105,32 @@ module _ (room form text tree : List ℕ) (allowance : ℕ) (calls : List Call) 
       ∙ getD-set-same room 0 0 0 (omega arith)
 
   refused-3 : (k : ℕ) → k ≤ length all → 0 < k → ((k ≡ length all) × (closedBy calls answers ≡ true) → ⊥)
-      → opened (roomAt room all k) form stringLimit nodeLimit ≡ refused (refusal 3)
-  refused-3 zero le lo other = absurd (omega arith)
-  refused-3 (suc k) le lo other =
+      → (lent : List ℕ) → length lent ≡ 12 → opened (roomAt room all k) lent stringLimit nodeLimit ≡ refused (refusal 3)
+  refused-3 zero le lo other lent f = absurd (omega arith)
+  refused-3 (suc k) le lo other lent f =
       let n : length all ≡ suc (length (storesOf s calls)) = ap length all-is in
       let p : Behind (take k (storesOf s calls)) =
       shaped-take (storesOf s calls) (closedBy calls answers) k (run-shape calls s) (λ q. other (omega (arith, q .0), q .1)) (omega arith) in
       let l = apply-length room (take (suc k) all) in
-      zero-refused (roomAt room all (suc k)) form (sizes .2) (omega (arith, sizes .0)) (omega (arith, sizes .1)) (zero-first k p)
+      zero-refused (roomAt room all (suc k)) lent f (omega (arith, sizes .0)) (omega (arith, sizes .1)) (zero-first k p)
 
-  killed : (k : ℕ) → k ≤ length all → Killed room form all calls answers k
+  killed : (k : ℕ) → k ≤ length all → KilledAt room form text tree allowance calls k
   unfolding applyStores
   killed k le =
       record {
         none-made = λ q. rw q;
+        all-left = all-room room all (runState room form text tree allowance calls .room) (run-room room form text tree allowance calls) k;
         all-made = λ q c. subst (λ (ss : List Store). Shows (applyStores room ss) form (described [] calls answers)) (sym (ap (λ (i : ℕ). take i all) q ∙ take-length all)) (all-shown c);
         otherwise = refused-3 k le;
       }
 
 demand3-by : (a : Answer ℕ) (room form text tree : List ℕ) (allowance : ℕ) (calls : List Call) (k : ℕ) → beginAnswer room form text tree allowance ≡ a
-    → k ≤ length (runStores room form text tree allowance calls)
-    → Killed room form (runStores room form text tree allowance calls) calls (runAnswers room form text tree allowance calls) k
+    → k ≤ length (runStores room form text tree allowance calls) → KilledAt room form text tree allowance calls k
 demand3-by (accepted n) room form text tree allowance calls k h le = killed room form text tree allowance calls h k le
 demand3-by (refused t) room form text tree allowance calls k h le =
-    nothing-killed room form (runStores room form text tree allowance calls) calls (runAnswers room form text tree allowance calls) k
-    (none-run room form text tree allowance t h calls) (none-closed room form text tree allowance t h calls) le
+    nothing-killed room form (runStores room form text tree allowance calls) calls (runAnswers room form text tree allowance calls)
+    (runState room form text tree allowance calls .room) k
+    (none-run room form text tree allowance t h calls) (none-closed room form text tree allowance t h calls) (run-room room form text tree allowance calls) le
 
 pub demand3 : Demand3
 demand3 room form text tree allowance calls k le = demand3-by (beginAnswer room form text tree allowance) room form text tree allowance calls k refl le
@@ -135,4 +142,6 @@ demand3-cut room form text tree allowance calls k =
       room-left = cut-run-room room form text tree allowance calls k;
       begins = cut-begin room form text tree allowance k;
       answers = λ before after e l. rw e (cut-run-answers-before room form text tree allowance before after k l);
+      begin-out = cut-begin-out room form text tree allowance k;
+      answer-out = λ before after c e l m. rw e (cut-run-answer-out room form text tree allowance before after c k l m);
     }

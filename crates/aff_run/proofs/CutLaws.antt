@@ -268,7 +268,8 @@ cut-answers-before (c ∷ before) after s left h =
 pub cut-answer-out : (before after : List Call) (c : Call) (s : State) (left : ℕ) → length (storesOf s before) ≤ left → left < length (storesOf s (before ++ (c ∷ [])))
     → take 1 (drop (length before) (cutAnswersOf s left (before ++ (c ∷ after)))) ≡ refused (refusalAt 23 (left - length (storesOf s before))) ∷ []
 cut-answer-out [] after c s left h k =
-    ap (λ (a : Answer ℕ). a ∷ []) (gave-out (turn-compared s c left) (omega (arith, length-append (turn s c .stores) [])))
+    let all : left - 0 ≡ left = omega arith in
+    ap (λ (a : Answer ℕ). a ∷ []) (gave-out (turn-compared s c left) (omega (arith, length-append (turn s c .stores) [])) ∙ ap (λ (i : ℕ). refused (refusalAt 23 i)) (sym all))
 cut-answer-out (b ∷ before) after c s left h k =
     let cs = before ++ (c ∷ after) in
     let full = turn s b in
