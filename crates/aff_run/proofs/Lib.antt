@@ -12,3 +12,4 @@ pub mod PlaceLaws
 pub mod CutLaws
 pub mod BeginGoodLaws
 pub mod ExactLaws
+pub mod HeldLaws

@@ -15,7 +15,7 @@ use Rattle.aff_write.specs.Make.{childChecks, makeAnswer}
 use Rattle.aff_write.specs.Put.{dataChecks, putStores, putAnswer}
 use Rattle.aff_write.specs.Stores.{Store, applyStores, storesTold}
 use Rattle.aff_write.specs.declared.writer.Writer.{Writer}
-use Rattle.aff_run.specs.Run.{Call, make, put, close, State, Turn, next, makeTurn, putTurn, closeTurn, turn, answersOf, storesOf, isAccepted, isClose, closedBy, described}
+use Rattle.aff_run.specs.Run.{Call, make, put, close, State, Turn, next, makeTurn, putTurn, closeTurn, turn, answersOf, storesOf, stateAfter, isAccepted, isClose, closedBy, described}
 
 -- ---- What each call's turn is, by its answer.
 
@@ -89,3 +89,7 @@ asleep-closed s h (c ∷ cs) = rw (asleep-next s h c, asleep-turn s h c) (asleep
 pub asleep-described : (s : State) → s .writer .live ≡ false → (tree : Tree) (cs : List Call) → described tree cs (answersOf s cs) ≡ tree
 asleep-described s h tree [] = refl
 asleep-described s h tree (c ∷ cs) = rw (asleep-next s h c, asleep-turn s h c) (asleep-described s h tree cs)
+
+pub asleep-after : (s : State) → s .writer .live ≡ false → (cs : List Call) → stateAfter s cs ≡ s
+asleep-after s h [] = refl
+asleep-after s h (c ∷ cs) = rw (asleep-next s h c) (asleep-after s h cs)
