@@ -40,6 +40,7 @@ use Rattle.aff_run.specs.Run.{Call, make, put, close, State, turn, isAccepted, 
 use Rattle.aff_run.proofs.BeginGoodLaws.{lent-right}
 use Rattle.aff_run.proofs.CutLaws.{make-stores, put-tells, close-tells, begun-tells}
 use Rattle.aff_run.proofs.ExactLaws.{run-exact, run-spent, run-refused}
+use Rattle.aff_run.proofs.HeldLaws.{run-held}
 use Rattle.aff.specs.Demand1.{NotBy, Is24, Not24, EachReading, EachWriting, beginRules, Numbered, toldBy, Demand1}
 
 -- ---- Checks that tell other numbers.
@@ -196,4 +197,5 @@ demand1 =
       exact-numbers = λ room stopped tree calls answers. exact-numbered calls answers room stopped tree;
       begin-tells = begun-tells;
       tells = tells-made;
+      areas = run-held;
     }

@@ -26,7 +26,8 @@ use Rattle.aff_write.specs.Stores.{storesTold}
 use Rattle.aff_write.specs.Writer.{dataPlace}
 use Rattle.aff_write.specs.declared.writer.Writer.{Writer}
 use Rattle.aff_run.specs.Exact.{Exact, AllWrongRecord, stops}
-use Rattle.aff_run.specs.Run.{Call, make, put, close, State, begun, turn, runAnswers, runStores}
+use Rattle.aff_run.specs.Held.{Held}
+use Rattle.aff_run.specs.Run.{Call, make, put, close, State, begun, turn, runAnswers, runStores, runState, described}
 
 -- An answer is no refusal by this number.
 abbrev pub NotBy : {A : Type 0} → ℕ → Answer A → Type 0
@@ -113,3 +114,6 @@ pub record Demand1 : Type 0 where
   pub begin-tells : (room form text tree : List ℕ) (allowance : ℕ)
       → length (begun room form text tree allowance .stores) ≡ storesTold (begun room form text tree allowance .answer)
   pub tells : (s : State) (c : Call) → length (turn s c .stores) ≡ toldBy c (turn s c .answer)
+  -- The areas of a run: the text area holds the strings so far, each with its zero, the tree area each node's entry; zeros behind.
+  pub areas : (room form text tree : List ℕ) (allowance : ℕ) (calls : List Call) {n : ℕ} → beginAnswer room form text tree allowance ≡ accepted n
+      → Held (described [] calls (runAnswers room form text tree allowance calls)) (runState room form text tree allowance calls)

@@ -13,3 +13,4 @@ pub mod CutLaws
 pub mod BeginGoodLaws
 pub mod BeginRefusedLaws
 pub mod ExactLaws
+pub mod HeldLaws

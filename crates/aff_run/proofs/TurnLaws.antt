@@ -91,6 +91,10 @@ pub asleep-described : (s : State) → s .writer .live ≡ false → (tree : Tre
 asleep-described s h tree [] = refl
 asleep-described s h tree (c ∷ cs) = rw (asleep-next s h c, asleep-turn s h c) (asleep-described s h tree cs)
 
+pub asleep-after : (s : State) → s .writer .live ≡ false → (cs : List Call) → stateAfter s cs ≡ s
+asleep-after s h [] = refl
+asleep-after s h (c ∷ cs) = rw (asleep-next s h c) (asleep-after s h cs)
+
 -- ---- The room that calls leave: all their stores made in order.
 
 pub room-after : (s : State) (cs : List Call) → stateAfter s cs .room ≡ applyStores (s .room) (storesOf s cs)
