@@ -1,19 +1,10 @@
-// The program that bench/open.py builds and runs.
-// `open FILE NUMBER SAMPLES BATCH` opens the image of edition 2 in a file, by the proved function of crates/aff_c, and computes the MD5 digests
-// of the image's three sections, by that of crates/md5_c. A sample is the processor time of BATCH calls in a row, divided by BATCH; samples
-// of the two take turns. It prints the median of each, in seconds, and fails where an opening does not hand back NUMBER: 0 for acceptance,
-// else the refusal's. The file is mapped into memory.
-// The median, not the least: the clock's difference over a short call can come out as 0, and the least of many samples would be that.
-#define _GNU_SOURCE
-#include <fcntl.h>
-#include <stdbool.h>
-#include <stddef.h>
-#include <stdint.h>
-#include <stdio.h>
-#include <stdlib.h>
-#include <sys/mman.h>
-#include <sys/stat.h>
-#include <time.h>
+// The program that bench/open.py and bench/second.py build and run.
+// `open open FILE NUMBER SAMPLES BATCH` opens the image of edition 2 in a file, by the proved function of crates/aff_c, and prints the median time
+// of an opening in seconds. `open both FILE NUMBER SAMPLES BATCH` also computes the MD5 digests of the image's three sections, by the function of
+// crates/md5_c, and prints the median time of the three together before that of an opening. A sample is the processor time of BATCH calls in a row,
+// divided by BATCH; samples of the two take turns. It fails where an opening does not hand back NUMBER: 0 for acceptance, else the
+// refusal's. The file is mapped into memory.
+#include "timing.h"
 
 // From the static libraries of crates/aff_c and crates/md5_c.
 uint32_t aff_open_image(const uint8_t *image, size_t image_length, const uint8_t *form, size_t form_length, uint32_t *strings,
@@ -21,11 +12,11 @@ uint32_t aff_open_image(const uint8_t *image, size_t image_length, const uint8_t
 bool aff_form_for(const uint8_t *image, size_t image_length, uint8_t *output, size_t output_length);
 bool md5_c_digest(const uint8_t *message, size_t message_length, uint8_t *output, size_t output_length);
 
-static double now(void) {
-    struct timespec t;
-    clock_gettime(CLOCK_PROCESS_CPUTIME_ID, &t);
-    return t.tv_sec + t.tv_nsec * 1e-9;
-}
+static const uint8_t *image;
+static size_t length;
+static uint32_t expected, strings[2048], entries[2048];
+static uint64_t record[12];
+static uint8_t form[12];
 
 static uint64_t be64(const uint8_t *bytes) {
     uint64_t n = 0;
@@ -35,62 +26,43 @@ static uint64_t be64(const uint8_t *bytes) {
     return n;
 }
 
-static int order(const void *a, const void *b) {
-    double x = *(const double *)a, y = *(const double *)b;
-    return (x > y) - (x < y);
+static void open_once(void) {
+    uint32_t number = aff_open_image(image, length, form, sizeof form, strings, 2048, entries, 2048, record, 12);
+    if (number != expected) {
+        fprintf(stderr, "handed back %u at %lu, not %u\n", number, (unsigned long)record[0], expected);
+        exit(1);
+    }
 }
 
-static double median(double *samples, int count) {
-    qsort(samples, (size_t)count, sizeof *samples, order);
-    return samples[count / 2];
+// Each digest is the one in the section's header.
+static void digest_once(void) {
+    uint8_t digest[16];
+    for (int header = 32; header <= 112; header += 40) {
+        md5_c_digest(image + be64(image + header), be64(image + header + 8), digest, sizeof digest);
+        if (memcmp(digest, image + header + 24, sizeof digest) != 0) {
+            fail("another digest than the header's");
+        }
+    }
 }
 
 int main(int argc, char **argv) {
-    if (argc != 5) {
-        fputs("usage: open FILE NUMBER SAMPLES BATCH\n", stderr);
+    if (argc != 6 || (strcmp(argv[1], "open") != 0 && strcmp(argv[1], "both") != 0)) {
+        fputs("usage: open open|both FILE NUMBER SAMPLES BATCH\n", stderr);
         return 2;
     }
-    int file = open(argv[1], O_RDONLY);
-    struct stat about;
-    if (file < 0 || fstat(file, &about) != 0) {
-        perror(argv[1]);
-        return 1;
-    }
-    size_t length = (size_t)about.st_size;
-    const uint8_t *image = mmap(NULL, length, PROT_READ, MAP_PRIVATE | MAP_POPULATE, file, 0);
-    if (image == MAP_FAILED) {
-        perror("mmap");
-        return 1;
-    }
-    uint32_t expected = (uint32_t)atoi(argv[2]);
-    int samples = atoi(argv[3]), batch = atoi(argv[4]);
-    double *opening = malloc((size_t)samples * sizeof *opening), *digests = malloc((size_t)samples * sizeof *digests);
-    if (samples < 1 || batch < 1 || opening == NULL || digests == NULL) {
-        fputs("SAMPLES and BATCH are numbers from 1 on\n", stderr);
-        return 2;
-    }
-    static uint32_t strings[2048], entries[2048];
-    uint64_t record[12];
-    uint8_t form[12], digest[16];
+    image = mapped(argv[2], &length);
+    expected = (uint32_t)atoi(argv[3]);
     aff_form_for(image, length, form, sizeof form);
-    for (int sample = 0; sample < samples; sample++) {
-        double begin = now();
-        for (int call = 0; call < batch; call++) {
-            uint32_t number = aff_open_image(image, length, form, sizeof form, strings, 2048, entries, 2048, record, 12);
-            if (number != expected) {
-                fprintf(stderr, "%s: handed back %u at %lu, not %u\n", argv[1], number, (unsigned long)record[0], expected);
-                return 1;
-            }
-        }
-        opening[sample] = (now() - begin) / batch;
-        begin = now();
-        for (int call = 0; call < batch; call++) {
-            for (int header = 32; header <= 112; header += 40) {
-                md5_c_digest(image + be64(image + header), be64(image + header + 8), digest, sizeof digest);
-            }
-        }
-        digests[sample] = (now() - begin) / batch;
+    int samples = atoi(argv[4]), batch = atoi(argv[5]);
+    if (strcmp(argv[1], "open") == 0) {
+        printf("%.9f\n", timed(samples, batch, open_once));
+        return 0;
     }
-    printf("%.9f %.9f\n", median(opening, samples), median(digests, samples));
+    double *digests = space(samples), *openings = space(samples);
+    for (int sample = 0; sample < samples; sample++) {
+        digests[sample] = sampled(batch, digest_once);
+        openings[sample] = sampled(batch, open_once);
+    }
+    printf("%.9f %.9f\n", median(digests, samples), median(openings, samples));
     return 0;
 }

@@ -1,27 +1,25 @@
 #!/usr/bin/env python3
 """The processor time of `open` beside that of `md5` over the three sections of the same image, in one run.
 
-Printed are a large image, images with no data and how their time grows with nodes and strings, and images that are made to be slow. Every
-image is of edition 2 and is made here, with sums by hashlib. The run fails where an opening does not hand back the expected number.
-A sample is a batch of calls that takes 10 ms at least; each time is the median of the samples, in which the two functions take turns.
+Measured are a large image, images with no data and how their time grows with nodes and strings, and images that are made to be slow. Every
+image is of edition 2 and is made here, with sums by hashlib. The run fails where an opening does not hand back the expected number. Samples
+of the two functions take turns; bench/tools.py says how times are taken.
 
-Use, from anywhere: bench/open.py [SECONDS], where SECONDS is about how long the calls on each image take together.
+Use, from anywhere: bench/open.py [ROUNDS].
 It needs rt, a C compiler as cc, Linux on x86-64, 300 MB of memory, and 70 MB of disk below target/ in a folder that it removes again.
 """
 import hashlib
 import os
 import random
 import struct
-import subprocess
-import sys
 import tempfile
 
-ROOT = os.path.dirname(os.path.dirname(os.path.abspath(__file__)))
-OUT = os.path.join(ROOT, "target", "bench")
+from tools import OUT, Table, figure, in_turns, measured, program, rounds, shown
+
 FORM = bytes([0, 64, 2, 53, 4, 0, 3, 253, 0, 0, 0, 168])
 HEADER = 168
-MANY = 2048
-SAMPLE = 0.01
+SIZES = (256, 512, 1024, 2048)
+MANY = SIZES[-1]
 LONG = 16 * 2**10
 
 
@@ -82,16 +80,19 @@ def chain(parents):
     return b"".join(void(parent, 0) for parent in parents)
 
 
-LONG_NAMES = [b"a" * (LONG - 3) + ending(i) for i in range(MANY)]
+def long_names():
+    return [b"a" * (LONG - 3) + ending(i) for i in range(MANY)]
+
+
 SHORT_NAMES = [b"key." + ending(i) for i in range(MANY)]
 UPWARD = list(range(2, MANY + 1)) + [0]
 
 # What an image is, the expected number, and its maker.
 LARGE = ("2,048 nodes, 256 MiB of data", 0, large)
-PLAIN = [(f"{count:,} nodes and strings, no data", 0, lambda path, count=count: write_image(path, *plain(count))) for count in (256, 512, 1024, MANY)]
+PLAIN = [(f"{count:,} nodes and strings, no data", 0, lambda path, count=count: write_image(path, *plain(count))) for count in SIZES]
 HOSTILE = [
-    ("2,048 strings of 16 KiB that differ in the last two bytes", 0, lambda path: write_image(path, table(LONG_NAMES), MANY, b"", 0)),
-    ("the same in falling order", 0, lambda path: write_image(path, table(LONG_NAMES[::-1]), MANY, b"", 0)),
+    ("2,048 strings of 16 KiB that differ in the last two bytes", 0, lambda path: write_image(path, table(long_names()), MANY, b"", 0)),
+    ("the same in falling order", 0, lambda path: write_image(path, table(long_names()[::-1]), MANY, b"", 0)),
     (
         "2,048 names in falling order, children of the root in falling order",
         0,
@@ -110,49 +111,32 @@ HOSTILE = [
 ]
 
 
-def shown(seconds):
-    return f"{seconds * 1e3:.0f} ms" if 0.01 < seconds else f"{seconds * 1e6:.0f} µs"
-
-
-def timed(program, folder, seconds, what, number, maker):
-    """The median times of an opening and of the digests."""
-    path = os.path.join(folder, "image")
-    maker(path)
-
-    def run(samples, batch):
-        words = [program, path, str(number), str(samples), str(batch)]
-        words = subprocess.run(words, stdout=subprocess.PIPE, check=True, text=True).stdout.split()
-        return float(words[0]), float(words[1])
-
-    batch = 1
-    while min(found := run(3, batch)) * batch < SAMPLE:
-        batch *= 4
-    runs = max(7, int(seconds / (sum(found) * batch)))
-    opening, digests = run(runs, batch)
-    os.remove(path)
-    answer = f"refused, {number}" if number else "accepted"
-    print(f"| {what} | {answer} | {shown(opening)} | {shown(digests)} | {opening / digests:.2f} | {runs:,} of {batch:,} |", flush=True)
-    return opening, digests
-
-
-def main():
-    seconds = float(sys.argv[1]) if len(sys.argv) > 1 else 5
-    os.makedirs(OUT, exist_ok=True)
-    libraries = []
-    for crate in ("aff_c", "md5_c"):
-        subprocess.run(["rt", "staticlib", crate], cwd=ROOT, check=True, stdout=subprocess.DEVNULL)
-        libraries.append(os.path.join(ROOT, "target", "staticlib", f"lib{crate}.a"))
-    program = os.path.join(OUT, "open")
-    subprocess.run(["cc", "-O2", os.path.join(ROOT, "bench", "open.c"), *libraries, "-o", program], check=True)
+def compared(rounds, table, what, number, maker):
+    """Adds an image's row, and hands back the times of the digests and of an opening."""
     with tempfile.TemporaryDirectory(dir=OUT) as folder:
-        print("| image | answer | `open` | `md5` of its sections | ratio | samples |")
-        print("|---|---|---|---|---|---|")
-        timed(program, folder, seconds, *LARGE)
-        few, *_, many = [timed(program, folder, seconds, *image) for image in PLAIN]
-        hostile = [timed(program, folder, seconds, *image) for image in HOSTILE]
-    print(f"from 256 to 2,048 nodes and strings: {many[0] / few[0]:.1f} times; 8 would be linear")
-    print(f"the slowest of the images made to be slow: {max(opening / digests for opening, digests in hostile):.1f} times `md5` of its sections;")
-    print(f"of those with more than a millisecond of `md5`: {max(opening / digests for opening, digests in hostile if 1e-3 < digests):.1f} times")
+        path = os.path.join(folder, "image")
+        maker(path)
+        both = in_turns(rounds, measured(program("open"), "both", path, str(number)))
+    table.add(what, f"refused, {number}" if number else "accepted", shown(both.second), shown(both.first), both.spread())
+    return both
 
 
-main()
+def tables(rounds):
+    heads = "Image", "Answer", "`open`", "`md5`", "Ratio"
+    opening = Table("opening", *heads)
+    program("open")
+    compared(rounds, opening, *LARGE)
+    few, *_, many = [compared(rounds, opening, *image) for image in PLAIN]
+    made = Table("slow images", *heads)
+    hostile = [compared(rounds, made, *image) for image in HOSTILE]
+    bounds = Table("bounds of opening", "What", "Measured")
+    bounds.add("time of `open` with 2,048 nodes and strings over that with 256; 8 would be linear", figure(many.second / few.second))
+    bounds.add("highest ratio of an image with more than a millisecond of `md5`", figure(max(both.ratio for both in hostile if 1e-3 < both.first)))
+    small = [both for both in (*hostile, many) if both.first <= 1e-3]
+    bounds.add("highest ratio of one with less", figure(max(both.ratio for both in small)))
+    bounds.add("longest `open` of one with less", shown(max(both.second for both in small)))
+    return [opening, made, bounds]
+
+
+if __name__ == "__main__":
+    tables(rounds())

@@ -1,20 +1,11 @@
-// The program that bench/read.py builds and runs.
-// `read FILE KEYS CALL SAMPLES BATCH` opens the image of edition 2 in a file and then makes one call again and again, by the proved functions of
-// crates/aff_c. CALL is judge (the view of the root: 24 and nothing else), lookup, view, element, or decode, which decodes an element of a view
-// that was taken before. KEYS is a file of lines `NODE PATH`, which the calls take in turn; NODE is 0 where no node has the path, and only lookup
-// takes such. Element j of node n is n + j / 1024, and every node has the same count. A sample is the processor time of BATCH calls in
-// a row, divided by BATCH. It prints the median in seconds, and fails where an answer is another.
-#define _GNU_SOURCE
-#include <fcntl.h>
-#include <stdbool.h>
-#include <stddef.h>
-#include <stdint.h>
-#include <stdio.h>
-#include <stdlib.h>
-#include <string.h>
-#include <sys/mman.h>
-#include <sys/stat.h>
-#include <time.h>
+// The program that bench/read.py and bench/second.py build and run.
+// `read CALL FILE KEYS SAMPLES BATCH` opens the image of edition 2 in a file and then makes one call again and again, by the proved functions of
+// crates/aff_c. CALL is judge (the view of the root: 24 and nothing else), lookup, view, element, decode (of an element of a view that was taken
+// before), whole (a view, and the decoding of all its elements) or order (listing order, which must be that of the numbers). KEYS is a file of
+// lines `NODE PATH`, which the calls take in turn; NODE is 0 where no node has the path, and only lookup takes such. Element j of node n is
+// n + j / 1024, and a node with data has 64. A sample is the processor time of BATCH calls in a row, divided by BATCH. It prints the
+// median in seconds, and fails where an answer is another.
+#include "timing.h"
 
 // From the static library of crates/aff_c.
 uint32_t aff_open_image(const uint8_t *image, size_t image_length, const uint8_t *form, size_t form_length, uint32_t *strings,
@@ -23,11 +14,12 @@ bool aff_form_for(const uint8_t *image, size_t image_length, uint8_t *output, si
 #define OPENED const uint8_t *image, size_t image_length, const uint64_t *record, const uint32_t *strings, size_t strings_length, \
     const uint32_t *entries, size_t entries_length
 uint32_t aff_lookup(OPENED, const uint8_t *path, size_t path_length, uint64_t *node);
+uint32_t aff_listing(OPENED, uint32_t *output, size_t output_length, uint64_t *count);
 uint32_t aff_view(OPENED, uint64_t node, uint64_t *offset, uint64_t *size);
 uint32_t aff_element(OPENED, uint64_t node, uint64_t index, double *value, double *imaginary);
 uint32_t aff_decode(uint64_t kind, const uint8_t *bytes, size_t bytes_length, uint64_t index, double *value, double *imaginary);
 
-enum { KEYS = 4096, DOUBLE = 4, ABSENT = 15 };
+enum { KEYS = 4096, DOUBLE = 4, COUNT = 64, ABSENT = 15 };
 
 static const uint8_t *image;
 static size_t length;
@@ -41,24 +33,29 @@ static struct {
     size_t path_length;
 } keys[KEYS];
 
-static double now(void) {
-    struct timespec t;
-    clock_gettime(CLOCK_PROCESS_CPUTIME_ID, &t);
-    return t.tv_sec + t.tv_nsec * 1e-9;
+static char which;
+static size_t count, k;
+
+// Whether element `index` of a view of a key's node is decoded as expected.
+static bool decodes(uint64_t node, uint64_t offset, uint64_t size, uint64_t index) {
+    double value = 0, imaginary = 1;
+    return aff_decode(DOUBLE, image + offset, size, index, &value, &imaginary) == 0 && value == node + index / 1024.0 && imaginary == 0;
 }
 
-static int order(const void *a, const void *b) {
-    double x = *(const double *)a, y = *(const double *)b;
-    return (x > y) - (x < y);
-}
-
-static void fail(const char *what) {
-    fprintf(stderr, "%s\n", what);
-    exit(1);
+// Whether listing order is that of the numbers, up to the last key's node at least.
+static bool ordered(void) {
+    static uint32_t output[2049];
+    uint64_t listed = 0;
+    memset(output, 0xff, sizeof output);
+    bool right = aff_listing(LENT, output, 2049, &listed) == 0 && keys[count - 1].node < listed;
+    for (uint64_t i = 0; right && i < listed; i++) {
+        right = output[i] == i;
+    }
+    return right;
 }
 
 // One call for key k. True where the answer is the expected one.
-static bool call(char which, size_t k, uint64_t index) {
+static bool call(uint64_t index) {
     uint64_t node = 0, offset = 1, size = 1;
     double value = 0, imaginary = 1;
     switch (which) {
@@ -70,65 +67,62 @@ static bool call(char which, size_t k, uint64_t index) {
         return aff_view(LENT, keys[k].node, &offset, &size) == 0 && offset == keys[k].offset && size == keys[k].size;
     case 'e':
         return aff_element(LENT, keys[k].node, index, &value, &imaginary) == 0 && value == keys[k].node + index / 1024.0 && imaginary == 0;
+    case 'w': {
+        bool right = aff_view(LENT, keys[k].node, &offset, &size) == 0 && size == 8 * COUNT;
+        for (uint64_t j = 0; right && j < COUNT; j++) {
+            right = decodes(keys[k].node, offset, size, j);
+        }
+        return right;
+    }
+    case 'o':
+        return ordered();
     default:
-        return aff_decode(DOUBLE, image + keys[k].offset, keys[k].size, index, &value, &imaginary) == 0 && value == keys[k].node + index / 1024.0
-            && imaginary == 0;
+        return decodes(keys[k].node, keys[k].offset, keys[k].size, index);
     }
 }
 
-int main(int argc, char **argv) {
-    if (argc != 6 || strchr("jlved", argv[3][0]) == NULL) {
-        fputs("usage: read FILE KEYS judge|lookup|view|element|decode SAMPLES BATCH\n", stderr);
-        return 2;
+// Keys and elements come in turn.
+static void call_once(void) {
+    static uint64_t index;
+    if (!call(index)) {
+        fail("another answer than expected");
     }
-    int file = open(argv[1], O_RDONLY);
-    struct stat about;
-    if (file < 0 || fstat(file, &about) != 0) {
-        perror(argv[1]);
-        return 1;
+    k = k + 1 < count ? k + 1 : 0;
+    index = (index + 1) % COUNT;
+}
+
+static void load(const char *path) {
+    static char line[32768];
+    FILE *list = fopen(path, "r");
+    if (list == NULL) {
+        fail("the keys cannot be read");
     }
-    length = (size_t)about.st_size;
-    image = mmap(NULL, length, PROT_READ, MAP_PRIVATE | MAP_POPULATE, file, 0);
-    FILE *list = fopen(argv[2], "r");
-    if (image == MAP_FAILED || list == NULL) {
-        fail("the image or the keys cannot be read");
-    }
-    uint8_t form[12];
-    aff_form_for(image, length, form, sizeof form);
-    if (aff_open_image(image, length, form, sizeof form, strings, 2048, entries, 2048, record, 12) != 0) {
-        fail("the image is refused");
-    }
-    size_t count = 0;
-    static char path[32768];
-    while (count < KEYS && fscanf(list, "%lu %32767s", &keys[count].node, path) == 2) {
-        keys[count].path = strdup(path);
-        keys[count].path_length = strlen(path);
+    while (count < KEYS && fscanf(list, "%lu %32767s", &keys[count].node, line) == 2) {
+        keys[count].path = strdup(line);
+        keys[count].path_length = strlen(line);
         if (keys[count].node != 0 && aff_view(LENT, keys[count].node, &keys[count].offset, &keys[count].size) != 0) {
             fail("a view is refused");
         }
         count++;
     }
-    int samples = atoi(argv[4]), batch = atoi(argv[5]);
-    double *times = malloc((size_t)samples * sizeof *times);
-    if (count == 0 || samples < 1 || batch < 1 || times == NULL) {
-        fail("no key, or SAMPLES or BATCH is not a number from 1 on");
+    if (count == 0) {
+        fail("there is no key");
     }
-    char which = argv[3][0];
-    uint64_t elements = keys[0].size / 8;
-    size_t k = 0;
-    uint64_t index = 0;
-    for (int sample = 0; sample < samples; sample++) {
-        double begin = now();
-        for (int i = 0; i < batch; i++) {
-            if (!call(which, k, index)) {
-                fail("another answer than expected");
-            }
-            k = k + 1 < count ? k + 1 : 0;
-            index = index + 1 < elements ? index + 1 : 0;
-        }
-        times[sample] = (now() - begin) / batch;
+}
+
+int main(int argc, char **argv) {
+    if (argc != 6 || strchr("jlvedwo", argv[1][0]) == NULL) {
+        fputs("usage: read judge|lookup|view|element|decode|whole|order FILE KEYS SAMPLES BATCH\n", stderr);
+        return 2;
     }
-    qsort(times, (size_t)samples, sizeof *times, order);
-    printf("%.12f\n", times[samples / 2]);
+    which = argv[1][0];
+    image = mapped(argv[2], &length);
+    uint8_t form[12];
+    aff_form_for(image, length, form, sizeof form);
+    if (aff_open_image(image, length, form, sizeof form, strings, 2048, entries, 2048, record, 12) != 0) {
+        fail("the image is refused");
+    }
+    load(argv[3]);
+    printf("%.12f\n", timed(atoi(argv[4]), atoi(argv[5]), call_once));
     return 0;
 }

@@ -1,17 +1,15 @@
-"""What bench/read.py and bench/write.py share: their trees, and how times are taken and shown."""
+"""The trees that are read and written, and their images by tests/make_images.py."""
 import os
-import statistics
 import struct
 import sys
 
-ROOT = os.path.dirname(os.path.dirname(os.path.abspath(__file__)))
+from tools import ROOT
+
 SIZES = (256, 2048)
-SAMPLE = 0.01
-SAMPLES = 7
 COUNT = 64
 
 sys.path.insert(0, os.path.join(ROOT, "tests"))
-from make_images import DOUBLE, HEADER, VOID, Image, entry  # noqa: E402
+from make_images import DOUBLE, HEADER, INT, VOID, Image, entry  # noqa: E402
 
 
 class Tree:
@@ -35,12 +33,20 @@ class Tree:
         return b"".join(reversed(parts))
 
     def image(self):
+        """A node with data has 64 Doubles: element j of node n is n + j / 1024."""
+        return self.laid_out(DOUBLE, COUNT, lambda node: struct.pack(f">{COUNT}d", *(node + j / 1024 for j in range(COUNT))))
+
+    def small_image(self):
+        """A node with data has one Int, its number."""
+        return self.laid_out(INT, 1, lambda node: struct.pack(">i", node))
+
+    def laid_out(self, kind, count, data_of):
         entries, data = [], b""
-        for at, (parent, name, full) in enumerate(self.nodes):
+        for node, (parent, name, full) in enumerate(self.nodes, 1):
             string = self.strings[name]
             if full:
-                entries.append(entry(DOUBLE, parent, string, COUNT, HEADER[2] + len(data)))
-                data += struct.pack(f">{COUNT}d", *(at + 1 + j / 1024 for j in range(COUNT)))
+                entries.append(entry(kind, parent, string, count, HEADER[2] + len(data)))
+                data += data_of(node)
             else:
                 entries.append(entry(VOID, parent, string))
         image = Image(2, strings=list(self.strings), data=data, entries=entries)
@@ -48,14 +54,16 @@ class Tree:
         return image.bytes()
 
 
-def flat(nodes):
+def flat(nodes, full=True):
+    """Every node is a child of the root."""
     tree = Tree()
     for i in range(nodes):
-        tree.add(0, b"correlat%04d" % i, True)
+        tree.add(0, b"correlat%04d" % i, full)
     return tree
 
 
 def levels(nodes):
+    """Three levels, as of ensemble, momentum and source time, whose names come again below each parent."""
     wide = {256: (4, 7, 8), 2048: (8, 15, 16)}[nodes]
     tree = Tree()
     for a in range(wide[0]):
@@ -68,23 +76,9 @@ def levels(nodes):
     return tree
 
 
-def batched(run):
-    """A function that takes some samples by `run(samples, batch)`, with a batch that takes 10 ms at least."""
-    batch = 1
-    while (found := run(3, batch)) * batch < SAMPLE:
-        batch = max(batch * 2, min(batch * 1000, int(1.2 * SAMPLE / max(found, 1e-9))))
-    return lambda: run(SAMPLES, batch)
-
-
-def in_turns(rounds, few, many):
-    """The median times of the two, which take turns, and the median of the rounds' ratios."""
-    pairs = [(few(), many()) for _ in range(rounds)]
-    return [statistics.median(found) for found in (*zip(*pairs), [b / a for a, b in pairs])]
-
-
-def shown(seconds):
-    return f"{seconds * 1e9:.1f} ns" if seconds < 1e-6 else f"{seconds * 1e6:.1f} µs" if seconds < 1e-3 else f"{seconds * 1e3:.1f} ms"
-
-
-def row(what, *found):
-    print(f"| {what} |", " ".join(f"{shown(few)} | {shown(many)} | {growth:.1f} |" for few, many, growth in found), flush=True)
+def chain(nodes, name):
+    """Each node below the one before; all have one name, and the last has data."""
+    tree = Tree()
+    for k in range(nodes):
+        tree.add(k, name, k + 1 == nodes)
+    return tree

@@ -1,16 +1,10 @@
-// The program that bench/write.py builds and runs.
-// `write TREE FILE CALL SAMPLES BATCH` makes a file by the proved functions of crates/aff_c, writes it to FILE, and then makes one call again and
+// The program that bench/write.py and bench/second.py build and run.
+// `write CALL TREE FILE SAMPLES BATCH` makes a file by the proved functions of crates/aff_c, writes it to FILE, and then makes one call again and
 // again. TREE is a file of lines `PARENT NAME FULL`, one a node in the order of making; a node whose FULL is 1 gets 64 Doubles, element j of node n
 // being n + j / 1024. CALL is build (begin, make and put for each node, close), make (the last node), put (the data of the last node), judge (a put to
 // the root, which is 24 and then 18) or close. Before each make, put and close the record and what the call changed of the tree area are as they were. A
 // sample is the processor time of BATCH calls in a row, divided by BATCH. It prints the median in seconds, and fails where an answer is another.
-#define _GNU_SOURCE
-#include <stddef.h>
-#include <stdint.h>
-#include <stdio.h>
-#include <stdlib.h>
-#include <string.h>
-#include <time.h>
+#include "timing.h"
 
 // From the static library of crates/aff_c.
 #define LENT_TREE uint8_t *tree, size_t tree_length
@@ -40,21 +34,9 @@ static struct {
 } nodes[NODES];
 static size_t count;
 
-static double now(void) {
-    struct timespec t;
-    clock_gettime(CLOCK_PROCESS_CPUTIME_ID, &t);
-    return t.tv_sec + t.tv_nsec * 1e-9;
-}
-
-static int order(const void *a, const void *b) {
-    double x = *(const double *)a, y = *(const double *)b;
-    return (x > y) - (x < y);
-}
-
 static void expect(int right) {
     if (!right) {
-        fputs("another answer than expected\n", stderr);
-        exit(1);
+        fail("another answer than expected");
     }
 }
 
@@ -88,7 +70,13 @@ static void build(char which) {
     }
 }
 
-static void call(char which) {
+static char which;
+static uint64_t before[7];
+static uint8_t slot[SLOT], *last;
+
+static void call_once(void) {
+    memcpy(numbers, before, sizeof before);
+    memcpy(last, slot, SLOT);
     switch (which) {
     case 'b':
         build('b');
@@ -126,39 +114,29 @@ static void load(const char *path) {
     expect(count > 0 && nodes[count - 1].full);
 }
 
-int main(int argc, char **argv) {
-    if (argc != 6 || strchr("bmpjc", argv[3][0]) == NULL) {
-        fputs("usage: write TREE FILE build|make|put|judge|close SAMPLES BATCH\n", stderr);
-        return 2;
-    }
-    int samples = atoi(argv[4]), batch = atoi(argv[5]);
-    double *times = malloc((size_t)samples * sizeof *times);
-    expect(samples > 0 && batch > 0 && times != NULL);
-    load(argv[1]);
-    build('b');
-    finish();
+static void save(const char *path) {
     size_t size = 168 + numbers[5] + numbers[3];
     for (size_t k = 0; k < count; k++) {
         size += nodes[k].full ? 25 : 13;
     }
-    FILE *file = fopen(argv[2], "wb");
+    FILE *file = fopen(path, "wb");
     expect(file != NULL && fwrite(room, 1, size, file) == size && fclose(file) == 0);
-    char which = argv[3][0];
-    uint64_t before[7];
-    uint8_t slot[SLOT], *last = tree + SLOT * (count - 1);
+}
+
+int main(int argc, char **argv) {
+    if (argc != 6 || strchr("bmpjc", argv[1][0]) == NULL) {
+        fputs("usage: write build|make|put|judge|close TREE FILE SAMPLES BATCH\n", stderr);
+        return 2;
+    }
+    which = argv[1][0];
+    load(argv[2]);
+    build('b');
+    finish();
+    save(argv[3]);
     build(which);
     memcpy(before, numbers, sizeof before);
+    last = tree + SLOT * (count - 1);
     memcpy(slot, last, SLOT);
-    for (int sample = 0; sample < samples; sample++) {
-        double start = now();
-        for (int i = 0; i < batch; i++) {
-            memcpy(numbers, before, sizeof before);
-            memcpy(last, slot, SLOT);
-            call(which);
-        }
-        times[sample] = (now() - start) / batch;
-    }
-    qsort(times, (size_t)samples, sizeof *times, order);
-    printf("%.12f\n", times[samples / 2]);
+    printf("%.12f\n", timed(atoi(argv[4]), atoi(argv[5]), call_once));
     return 0;
 }

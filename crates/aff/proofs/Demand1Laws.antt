@@ -36,6 +36,7 @@ use Rattle.aff_run.specs.Exact.{exactChecks, exactValue, exactAnswer, Exact, st
 use Rattle.aff_run.specs.Run.{Call, make, put, close, State, turn, isAccepted, grown}
 use Rattle.aff_run.proofs.CutLaws.{make-stores, put-tells, close-tells, begun-tells}
 use Rattle.aff_run.proofs.ExactLaws.{run-exact, run-spent, run-refused}
+use Rattle.aff_run.proofs.HeldLaws.{run-held}
 use Rattle.aff.specs.Demand1.{NotBy, Is24, Not24, EachReading, EachWriting, Numbered, toldBy, Demand1}
 use Rattle.aff.proofs.RulesLaws.{opening-by, decode-by, reading-by, begin-by, writing-by}
 
@@ -223,4 +224,5 @@ demand1 =
       exact-numbers = λ room stopped tree calls answers. exact-numbered calls answers room stopped tree;
       begin-tells = begun-tells;
       tells = tells-made;
+      areas = run-held;
     }

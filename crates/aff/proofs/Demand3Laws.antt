@@ -1,43 +1,37 @@
 -- Demand 3 from the laws of runs: the tree by `run-shows`, the kill by `run-shape`, since a room with a zero at place 0 is refused by 3. A begin
 -- that is refused stores nothing. Assumes nothing.
-use mathlib.Core.Path.{_≡_, refl, sym, ap, ap₂, _∙_, subst}
-use mathlib.Core.Bool.{Bool, true, false, cond, not, _||_, true≢false}
+use mathlib.Core.Path.{_≡_, refl, sym, ap, _∙_, subst}
+use mathlib.Core.Bool.{true, false, not, _||_, true≢false}
 use mathlib.Core.List.{List, [], _∷_, _++_}
 use Prim.Native.Nat.{ℕ, zero, suc, _+_, _-_, _≤_, _<_}
 use native.Mathlib.Omega.{arith}
-use lib.Dec.{eqb, ltb}
 use lib.ListN.{length, getD, set, take, length-set}
 use lib.Seq.{take-length, getD-set-same}
-use borrow.Author.Tests.{eq-eqb, le-ltb, ltb-true}
-use Rattle.aff_format.specs.Answer.{Answer, accepted, refused, check, refusal, refusalAt}
+use borrow.Author.Tests.{le-ltb}
+use Rattle.aff_format.specs.Answer.{Answer, accepted, refused, refusal}
 use Rattle.aff_format.specs.Edition.{signatureText}
 use Rattle.aff_format.specs.Bytes.{sameBytes}
 use Rattle.aff_format.specs.Limits.{imageLimit, stringLimit, nodeLimit}
-use Rattle.aff_format.specs.declared.refusal.Told.{Told}
-use Rattle.aff_format.proofs.AnswerLaws.{last-told}
-use Rattle.aff_open.specs.Opening.{lentWrong, openChecks, opened}
+use Rattle.aff_open.specs.Opening.{openChecks, opened}
 use Rattle.aff_open.specs.Sections.{textEdition, isKnown}
-use Rattle.aff_write.specs.Begin.{beginStores, beginAnswer}
-use Rattle.aff_write.specs.Begin.{lentWrong as lentWrongHere}
+use Rattle.aff_open.proofs.FaultLaws.{lent-asks}
+use Rattle.aff_write.specs.Begin.{beginAnswer}
 use Rattle.aff_write.specs.Stores.{Store, applyStores, storesFrom}
-use Rattle.aff_write.specs.Writer.{dataPlace, noWriter, begunWriter, stopped}
+use Rattle.aff_write.specs.Writer.{dataPlace}
 use Rattle.aff_write.proofs.StoreLaws.{apply-append, apply-length}
 use Rattle.aff_run.specs.Described.{sizeOf}
-use Rattle.aff_run.specs.Run.{Call, State, next, begun, storesOf, answersOf, runAnswers, runStores, afterBegin, described, closedBy}
+use Rattle.aff_run.specs.Run.{Call, State, next, begun, storesOf, answersOf, runAnswers, runStores, runState, afterBegin, described, closedBy}
 use Rattle.aff_run.specs.Shows.{Shows}
 use Rattle.aff_run.proofs.BeginGoodLaws.{begin-good, begin-form, begin-stores}
-use Rattle.aff_run.proofs.CutLaws.{cut-run-stores, cut-run-room, cut-begin, cut-run-answers-before}
+use Rattle.aff_run.proofs.BeginRefusedLaws.{none-run, none-closed}
+use Rattle.aff_run.proofs.CutLaws.{cut-run-stores, cut-run-room, cut-begin, cut-run-answers-before, cut-begin-out, cut-run-answer-out}
 use Rattle.aff_run.proofs.GoodLaws.{Good}
 use Rattle.aff_run.proofs.PlaceLaws.{Behind, Shaped, behind-first, shaped-take, run-shape}
 use Rattle.aff_run.proofs.RunLaws.{run-shows}
-use Rattle.aff_run.proofs.TurnLaws.{asleep-stores, asleep-closed}
-use Rattle.aff.specs.Demand3.{roomAt, Killed, Demand3, Cut, Demand3Cut}
+use Rattle.aff_run.proofs.TurnLaws.{run-room}
+use Rattle.aff.specs.Demand3.{roomAt, Killed, KilledAt, Demand3, Cut, Demand3Cut}
 
 -- ---- A room with a zero at place 0.
-
-lent-right : (image form : List ℕ) → length form ≡ 12 → length image ≤ imageLimit → lentWrong image form stringLimit nodeLimit ≡ false
-unfolding lentWrong
-lent-right image form f l = rw (eq-eqb (length form) 12 f, le-ltb imageLimit (length image) l)
 
 unknown-text : (image : List ℕ) → 1 ≤ length image → getD image 0 0 ≡ 0 → isKnown (textEdition image) ≡ false
 unfolding textEdition sameBytes signatureText
@@ -48,51 +42,25 @@ pub zero-refused : (image form : List ℕ) → length form ≡ 12 → 144 ≤ le
     → opened image form stringLimit nodeLimit ≡ refused (refusal 3)
 unfolding openChecks
 zero-refused image form f lo hi z =
-    rw (lent-right image form f hi, le-ltb (length image) 144 lo, unknown-text image (omega arith) z)
+    rw (lent-asks image form stringLimit nodeLimit .1 (f, refl, refl, hi), le-ltb (length image) 144 lo, unknown-text image (omega arith) z)
 
 -- ---- A begin that is refused.
 
-module _ (room form text tree : List ℕ) (allowance : ℕ) (t : Told) (h : beginAnswer room form text tree allowance ≡ refused t) where
-  -- A 23 tells the allowance, which is below 1.
-  no-stores : (b : Bool) → eqb (t .number) 23 ≡ b → take (cond b (t .place) 0) beginStores ≡ []
-  unfolding beginAnswer
-  no-stores false e = refl
-  no-stores true e =
-      let q = last-told 23 (check (lentWrongHere room form text tree) (refusal 1) ∷ check (ltb (length room) dataPlace) (refusal 21) ∷ []) (refl, (refl, tt))
-      (ltb allowance 1) (refusalAt 23 allowance) 1 h e in
-      let l = ltb-true allowance 1 (q .1) in
-      let z : t .place ≡ 0 = omega (arith, ap (λ (x : Told). x .place) (q .2)) in
-      rw z
-
-  none-stored : begun room form text tree allowance .stores ≡ []
-  unfolding begun
-  none-stored = rw h (no-stores (eqb (t .number) 23) refl)
-
-  asleep : begun room form text tree allowance .writer .live ≡ false
-  unfolding begun
-  asleep = rw h (go (eqb (t .number) 23))
-    where
-      go : (b : Bool) → (cond b (stopped (begunWriter (length room) form)) noWriter) .live ≡ false
-      go true = refl
-      go false = refl
-
-  module _ (calls : List Call) where
-    none-run : runStores room form text tree allowance calls ≡ []
-    none-run = ap₂ (λ (a b : List Store). a ++ b) none-stored (asleep-stores (afterBegin room form text tree allowance calls) asleep calls)
-
-    none-closed : closedBy calls (runAnswers room form text tree allowance calls) ≡ false
-    none-closed = asleep-closed (afterBegin room form text tree allowance calls) asleep calls
+-- All the stores of a run.
+all-room : (room : List ℕ) (stores : List Store) (last : List ℕ) → last ≡ applyStores room stores → (k : ℕ) → k ≡ length stores → roomAt room stores k ≡ last
+all-room room stores last l k q = ap (λ (ss : List Store). applyStores room ss) (ap (λ (i : ℕ). take i stores) q ∙ take-length stores) ∙ sym l
 
 -- A run that stores nothing and is not closed.
-nothing-killed : (room form : List ℕ) (stores : List Store) (calls : List Call) (answers : List (Answer ℕ)) (k : ℕ)
-    → stores ≡ [] → closedBy calls answers ≡ false → k ≤ length stores → Killed room form stores calls answers k
+nothing-killed : (room form : List ℕ) (stores : List Store) (calls : List Call) (answers : List (Answer ℕ)) (last : List ℕ) (k : ℕ)
+    → stores ≡ [] → closedBy calls answers ≡ false → last ≡ applyStores room stores → k ≤ length stores → Killed room form stores calls answers last k
 unfolding applyStores
-nothing-killed room form stores calls answers k e z le =
+nothing-killed room form stores calls answers last k e z l le =
     let n : length stores ≡ 0 = ap length e in
     record {
       none-made = λ q. rw q;
+      all-left = all-room room stores last l k;
       all-made = λ q c. absurd (true≢false (sym c ∙ z));
-      otherwise = λ l o. absurd (omega arith);
+      otherwise = λ l o lent f. absurd (omega arith);
     }
 
 -- ---- A begin that is accepted.
@@ -137,31 +105,32 @@ module _ (room form text tree : List ℕ) (allowance : ℕ) (calls : List Call) 
       ∙ getD-set-same room 0 0 0 (omega arith)
 
   refused-3 : (k : ℕ) → k ≤ length all → 0 < k → ((k ≡ length all) × (closedBy calls answers ≡ true) → ⊥)
-      → opened (roomAt room all k) form stringLimit nodeLimit ≡ refused (refusal 3)
-  refused-3 zero le lo other = absurd (omega arith)
-  refused-3 (suc k) le lo other =
+      → (lent : List ℕ) → length lent ≡ 12 → opened (roomAt room all k) lent stringLimit nodeLimit ≡ refused (refusal 3)
+  refused-3 zero le lo other lent f = absurd (omega arith)
+  refused-3 (suc k) le lo other lent f =
       let n : length all ≡ suc (length (storesOf s calls)) = ap length all-is in
       let p : Behind (take k (storesOf s calls)) =
       shaped-take (storesOf s calls) (closedBy calls answers) k (run-shape calls s) (λ q. other (omega (arith, q .0), q .1)) (omega arith) in
       let l = apply-length room (take (suc k) all) in
-      zero-refused (roomAt room all (suc k)) form (sizes .2) (omega (arith, sizes .0)) (omega (arith, sizes .1)) (zero-first k p)
+      zero-refused (roomAt room all (suc k)) lent f (omega (arith, sizes .0)) (omega (arith, sizes .1)) (zero-first k p)
 
-  killed : (k : ℕ) → k ≤ length all → Killed room form all calls answers k
+  killed : (k : ℕ) → k ≤ length all → KilledAt room form text tree allowance calls k
   unfolding applyStores
   killed k le =
       record {
         none-made = λ q. rw q;
+        all-left = all-room room all (runState room form text tree allowance calls .room) (run-room room form text tree allowance calls) k;
         all-made = λ q c. subst (λ (ss : List Store). Shows (applyStores room ss) form (described [] calls answers)) (sym (ap (λ (i : ℕ). take i all) q ∙ take-length all)) (all-shown c);
         otherwise = refused-3 k le;
       }
 
 demand3-by : (a : Answer ℕ) (room form text tree : List ℕ) (allowance : ℕ) (calls : List Call) (k : ℕ) → beginAnswer room form text tree allowance ≡ a
-    → k ≤ length (runStores room form text tree allowance calls)
-    → Killed room form (runStores room form text tree allowance calls) calls (runAnswers room form text tree allowance calls) k
+    → k ≤ length (runStores room form text tree allowance calls) → KilledAt room form text tree allowance calls k
 demand3-by (accepted n) room form text tree allowance calls k h le = killed room form text tree allowance calls h k le
 demand3-by (refused t) room form text tree allowance calls k h le =
-    nothing-killed room form (runStores room form text tree allowance calls) calls (runAnswers room form text tree allowance calls) k
-    (none-run room form text tree allowance t h calls) (none-closed room form text tree allowance t h calls) le
+    nothing-killed room form (runStores room form text tree allowance calls) calls (runAnswers room form text tree allowance calls)
+    (runState room form text tree allowance calls .room) k
+    (none-run room form text tree allowance t h calls) (none-closed room form text tree allowance t h calls) (run-room room form text tree allowance calls) le
 
 pub demand3 : Demand3
 demand3 room form text tree allowance calls k le = demand3-by (beginAnswer room form text tree allowance) room form text tree allowance calls k refl le
@@ -173,4 +142,6 @@ demand3-cut room form text tree allowance calls k =
       room-left = cut-run-room room form text tree allowance calls k;
       begins = cut-begin room form text tree allowance k;
       answers = λ before after e l. rw e (cut-run-answers-before room form text tree allowance before after k l);
+      begin-out = cut-begin-out room form text tree allowance k;
+      answer-out = λ before after c e l m. rw e (cut-run-answer-out room form text tree allowance before after c k l m);
     }

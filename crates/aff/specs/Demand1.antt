@@ -30,7 +30,8 @@ use Rattle.aff_write.specs.Put.{putAnswer}
 use Rattle.aff_write.specs.Stores.{storesTold}
 use Rattle.aff_write.specs.declared.writer.Writer.{Writer}
 use Rattle.aff_run.specs.Exact.{Exact, AllWrongRecord, stops}
-use Rattle.aff_run.specs.Run.{Call, make, put, close, State, begun, turn, runAnswers, runStores}
+use Rattle.aff_run.specs.Held.{Held}
+use Rattle.aff_run.specs.Run.{Call, make, put, close, State, begun, turn, runAnswers, runStores, runState, described}
 use Rattle.aff.specs.Rules.{By, Is, decodeRules, ReadingByRules, beginRules, WritingByRules}
 
 -- An answer is no refusal by this number.
@@ -121,3 +122,6 @@ pub record Demand1 : Type 0 where
   pub begin-tells : (room form text tree : List ℕ) (allowance : ℕ)
       → length (begun room form text tree allowance .stores) ≡ storesTold (begun room form text tree allowance .answer)
   pub tells : (s : State) (c : Call) → length (turn s c .stores) ≡ toldBy c (turn s c .answer)
+  -- The areas of a run: the text area holds the strings so far, each with its zero, the tree area each node's entry; zeros behind.
+  pub areas : (room form text tree : List ℕ) (allowance : ℕ) (calls : List Call) {n : ℕ} → beginAnswer room form text tree allowance ≡ accepted n
+      → Held (described [] calls (runAnswers room form text tree allowance calls)) (runState room form text tree allowance calls)

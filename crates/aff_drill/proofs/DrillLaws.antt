@@ -59,12 +59,13 @@ module _ (room text tree : List ℕ) (r : length room ≡ 214) (z : getD room 0 
   none-made = zero-refused room workedForm refl (omega arith) (omega arith) z
 
   some-made : (j : ℕ) → j ≡ k → k < 215 → opened (roomAt room all k) workedForm stringLimit nodeLimit ≡ refused (refusal 3)
+  unfolding numberForm
   some-made zero e l =
       let d = demand3 room workedForm text tree most calls k (omega arith) in
       ap (λ (i : List ℕ). opened i workedForm stringLimit nodeLimit) (d .none-made (sym e)) ∙ none-made
   some-made (suc j) e l =
       let n = run .stores in
-      demand3 room workedForm text tree most calls k (omega arith) .otherwise (omega arith) (λ q. let m = q .0 in omega arith)
+      demand3 room workedForm text tree most calls k (omega arith) .otherwise (omega arith) (λ q. let m = q .0 in omega arith) workedForm refl
 
   all-made : 215 ≤ k → (reader : Reader) × (opened (roomAt room all k) workedForm stringLimit nodeLimit ≡ accepted reader)
   all-made l =
@@ -78,7 +79,7 @@ module _ (room text tree : List ℕ) (r : length room ≡ 214) (z : getD room 0 
     after-is =
         h most (omega arith)
         ∙ ap (λ (l : List ℕ). applyStores room (cutStores room l text tree most calls k)) f
-        ∙ demand3-cut room workedForm text tree most calls k .room-left
+        ∙ ap (applyStores room) (demand3-cut room workedForm text tree most calls k .stores)
 
     told-is : openingTold o ≡ opened (roomAt room all k) workedForm stringLimit nodeLimit
     told-is =

@@ -79,7 +79,7 @@ lowest-same test other zero k h = refl
 lowest-same test other (suc left) k h =
     rw (h k (omega arith) (omega arith), lowest-same test other left (k + 1) (λ j lo hi. h j (omega arith) (omega arith)))
 
--- Where the test finds none, there is none.
+-- `isAt` is false of none alone.
 pub none-at : (l : Lowest) → isAt l ≡ false → l ≡ Nothing
 none-at Nothing h = refl
 none-at (At k) h = absurd (true≢false h)

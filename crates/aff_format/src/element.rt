@@ -52,7 +52,7 @@ fn element_at(kind: Kind, bytes: &[u8], k: usize) -> Element
 }
 
 // Element k of a view that the caller holds: `bytes` is the data part of a node of that kind. 16 where there is none. No other check
-// is paid for. The payload of a NaN is free.
+// is paid for. The sign and payload of a NaN are free.
 pub fn decode(kind: Kind, bytes: &[u8], k: usize) -> ElementAnswer
     ensures { λ r. ⌜ elementTold r ≡ decoded kind (now (bytes .entry)) k ⌝ }
 {

@@ -65,7 +65,7 @@ pub fn signed(n: u32) -> i32
 }
 
 // The double of 64 stored bits. `f64::from_bits` is undefined at a NaN pattern, so such a pattern is answered by a NaN of our own making;
-// its payload is free.
+// its sign and payload are free.
 pub fn real(n: u64) -> f64
     ensures { λ r. ⌜ r ≡ realOf n ⌝ }
 {

@@ -4,18 +4,18 @@ use mathlib.Core.Bool.{Bool, true, false}
 use mathlib.Core.List.{List, [], _∷_, _++_, append-assoc}
 use Prim.Native.Nat.{ℕ, _+_, _-_, _≤_, _<_}
 use native.Mathlib.Omega.{arith}
-use lib.Dec.{ltb, leb}
+use lib.Dec.{leb}
 use lib.ListN.{length, take, drop, set, length-append, take-append-drop}
 use lib.Seq.{drop-append-le, drop-drop}
-use borrow.Author.Tests.{ltb-true, ltb-false, leb-true, leb-false, le-leb, lt-leb}
+use borrow.Author.Tests.{leb-true, leb-false, le-leb, lt-leb}
 use borrow.Rule.Slice.PartMut.{midOf, putMid, put-same, mid-len}
-use Rattle.aff_format.specs.Answer.{Answer, accepted, refused, refusal, unless}
+use Rattle.aff_format.specs.Answer.{Answer, accepted, refused}
 use Rattle.aff_format.specs.Bytes.{spliced}
 use Rattle.aff_format.specs.declared.refusal.Told.{Told}
-use Rattle.aff_format.proofs.AnswerLaws.{not-both}
 use Rattle.aff_format.proofs.BytesLaws.{length-spliced, set-spliced, spliced-more}
 use Rattle.aff_read.specs.Calls.{frontWritten}
 use Rattle.aff_read.specs.Written.{textAnswer}
+use Rattle.aff_read.proofs.WrittenLaws.{text-accepted, text-refused}
 use Rattle.aff_list.specs.Lister.{endBehind, putBehind}
 
 -- Text that has room, and text that has none.
@@ -69,20 +69,12 @@ module _ (line o : List ℕ) (used : ℕ) (room : used < length o) {r : Answer �
   pub row-refused : (t : Told) → r ≡ refused t → (used ≡ endBehind used row o) × (putMid used k o q ≡ putBehind used row o)
   row-refused t e =
       let stays : putMid used k o q ≡ o = ap (putMid used k o) (output ∙ ap (λ (a : Answer ℕ). frontWritten a line mid) e) ∙ put-same used k o in
-      let full = behind-full used row o (go (ltb (length mid) (length line)) refl (sym answer ∙ e)) in
+      let full = behind-full used row o (omega (arith, text-refused (length mid) line (sym answer ∙ e) .1, mid-length, row-length)) in
       (full .0, stays ∙ full .1)
-    where
-      go : (b : Bool) → ltb (length mid) (length line) ≡ b → unless b (refusal 21) (accepted (length line)) ≡ refused t → length o < used + length row
-      go true h f = omega (arith, ltb-true (length mid) (length line) h, mid-length, row-length)
-      go false h f = not-both (sym f)
 
   module _ {n : ℕ} (e : r ≡ accepted n) where
     line-fits : (n ≡ length line) × (length line ≤ k)
-    line-fits = go (ltb (length mid) (length line)) refl (sym answer ∙ e)
-      where
-        go : (b : Bool) → ltb (length mid) (length line) ≡ b → unless b (refusal 21) (accepted (length line)) ≡ accepted n → (n ≡ length line) × (length line ≤ k)
-        go true h f = not-both f
-        go false h f = (cc, omega (arith, ltb-false (length mid) (length line) h, mid-length))
+    line-fits = let f = text-accepted (length mid) line (sym answer ∙ e) in (f .0, omega (arith, f .1, mid-length))
 
     pub row-room : used + n < length o
     row-room = omega (arith, line-fits .0, line-fits .1)

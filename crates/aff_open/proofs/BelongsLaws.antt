@@ -1,6 +1,6 @@
 -- 24 as a test and as document 01's clauses: each says what the other says. And what a call that passes 24 knows of strings, entries and
 -- climbs. Assumes nothing.
-use mathlib.Core.Path.{_≡_, refl, sym, ap, _∙_}
+use mathlib.Core.Path.{_≡_, refl, sym, _∙_}
 use mathlib.Core.Bool.{true, false, not, _&&_, false≢true, and-assoc, and-false}
 use mathlib.Core.List.{List}
 use Prim.Native.Nat.{ℕ, zero, suc, _+_, _-_, _≤_, _<_}
@@ -21,10 +21,10 @@ use Rattle.aff_format.specs.declared.lowest.Lowest.{Lowest}
 use Rattle.aff_format.specs.declared.lowest.Lowest.the-variants.{Nothing}
 use Rattle.aff_format.proofs.EntryLaws.{entry-inside}
 use Rattle.aff_format.proofs.KindLaws.{entry-size-bounds}
-use Rattle.aff_format.proofs.LowestLaws.{none-holds, holds-none, lowest-same, none-at}
+use Rattle.aff_format.proofs.LowestLaws.{none-holds, holds-none, none-at}
 use Rattle.aff_format.proofs.TestLaws.{both, all-seven}
 use Rattle.aff_open.specs.Belongs.{belongs, Belongs, sizesBelong, spanInside, sectionsInside, stringLost, nodeLost, noneLost, climbsBelong, nodesBelong, tablesBelong, ParentsCopied}
-use Rattle.aff_open.specs.Climb.{Linked, parentAt}
+use Rattle.aff_open.specs.Climb.{parentAt, Linked}
 use Rattle.aff_open.specs.Nodes.{climbEndless}
 use Rattle.aff_open.specs.Reader.{noReader}
 use Rattle.aff_open.specs.Recorded.{foundEntry, recordedEntry, recordedString}
@@ -32,7 +32,7 @@ use Rattle.aff_open.specs.Sections.{isKnown}
 use Rattle.aff_open.specs.declared.reader.Span.{Span}
 use Rattle.aff_open.specs.declared.reader.Reader.{Reader}
 use Rattle.aff_open.proofs.LostLaws.{Kept, stringEnd, string-kept, kept-string, name-until, name-zero, entry-kept, kept-entry, recorded-found}
-use Rattle.aff_open.proofs.ParentLaws.{reaches-same}
+use Rattle.aff_open.proofs.ParentLaws.{copied-climbs, copied-linked}
 
 known : (f : FoundEdition) → isKnown f ≡ true → (e : Edition) × (f ≡ Known e)
 known (Known e) h = (e, refl)
@@ -104,21 +104,11 @@ module _ (image : List ℕ) (strings nodes : ℕ) (entries : List ℕ) (none : l
       (entry-kept (length image) strings nodes (foundEntry image entries k)
       (none-holds (nodeLost image strings nodes entries) nodes 1 none k (omega arith) (omega arith)))
 
-  module _ {parents : List ℕ} (copied : ParentsCopied (recordedEntry image entries) nodes parents) where
-    -- Copied parents exist, and climbs by them are the climbs recorded.
-    pub copied-linked : nodes ≤ nodeLimit → nodes < length parents → Linked parents nodes
-    copied-linked f w =
-        record { few = f; listed = w; linked = λ k l h. rw (copied .parent k l h) (nodes-kept k l h .1 .parent) }
+  parents-kept : (k : ℕ) → 0 < k → k ≤ nodes → recordedEntry image entries k .parent ≤ nodes
+  parents-kept k l h = nodes-kept k l h .1 .parent
 
-    pub copied-climbs : lowestFrom (λ k. not (reachesBy (parentAt parents) nodes k)) nodes 1
-        ≡ lowestFrom (climbEndless nodes (recordedEntry image entries)) nodes 1
-    unfolding climbEndless
-    copied-climbs =
-        lowest-same _ _ nodes 1
-        (λ k l h.
-        ap not
-        (reaches-same (parentAt parents) (λ j. recordedEntry image entries j .parent) nodes (copied .parent)
-        (λ j m q. rw (copied .parent j m q) (nodes-kept j m q .1 .parent)) nodes k (omega arith)))
+  pub nodes-linked : {parents : List ℕ} → ParentsCopied (recordedEntry image entries) nodes parents → nodes ≤ nodeLimit → nodes < length parents → Linked parents nodes
+  nodes-linked {parents} copied = copied-linked (recordedEntry image entries) nodes parents (copied .parent) parents-kept
 
 -- The climbs by copied parents decide.
 pub climbs-decide : (image : List ℕ) (reader : Reader) (entries : List ℕ) {parents : List ℕ}
@@ -127,8 +117,13 @@ pub climbs-decide : (image : List ℕ) (reader : Reader) (entries : List ℕ) {p
     → (l : Lowest) → lowestFrom (λ k. not (reachesBy (parentAt parents) (reader .nodes) k)) (reader .nodes) 1 ≡ l
     → nodesBelong image reader entries ≡ not (isAt l)
 unfolding nodesBelong
-climbs-decide image reader entries none copied l e =
-    rw (none, ← copied-climbs image (reader .strings) (reader .nodes) entries none copied, e)
+climbs-decide image reader entries {parents} none copied l e =
+    rw (
+      none,
+      ← copied-climbs (recordedEntry image entries) (reader .nodes) parents (copied .parent)
+          (parents-kept image (reader .strings) (reader .nodes) entries none),
+      e,
+    )
 
 -- ---- The test and the clauses.
 

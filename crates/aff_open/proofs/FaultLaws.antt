@@ -1,10 +1,10 @@
 -- Each check of an opening asks for its rule, so the rules settle the opening's answer: it is accepted where all rules of document 01 hold, and
 -- refused with the number and the place of the first that fails. Assumes nothing.
 use mathlib.Core.Path.{_≡_, refl, sym, ap, subst, _∙_}
-use mathlib.Core.Bool.{Bool, true, false, not, _&&_, _||_, true≢false}
+use mathlib.Core.Bool.{Bool, true, false, not, _&&_, true≢false}
 use mathlib.Core.List.{List, [], _++_}
 use mathlib.Core.Logic.{_↔_}
-use Prim.Native.Nat.{ℕ, _+_, _-_, _*_, _≤_}
+use Prim.Native.Nat.{ℕ, _+_, _-_, _≤_}
 use native.Mathlib.Omega.{arith}
 use lib.Dec.{eqb, ltb}
 use lib.ListN.{length, getD, take}
@@ -13,7 +13,6 @@ use Rattle.md5.specs.Md5.{md5}
 use Rattle.aff_format.specs.Answer.{accepted, refused}
 use Rattle.aff_format.specs.Bytes.{part, sameBytes}
 use Rattle.aff_format.specs.Edition.{headerSize, headerSumAt, hasCounts, signatureText}
-use Rattle.aff_format.specs.Kind.{elementSize, isVoid}
 use Rattle.aff_format.specs.Limits.{imageLimit, stringLimit, nodeLimit}
 use Rattle.aff_format.specs.Lowest.{lowestFrom, isAt}
 use Rattle.aff_format.specs.Strings.{stringsOf, endsInZero, textOf}
@@ -26,14 +25,14 @@ use Rattle.aff_format.proofs.ClimbLaws.{reaches-within}
 use Rattle.aff_format.proofs.LowestLaws.{none-holds, holds-none, none-at}
 use Rattle.aff_format.proofs.SameLaws.{same-eq, same-refl, ne-same}
 use Rattle.aff_format.proofs.StringsLaws.{endsInZero-textOf, textOf-stringsOf}
-use Rattle.aff_format.proofs.TestLaws.{or-false}
 use Rattle.aff_open.specs.Faults.{AllHold, FirstFails, Settled, Inside, Summed, Counted, Distinct, Linked, Climbs, NameFree, DataInside, nodeRules, tableRules, sectionRules, editionRules, rules}
-use Rattle.aff_open.specs.Nodes.{nodeEntry, outside, linkWrong, climbEndless, nameTaken, sameSite, dataOutside}
+use Rattle.aff_open.specs.Nodes.{nodeEntry, linkWrong, climbEndless, nameTaken, sameSite, dataOutside}
 use Rattle.aff_open.specs.Opening.{isEmpty, lentWrong, nodesChecked, tableChecks, formChecks, bodyChecks, openChecks, opened, readerFor, stringIn, entryIn}
 use Rattle.aff_open.specs.Sections.{textEdition, isKnown, editionIn, sectionOffset, sectionSize, sectionRecords, sectionBytes, headerSumWrong, endsPast, sumWrong, countDiffers}
 use Rattle.aff_open.specs.Tables.{repeats, stringsIn, nodesIn, behindNodes}
 use Rattle.aff_open.specs.declared.reader.Reader.{Reader}
 use Rattle.aff_open.proofs.LinkLaws.{link-asks, distinct-by-repeats, repeats-by-distinct}
+use Rattle.aff_open.proofs.LostLaws.{data-asks}
 use Rattle.aff_open.proofs.OpeningLaws.{lent-right}
 use Rattle.aff_open.proofs.RuleLaws.{AskFor, none, one, each, Each, settled, all-accept, first-refuses}
 use Rattle.aff_open.proofs.SectionLaws.{known-is, text-known, known-text}
@@ -55,7 +54,7 @@ lowest-asks test left k = (λ h. none-holds test left k (none-at _ h), λ h. ap 
 
 -- ---- The header and the sections: 1 to 7.
 
-lent-asks : (image form : List ℕ) (strings entries : ℕ)
+pub lent-asks : (image form : List ℕ) (strings entries : ℕ)
     → (lentWrong image form strings entries ≡ false) ↔ ((length form ≡ 12) × (strings ≡ stringLimit) × (entries ≡ nodeLimit) × (length image ≤ imageLimit))
 unfolding lentWrong
 lent-asks image form strings entries = (
@@ -98,7 +97,7 @@ distinct-asks ss = (
 empty-asks : (l : List ℕ) → (not (isEmpty l) ≡ false) ↔ (l ≡ [])
 empty-asks l = (λ h. empty-is l (not-false _ h), λ h. rw h)
 
--- ---- The nodes: 11 to 13.
+-- ---- The nodes: 11 and 12. (10 is `link-asks`, 13 `data-asks`.)
 
 -- 11, where 10 holds of all nodes.
 climb-asks : (e : Edition) (strings : List (List ℕ)) (entries : List Entry) → Each (Linked e strings entries) (length entries) 1
@@ -128,18 +127,6 @@ name-asks strings entries k =
         go : (t : Bool) → eqb a b ≡ t → (a ≡ b → x ≡ y → ⊥) → (t && sameBytes x y) ≡ false
         go true p h = ne-same x y (h (eqb-true a b p))
         go false p h = refl
-
-data-asks : (from size : ℕ) (e : Entry) → (outside from size e ≡ false)
-    ↔ (isVoid (e .kind) ≡ false → (from ≤ e .offset) × (e .offset + e .count * elementSize (e .kind) ≤ from + size))
-unfolding outside
-data-asks from size e = go (isVoid (e .kind)) (e .offset + e .count * elementSize (e .kind))
-  where
-    go : (v : Bool) (end : ℕ) → ((not v && (ltb (e .offset) from || ltb (from + size) end)) ≡ false) ↔ (v ≡ false → (from ≤ e .offset) × (end ≤ from + size))
-    go true end = (λ h q. absurd (true≢false q), λ h. refl)
-    go false end = (
-      λ h q. let (p, r) = or-false _ _ h in (ltb-false _ _ p, ltb-false _ _ r),
-      λ h. let (p, r) = h refl in rw (le-ltb _ _ p, le-ltb _ _ r),
-    )
 
 -- ---- In document 01's order.
 

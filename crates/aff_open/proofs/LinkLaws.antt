@@ -15,7 +15,6 @@ use borrow.Author.Tests.{eqb-true, eqb-false, ltb-true, ltb-false, leb-false, le
 use Rattle.aff_format.specs.Bytes.{part, sameBytes}
 use Rattle.aff_format.specs.Lowest.{lowestFrom, isAt}
 use Rattle.aff_format.specs.Subkey.{subkeyFrom, isSound, isSubkey}
-use Rattle.aff_format.specs.Tree.{reachesBy}
 use Rattle.aff_format.specs.declared.edition.Edition.{Edition}
 use Rattle.aff_format.specs.declared.entry.Entry.{Entry}
 use Rattle.aff_format.specs.declared.lowest.Lowest.{Lowest}
@@ -26,7 +25,6 @@ use Rattle.aff_format.proofs.SameLaws.{same-refl, ne-same}
 use Rattle.aff_format.proofs.StringsLaws.{isIn-none, none-isIn}
 use Rattle.aff_format.proofs.SubkeyLaws.{sound-shift}
 use Rattle.aff_format.proofs.TestLaws.{or-false}
-use Rattle.aff_open.specs.Climb.{parentAt, Linked}
 use Rattle.aff_open.specs.Distinct.{siblingTaken}
 use Rattle.aff_open.specs.Nodes.{noParent, outside, linkWrong, climbEndless, nameTaken, dataOutside}
 use Rattle.aff_open.specs.Passes.{bit, Judged, linkBad, Copied}
@@ -111,19 +109,8 @@ module _ (e : Edition) (strings : ℕ) (string : ℕ → List ℕ) (nodes : ℕ)
   pub clear-links : ((k : ℕ) → 0 < k → k ≤ nodes → Linkable k) → lowestFrom (linkWrong e strings string nodes entry) nodes 1 ≡ Nothing
   clear-links h = holds-none (linkWrong e strings string nodes entry) nodes 1 (λ k lo hi. link-asks k .1 (h k (omega arith) (omega arith)))
 
--- 11 and 12 by the copied numbers.
+-- 12 by the copied numbers. (11: `copied-climbs`.)
 module _ (entry : ℕ → Entry) (nodes : ℕ) (parents names : List ℕ) (c : Copied entry nodes parents names) where
-  pub copied-linked : nodes ≤ 2048 → nodes < length parents → ((k : ℕ) → 0 < k → k ≤ nodes → entry k .parent ≤ nodes) → Linked parents nodes
-  copied-linked f l w = record { few = f; listed = l; linked = λ k lo hi. rw (c .parent k lo hi) (w k lo hi) }
-
-  pub copied-climbs : ((k : ℕ) → 0 < k → k ≤ nodes → entry k .parent ≤ nodes)
-      → lowestFrom (λ k. not (reachesBy (parentAt parents) nodes k)) nodes 1 ≡ lowestFrom (climbEndless nodes entry) nodes 1
-  unfolding climbEndless
-  copied-climbs w =
-      lowest-same _ _ nodes 1
-      (λ k lo hi.
-      ap not (reaches-same (parentAt parents) (λ j. entry j .parent) nodes (c .parent) (λ j l h. rw (c .parent j l h) (w j l h)) nodes k (omega arith)))
-
   pub copied-siblings : (strings : ℕ) (string : ℕ → List ℕ) → ((k : ℕ) → 0 < k → k ≤ nodes → entry k .string < strings)
       → ((i j : ℕ) → i < strings → j < strings → string i ≡ string j → i ≡ j)
       → lowestFrom (siblingTaken parents names) nodes 1 ≡ lowestFrom (nameTaken string entry) nodes 1

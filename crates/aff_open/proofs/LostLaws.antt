@@ -3,7 +3,7 @@
 use mathlib.Core.Path.{_≡_, refl, sym, _∙_}
 use mathlib.Core.Bool.{Bool, true, false, cond, not, _&&_, _||_, true≢false}
 use mathlib.Core.List.{List, [], _∷_}
-use mathlib.Core.Logic.{⊎-elim}
+use mathlib.Core.Logic.{⊎-elim, _↔_}
 use Prim.Native.Nat.{ℕ, zero, suc, _+_, _-_, _*_, _≤_, _<_}
 use native.Mathlib.Nat.{eq-or-lt-of-le}
 use native.Mathlib.Omega.{arith}
@@ -19,8 +19,9 @@ use Rattle.aff_format.specs.declared.entry.FoundEntry.{FoundEntry}
 use Rattle.aff_format.specs.declared.entry.FoundEntry.the-variants.{Whole, Broken}
 use Rattle.aff_format.proofs.BytesLaws.{length-part}
 use Rattle.aff_format.proofs.StringsLaws.{upToZero-ends}
+use Rattle.aff_format.proofs.TestLaws.{or-false}
 use Rattle.aff_open.specs.Belongs.{stringLost, entryLost, nodeLost, LastZero, placeOutside, ParentsCopied}
-use Rattle.aff_open.specs.Nodes.{noParent, noString, outside}
+use Rattle.aff_open.specs.Nodes.{outside}
 use Rattle.aff_open.specs.Recorded.{foundEntry, recordedEntry, recordedString, orNone}
 use Rattle.aff_open.specs.Tables.{nameFrom}
 use Rattle.aff_open.specs.declared.reader.Span.{Span}
@@ -123,39 +124,31 @@ pub record Kept (size strings nodes : ℕ) (e : Entry) : Type 0 where
   pub string : e .string < strings
   pub inside : isVoid (e .kind) ≡ false → e .offset + e .count * elementSize (e .kind) ≤ size
 
--- Data that are not outside the `size` bytes from `from` on.
-pub data-within : (from size : ℕ) (e : Entry) → outside from size e ≡ false → isVoid (e .kind) ≡ false
-    → (from ≤ e .offset) × (e .offset + e .count * elementSize (e .kind) ≤ from + size)
+-- Data are not outside the `size` bytes from `from` on exactly where they lie inside.
+pub data-asks : (from size : ℕ) (e : Entry) → (outside from size e ≡ false)
+    ↔ (isVoid (e .kind) ≡ false → (from ≤ e .offset) × (e .offset + e .count * elementSize (e .kind) ≤ from + size))
 unfolding outside
-data-within from size e h v = go (ltb (e .offset) from) refl (rw v at h)
+data-asks from size e = go (isVoid (e .kind)) (e .offset + e .count * elementSize (e .kind))
   where
-    go : (b : Bool) → ltb (e .offset) from ≡ b → (b || ltb (from + size) (e .offset + e .count * elementSize (e .kind))) ≡ false
-        → (from ≤ e .offset) × (e .offset + e .count * elementSize (e .kind) ≤ from + size)
-    go true t h = absurd (true≢false h)
-    go false t h = (ltb-false _ _ t, ltb-false _ _ h)
+    go : (v : Bool) (end : ℕ) → ((not v && (ltb (e .offset) from || ltb (from + size) end)) ≡ false) ↔ (v ≡ false → (from ≤ e .offset) × (end ≤ from + size))
+    go true end = (λ h q. absurd (true≢false q), λ h. refl)
+    go false end = (
+      λ h q. let (p, r) = or-false _ _ h in (ltb-false _ _ p, ltb-false _ _ r),
+      λ h. let (p, r) = h refl in rw (le-ltb _ _ p, le-ltb _ _ r),
+    )
 
-module _ (size strings nodes : ℕ) (e : Entry) where
-  entry-facts : (p s : Bool) → noParent nodes e ≡ p → noString strings e ≡ s → (p || (s || outside 0 size e)) ≡ false → Kept size strings nodes e
-  entry-facts true s p q h = absurd (true≢false h)
-  entry-facts false true p q h = absurd (true≢false h)
-  entry-facts false false p q h =
-      record { parent = ltb-false _ _ p; string = leb-false _ _ q; inside = λ v. let d = data-within 0 size e h v .1 in omega arith }
-
-  within : (v : Bool) → isVoid (e .kind) ≡ v → (isVoid (e .kind) ≡ false → e .offset + e .count * elementSize (e .kind) ≤ size)
-      → (not v && (ltb (e .offset) 0 || ltb (0 + size) (e .offset + e .count * elementSize (e .kind)))) ≡ false
-  within true v h = refl
-  within false v h = let q = h v in rw (le-ltb (e .offset) 0 (omega arith), le-ltb (0 + size) (e .offset + e .count * elementSize (e .kind)) (omega arith))
-
-  pub kept-entry : (f : FoundEntry) → f ≡ Whole e → Kept size strings nodes e → entryLost size strings nodes f ≡ false
-  unfolding outside
-  kept-entry f q k =
-      rw (q, le-ltb nodes (e .parent) (k .parent), lt-leb strings (e .string) (k .string)) (within (isVoid (e .kind)) refl (k .inside))
+pub kept-entry : (size strings nodes : ℕ) (e : Entry) (f : FoundEntry) → f ≡ Whole e → Kept size strings nodes e → entryLost size strings nodes f ≡ false
+kept-entry size strings nodes e f q k =
+    rw (q, le-ltb nodes (e .parent) (k .parent), lt-leb strings (e .string) (k .string))
+    (data-asks 0 size e .1 (λ v. let h = k .inside v in (omega arith, omega arith)))
 
 pub entry-kept : (size strings nodes : ℕ) (f : FoundEntry) → entryLost size strings nodes f ≡ false
     → (f ≡ Whole (orNone f)) × Kept size strings nodes (orNone f)
 entry-kept size strings nodes Broken h = absurd (true≢false h)
 entry-kept size strings nodes (Whole e) h =
-    (refl, entry-facts size strings nodes e (noParent nodes e) (noString strings e) refl refl h)
+    let (p, r) = or-false _ _ h in
+    let (s, d) = or-false _ _ r in
+    (refl, record { parent = ltb-false _ _ p; string = leb-false _ _ s; inside = λ v. let w = data-asks 0 size e .0 d v .1 in omega arith })
 
 -- The entry of a node is the one found.
 pub recorded-found : (image entries : List ℕ) (k : ℕ) → 0 < k → recordedEntry image entries k ≡ orNone (foundEntry image entries k)

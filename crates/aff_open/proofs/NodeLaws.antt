@@ -6,6 +6,7 @@ use Prim.Native.Nat.{ℕ, _+_, _≤_, _<_}
 use native.Mathlib.Omega.{arith}
 use lib.ListN.{length}
 use Rattle.aff_format.specs.Answer.{firstWrong, Clear}
+use Rattle.aff_format.specs.Limits.{nodeLimit}
 use Rattle.aff_format.specs.Lowest.{lowestFrom, checkLowest}
 use Rattle.aff_format.specs.Tree.{reachesBy}
 use Rattle.aff_format.specs.declared.edition.Edition.{Edition}
@@ -18,7 +19,8 @@ use Rattle.aff_open.specs.Distinct.{siblingTaken}
 use Rattle.aff_open.specs.Nodes.{linkWrong, climbEndless, nameTaken, dataOutside}
 use Rattle.aff_open.specs.Opening.{linkedChecks, nodeChecks}
 use Rattle.aff_open.specs.Passes.{Copied, copiedChecks, AllDistinct}
-use Rattle.aff_open.proofs.LinkLaws.{links-clear, copied-linked, copied-climbs, copied-siblings, links-same, climbs-same, names-same, data-same}
+use Rattle.aff_open.proofs.LinkLaws.{links-clear, copied-siblings, links-same, climbs-same, names-same, data-same}
+use Rattle.aff_open.proofs.ParentLaws.{copied-linked, copied-climbs}
 
 -- Sound links, copied.
 module _ (e : Edition) (strings : ℕ) (string : ℕ → List ℕ) (nodes : ℕ) (entry : ℕ → Entry) (parents names : List ℕ) (r : Lowest)
@@ -26,16 +28,18 @@ module _ (e : Edition) (strings : ℕ) (string : ℕ → List ℕ) (nodes : ℕ)
   sound : lowestFrom (linkWrong e strings string nodes entry) nodes 1 ≡ Nothing
   sound = sym is ∙ none
 
-  pub linked-by-copies : nodes ≤ 2048 → nodes < length parents → Linked parents nodes
-  linked-by-copies few listed = copied-linked entry nodes parents names c few listed (λ k lo hi. links-clear e strings string nodes entry sound k lo hi .0)
+  up : (k : ℕ) → 0 < k → k ≤ nodes → entry k .parent ≤ nodes
+  up k lo hi = links-clear e strings string nodes entry sound k lo hi .0
+
+  pub linked-by-copies : nodes ≤ nodeLimit → nodes < length parents → Linked parents nodes
+  linked-by-copies = copied-linked entry nodes parents (c .parent) up
 
   -- The checks by the copies are the checks by the entries.
   pub checked-by-copies : {A : Type 0} (from size : ℕ) (v : A) → AllDistinct strings string
       → firstWrong (copiedChecks from size parents names nodes entry) v ≡ firstWrong (nodeChecks e from size strings string nodes entry) v
   checked-by-copies from size v apart =
-      let up : (k : ℕ) → 0 < k → k ≤ nodes → entry k .parent ≤ nodes = λ k lo hi. links-clear e strings string nodes entry sound k lo hi .0 in
       let named : (k : ℕ) → 0 < k → k ≤ nodes → entry k .string < strings = λ k lo hi. links-clear e strings string nodes entry sound k lo hi .1 in
-      rw (sound, copied-climbs entry nodes parents names c up, copied-siblings entry nodes parents names c strings string named apart)
+      rw (sound, copied-climbs entry nodes parents (c .parent) up, copied-siblings entry nodes parents names c strings string named apart)
 
 three : {A : Type 0} (v : A) {a a′ b b′ c c′ : Lowest} → a ≡ a′ → b ≡ b′ → c ≡ c′
     → firstWrong (checkLowest 11 a ∷ checkLowest 12 b ∷ checkLowest 13 c ∷ []) v ≡ firstWrong (checkLowest 11 a′ ∷ checkLowest 12 b′ ∷ checkLowest 13 c′ ∷ []) v

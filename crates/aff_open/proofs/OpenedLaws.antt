@@ -25,7 +25,7 @@ use Rattle.aff_open.specs.Tables.{laidOver, stringsIn, nodesIn}
 use Rattle.aff_open.specs.declared.reader.Reader.{Reader}
 use Rattle.aff_open.proofs.BelongsLaws.{record-belongs}
 use Rattle.aff_open.proofs.LinkLaws.{links-clear}
-use Rattle.aff_open.proofs.LostLaws.{name-zero, data-within}
+use Rattle.aff_open.proofs.LostLaws.{name-zero, data-asks}
 use Rattle.aff_open.proofs.NodeLaws.{nodes-clear}
 use Rattle.aff_open.proofs.OpeningLaws.{lent-right, readable-by, strings-laid, entries-laid, checked-by}
 use Rattle.aff_open.proofs.SectionLaws.{header-clear}
@@ -179,7 +179,7 @@ module _ (image form strings entries : List ℕ) {r : Reader} (h : opened image 
         entry-whole = found;
         parent-exists = λ k lo hi. link k lo hi .0;
         string-exists = λ k lo hi. link k lo hi .1;
-        node-data = λ k lo hi v. let d = data-within _ _ _ (none-holds _ _ 1 (none .3) k (omega arith) (omega arith)) v .1 in omega arith;
+        node-data = λ k lo hi v. let d = data-asks _ _ _ .0 (none-holds _ _ 1 (none .3) k (omega arith) (omega arith)) v .1 in omega arith;
         climb-ends = λ k lo hi. not-false _ (none-holds _ _ 1 (none .1) k (omega arith) (omega arith));
       }
 

@@ -6,11 +6,11 @@ use Prim.Native.Nat.{ℕ, zero, suc, _+_, _-_, _*_, _/_, _%_, _^_, _≤_, _<_}
 use native.Mathlib.Nat.{pow-suc, zero-add}
 use native.Mathlib.Numerals.{sub-one}
 use native.Mathlib.Omega.{arith}
-use borrow.Author.Tests.{lt-ltb, le-ltb, ltb-true, ltb-false}
+use borrow.Author.Tests.{lt-ltb, le-ltb}
 use lib.Dec.{ltb}
 use lib.ListN.{length, take, drop, length-append, take-append-drop}
 use lib.Seq.{length-take-le, drop-append-le}
-use Rattle.aff_format.specs.Answer.{Answer, accepted, refused, refusal, unless}
+use Rattle.aff_format.specs.Answer.{Answer, accepted, refused}
 use Rattle.aff_format.specs.Bytes.{spliced}
 use Rattle.aff_format.specs.declared.entry.Entry.{Entry}
 use Rattle.aff_format.specs.Kind.{elementSize, isVoid}
@@ -18,7 +18,6 @@ use Rattle.aff_format.specs.Limits.{imageLimit}
 use Rattle.aff_format.specs.declared.kind.Kind.{Kind}
 use Rattle.aff_format.specs.declared.kind.Kind.the-variants.{Void, Char, Int, Double, Complex}
 use Rattle.aff_format.specs.declared.refusal.Told.{Told}
-use Rattle.aff_format.proofs.AnswerLaws.{not-both}
 use Rattle.aff_format.proofs.ClimbLaws.{absurd-bool}
 use Rattle.aff_open.specs.Belongs.{Belongs}
 use Rattle.aff_open.specs.Recorded.{recordedEntry}
@@ -28,7 +27,7 @@ use Rattle.aff_read.specs.Recall.{kindAt, countAt, pathAt}
 use Rattle.aff_read.specs.Written.{Written, textAnswer}
 use Rattle.aff_read.proofs.ElementLaws.{void-count}
 use Rattle.aff_read.proofs.SpanLaws.{data-ends}
-use Rattle.aff_read.proofs.WrittenLaws.{written-length, written-more, written-front, written-taken}
+use Rattle.aff_read.proofs.WrittenLaws.{written-length, written-more, written-front, written-taken, text-accepted, text-refused}
 
 -- ---- Digits.
 
@@ -125,23 +124,15 @@ module _ (path text o : List ℕ) (room : ℕ) (left : room + length text ≡ le
   pub behind-refused : (t : Told) → r ≡ refused t
       → (refused t ≡ textAnswer (length o) (path ++ text)) × (q ++ drop room o ≡ o)
   behind-refused t e =
-      (go (ltb (length (take room o)) (length path)) refl (sym answer ∙ e), rw (output ∙ ap (λ (a : Answer ℕ). frontWritten a path (take room o)) e) (take-append-drop room o))
-    where
-      go : (b : Bool) → ltb (length (take room o)) (length path) ≡ b → unless b (refusal 21) (accepted (length path)) ≡ refused t
-          → refused t ≡ textAnswer (length o) (path ++ text)
-      go true h f =
-          let l : length o < length (path ++ text) = simp length-append (omega (arith, ltb-true (length (take room o)) (length path) h, room-is)) in
-          sym f ∙ rw (lt-ltb (length o) (length (path ++ text)) l)
-      go false h f = not-both (sym f)
+      let f = text-refused (length (take room o)) path (sym answer ∙ e) in
+      let l : length o < length (path ++ text) = simp length-append (omega (arith, f .1, room-is)) in (
+        ap refused (f .0) ∙ rw (lt-ltb (length o) (length (path ++ text)) l),
+        rw (output ∙ ap (λ (a : Answer ℕ). frontWritten a path (take room o)) e) (take-append-drop room o),
+      )
 
   module _ {n : ℕ} (e : r ≡ accepted n) where
     accepted-fits : (n ≡ length path) × (length path ≤ room)
-    accepted-fits = go (ltb (length (take room o)) (length path)) refl (sym answer ∙ e)
-      where
-        go : (b : Bool) → ltb (length (take room o)) (length path) ≡ b → unless b (refusal 21) (accepted (length path)) ≡ accepted n
-            → (n ≡ length path) × (length path ≤ room)
-        go true h f = not-both f
-        go false h f = (cc, omega (arith, ltb-false (length (take room o)) (length path) h, room-is))
+    accepted-fits = let f = text-accepted (length (take room o)) path (sym answer ∙ e) in (f .0, omega (arith, f .1, room-is))
 
     behind-path : Written 0 path o (q ++ drop room o) n
     unfolding spliced

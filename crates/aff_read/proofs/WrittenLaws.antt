@@ -1,15 +1,21 @@
 -- Runs written one behind the other. Assumes nothing.
 use mathlib.Core.Path.{_≡_, refl, sym, ap, _∙_}
+use mathlib.Core.Bool.{Bool, true, false}
 use mathlib.Core.List.{List, [], _∷_, _++_}
 use Prim.Native.Nat.{ℕ, _+_, _≤_, _<_}
 use native.Mathlib.Nat.{add-zero, zero-add}
 use native.Mathlib.Numerals.{add-one}
 use native.Mathlib.Omega.{arith}
+use lib.Dec.{ltb}
 use lib.ListN.{length, getD, take, drop, set, length-append}
 use lib.Seq.{length-take-le, take-length, take-suc, take-at}
+use borrow.Author.Tests.{ltb-true, ltb-false}
+use Rattle.aff_format.specs.Answer.{accepted, refused, check, refusal, unless}
 use Rattle.aff_format.specs.Bytes.{spliced}
+use Rattle.aff_format.specs.declared.refusal.Told.{Told}
+use Rattle.aff_format.proofs.AnswerLaws.{not-both, passed, passed-value}
 use Rattle.aff_format.proofs.BytesLaws.{length-spliced, spliced-nil, spliced-next, set-spliced}
-use Rattle.aff_read.specs.Written.{Written}
+use Rattle.aff_read.specs.Written.{Written, textAnswer}
 
 pub written-none : (at : ℕ) (x o : List ℕ) → x ≡ [] → Written at x o o at
 written-none at x o e = rw e (record { ends = sym (add-zero at); area = sym (spliced-nil at o) })
@@ -40,3 +46,16 @@ written-front w = (omega (arith, w .ends), w .area ∙ rw zero-add)
 
 pub written-taken : {end : ℕ} {x o p : List ℕ} → Written 0 x o p end → take end p ≡ x
 written-taken {end} {x} {o} w = let f = written-front w in rw (f .1) (take-at x (drop (length x) o) end (sym (f .0)))
+
+-- What the answer of a text says of the room.
+pub text-accepted : (room : ℕ) (text : List ℕ) {n : ℕ} → textAnswer room text ≡ accepted n → (n ≡ length text) × (length text ≤ room)
+text-accepted room text h =
+    let checks = check (ltb room (length text)) (refusal 21) ∷ [] in
+    (sym (passed-value checks (length text) h), ltb-false room (length text) (passed checks (length text) h .0))
+
+pub text-refused : (room : ℕ) (text : List ℕ) {t : Told} → textAnswer room text ≡ refused t → (t ≡ refusal 21) × (room < length text)
+text-refused room text h = go (ltb room (length text)) refl h
+  where
+    go : (b : Bool) → ltb room (length text) ≡ b → {t : Told} → unless b (refusal 21) (accepted (length text)) ≡ refused t → (t ≡ refusal 21) × (room < length text)
+    go true l e = (cc, ltb-true room (length text) l)
+    go false l e = not-both (sym e)

@@ -1,6 +1,6 @@
 -- An accepted begin leaves record, areas and room of the empty tree: no string, no node, no data, and both areas zero. From its checks: each
 -- area has its own length, the form is 12 bytes, and the room holds a header. Assumes nothing.
-use mathlib.Core.Path.{_≡_, refl, _∙_}
+use mathlib.Core.Path.{_≡_, refl, sym, ap, _∙_}
 use mathlib.Core.Bool.{false, not, _||_}
 use mathlib.Core.List.{List, [], _∷_}
 use Prim.Native.Nat.{ℕ, _≤_}
@@ -19,7 +19,7 @@ use Rattle.aff_write.specs.Writer.{dataPlace, begunWriter}
 use Rattle.aff_write.proofs.StoreLaws.{apply-length}
 use Rattle.aff_run.specs.Described.{namesFrom, dataSize, entriesSize, sizeOf}
 use Rattle.aff_run.specs.Run.{next, begun}
-use Rattle.aff_run.proofs.GoodLaws.{Good}
+use Rattle.aff_run.proofs.GoodLaws.{Good, Blank, Behind}
 use Rattle.aff_run.proofs.SlotsLaws.{slotsOf}
 
 -- What is lent is right where check 1 finds nothing.
@@ -40,6 +40,9 @@ lent-right room form text tree h =
 no-size : sizeOf [] ≡ dataPlace
 unfolding sizeOf dataSize entriesSize namesFrom textOf
 no-size = refl
+
+blank-zeros : (n : ℕ) → Blank (replicate n 0)
+blank-zeros n = ap (λ (k : ℕ). replicate k 0) (sym (length-replicate n 0))
 
 -- The record of an accepted begin, over any areas of the right lengths.
 pub empty-good : (size : ℕ) (room form text tree : List ℕ) → length room ≡ size → length form ≡ 12 → length text ≡ textArea → length tree ≡ treeArea → size ≤ imageLimit
@@ -88,6 +91,10 @@ module _ (room form text tree : List ℕ) (allowance : ℕ) {n : ℕ} (h : begin
       (empty-good (length room) (applyStores room (take n beginStores)) form (replicate (length text) 0) (replicate (length tree) 0)
       (apply-length room (take n beginStores)) (a .0) (length-replicate (length text) 0 ∙ a .1) (length-replicate (length tree) 0 ∙ a .2) (a .3)
       (ltb-false (length room) dataPlace (clear .1 .0)))
+
+  pub begin-behind : Behind (next (begun room form text tree allowance) room) []
+  unfolding begun namesFrom textOf
+  begin-behind = rw h (record { text-blank = blank-zeros (length text); tree-blank = blank-zeros (length tree) })
 
   pub begin-form : next (begun room form text tree allowance) room .writer .form ≡ form
   unfolding begun

@@ -6,7 +6,7 @@ use mathlib.Core.List.{List, [], _∷_, _++_, append-nil}
 use Prim.Native.Nat.{ℕ, _+_, _-_, _≤_, _<_, min}
 use native.Mathlib.Omega.{arith}
 use lib.Dec.{eqb, ltb}
-use lib.ListN.{length, take, length-append}
+use lib.ListN.{length, take, drop, length-append}
 use lib.Seq.{take-all, take-nil, take-take, take-append-le, length-take-le}
 use borrow.Author.Tests.{ltb-true, ltb-false, lt-ltb, le-ltb}
 use Rattle.aff_format.specs.Answer.{Answer, accepted, refused, Check, check, refusal, refusalAt, firstWrong}
@@ -21,16 +21,18 @@ use Rattle.aff_write.specs.Put.{takesNone, wrongData, putStores, putAnswer, put
 use Rattle.aff_write.specs.Stores.{Store, applyStores, storesFrom, storesTold}
 use Rattle.aff_write.specs.Writer.{dataPlace, stopped, writerAfter, areaAfter}
 use Rattle.aff_write.proofs.StoreLaws.{take-append, length-take-most}
-use Rattle.aff_run.specs.Run.{Call, make, put, close, State, Turn, next, begun, makeTurn, putTurn, closeTurn, turn, answersOf, storesOf, runAnswers, runStores}
-use Rattle.aff_run.specs.Cut.{limited, cutAnswersOf, cutStoresOf, cutAnswers, cutStores}
-use Rattle.aff_run.proofs.TurnLaws.{asleep-turn, asleep-next}
+use Rattle.aff_run.specs.Run.{Call, make, put, close, State, Turn, next, begun, makeTurn, putTurn, closeTurn, turn, answersOf, storesOf, runAnswers, runStores, runState}
+use Rattle.aff_run.specs.Cut.{limited, cutAnswersOf, cutStoresOf, cutCalls, cutAnswers, cutStores}
+use Rattle.aff_run.proofs.TurnLaws.{asleep-turn, asleep-next, run-room}
 
 -- ---- One turn with its own allowance, and with what is left where that is less.
 
--- The two are alike and the stores suffice; or the stores that are left are all made, more were wanted, and the writer sleeps.
+-- The two are alike and the stores suffice; or the stores that are left are all made, more were wanted, the answer is 23 with their number, and the
+-- writer sleeps.
 pub data Compared (lent full : Turn) (left : ℕ) : Type 0 where
   alike : lent ≡ full → length (full .stores) ≤ left → Compared lent full left
-  givesOut : lent .stores ≡ take left (full .stores) → left < length (full .stores) → lent .writer .live ≡ false → Compared lent full left
+  givesOut : lent .stores ≡ take left (full .stores) → left < length (full .stores) → lent .answer ≡ refused (refusalAt 23 left) → lent .writer .live ≡ false
+      → Compared lent full left
 
 -- A call judges its allowance last.
 module _ (before : List Check) (none : Others 23 before) (all : List Store) where
@@ -64,7 +66,7 @@ module _ (before : List Check) (none : Others 23 before) (all : List Store) wher
       by-checks (refused t) e = rw (stands t allowance e, others-told 23 before none 0 e)
 
   -- Its turn goes by its answer.
-  module _ (by : Answer ℕ → Turn) (made : (a : Answer ℕ) → by a .stores ≡ take (storesTold a) all)
+  module _ (by : Answer ℕ → Turn) (answers : (a : Answer ℕ) → by a .answer ≡ a) (made : (a : Answer ℕ) → by a .stores ≡ take (storesTold a) all)
       (stops : (t : Told) → eqb (t .number) 23 ≡ true → by (refused t) .writer .live ≡ false) (allowance left : ℕ) where
     alike-by : (a : Answer ℕ) → judged (min allowance left) ≡ a → judged allowance ≡ a → length (take (storesTold a) all) ≤ left
         → Compared (by (judged (min allowance left))) (by (judged allowance)) left
@@ -76,7 +78,7 @@ module _ (before : List Check) (none : Others 23 before) (all : List Store) wher
         let n : left ≤ storesTold a = omega (arith, length-take-most (storesTold a) all) in
         let same : take left (take (storesTold a) all) ≡ take left all = take-take left (storesTold a) all n in
         let first : by (refused (refusalAt 23 left)) .stores ≡ take left (by a .stores) = made (refused (refusalAt 23 left)) ∙ sym same ∙ ap (take left) (sym (made a)) in
-        rw (e, f) (givesOut first (rw (made a) h) (stops (refusalAt 23 left) refl))
+        rw (e, f) (givesOut first (rw (made a) h) (answers (refused (refusalAt 23 left))) (stops (refusalAt 23 left) refl))
 
     by-numbers : (c : ℕ) → firstWrong before 0 ≡ accepted c → (small less : Bool) → ltb allowance (length all) ≡ small → ltb left (cond small allowance (length all)) ≡ less
         → Compared (by (judged (min allowance left))) (by (judged allowance)) left
@@ -111,7 +113,12 @@ module _ (before : List Check) (none : Others 23 before) (all : List Store) wher
 -- Where the stores suffice, the turn is the same.
 enough : {lent full : Turn} {left : ℕ} → Compared lent full left → length (full .stores) ≤ left → lent ≡ full
 enough (alike e h) k = e
-enough (givesOut e h asleep) k = absurd (omega arith)
+enough (givesOut e h told asleep) k = absurd (omega arith)
+
+-- Where they do not, it answers 23 and tells them.
+gave-out : {lent full : Turn} {left : ℕ} → Compared lent full left → left < length (full .stores) → lent .answer ≡ refused (refusalAt 23 left)
+gave-out (alike e h) k = absurd (omega arith)
+gave-out (givesOut e h told asleep) k = told
 
 -- ---- The calls.
 
@@ -139,7 +146,7 @@ module _ (s : State) where
         text = s .text;
         tree = areaAfter a (putTree (s .writer) (s .tree) node type bytes) (s .tree);
       })
-      (λ a. refl)
+      (λ a. refl) (λ a. refl)
       (λ t e. rw e)
       allowance left
 
@@ -157,7 +164,7 @@ module _ (s : State) where
         text = s .text;
         tree = s .tree;
       })
-      (λ a. refl)
+      (λ a. refl) (λ a. refl)
       (λ t e. rw e)
       allowance left
 
@@ -199,7 +206,7 @@ module _ (room form text tree : List ℕ) (allowance : ℕ) where
         text = beginArea a text;
         tree = beginArea a tree;
       })
-      (λ a. refl)
+      (λ a. refl) (λ a. refl)
       (λ t e. rw e)
       allowance left
 
@@ -227,7 +234,7 @@ module _ (room : List ℕ) (full : Turn) (left : ℕ) (cs : List Call) where
       ap cutBehind e
       ∙ ap₂ (λ (x y : List Store). x ++ y) (sym (take-all left (full .stores) h)) (later (next full room) (left - length (full .stores)))
       ∙ sym (take-append left (full .stores) (storesOf (next full room) cs))
-  stores-behind lent (givesOut e h asleep) later =
+  stores-behind lent (givesOut e h told asleep) later =
       ap (λ (y : List Store). lent .stores ++ y) (asleep-cut (next lent room) asleep (left - length (lent .stores)) cs)
       ∙ append-nil (lent .stores)
       ∙ e
@@ -257,6 +264,23 @@ cut-answers-before (c ∷ before) after s left h =
     ∙ ap (λ (answers : List (Answer ℕ)). full .answer ∷ answers)
     (cut-answers-before before after (next full (s .room)) (left - length (full .stores)) (enough-behind (s .room) full left before h))
 
+-- The answer of the call in which the stores give out.
+pub cut-answer-out : (before after : List Call) (c : Call) (s : State) (left : ℕ) → length (storesOf s before) ≤ left → left < length (storesOf s (before ++ (c ∷ [])))
+    → take 1 (drop (length before) (cutAnswersOf s left (before ++ (c ∷ after)))) ≡ refused (refusalAt 23 (left - length (storesOf s before))) ∷ []
+cut-answer-out [] after c s left h k =
+    let all : left - 0 ≡ left = omega arith in
+    ap (λ (a : Answer ℕ). a ∷ []) (gave-out (turn-compared s c left) (omega (arith, length-append (turn s c .stores) [])) ∙ ap (λ (i : ℕ). refused (refusalAt 23 i)) (sym all))
+cut-answer-out (b ∷ before) after c s left h k =
+    let cs = before ++ (c ∷ after) in
+    let full = turn s b in
+    let n = length-append (full .stores) (storesOf (next full (s .room)) before) in
+    let m = length-append (full .stores) (storesOf (next full (s .room)) (before ++ (c ∷ []))) in
+    let less : left - length (full .stores) - length (storesOf (next full (s .room)) before) ≡ left - length (full .stores ++ storesOf (next full (s .room)) before) = omega arith in
+    ap (λ (t : Turn). take 1 (drop (length before) (cutAnswersOf (next t (s .room)) (left - length (t .stores)) cs)))
+    (enough (turn-compared s b left) (enough-first (s .room) full left before h))
+    ∙ cut-answer-out before after c (next full (s .room)) (left - length (full .stores)) (enough-behind (s .room) full left before h) (omega arith)
+    ∙ ap (λ (i : ℕ). refused (refusalAt 23 i) ∷ []) less
+
 pub cut-answers : (cs : List Call) (s : State) (left : ℕ) → length (storesOf s cs) ≤ left → cutAnswersOf s left cs ≡ answersOf s cs
 cut-answers [] s left h = refl
 cut-answers (c ∷ cs) s left h =
@@ -274,13 +298,20 @@ module _ (room form text tree : List ℕ) (allowance : ℕ) where
       stores-behind room (begun room form text tree allowance) k calls
       (begun room form text tree (min allowance k)) (begun-compared room form text tree allowance k) (cut-stores calls)
 
+  -- The room that it leaves.
   pub cut-run-room : (calls : List Call) (k : ℕ)
-      → applyStores room (cutStores room form text tree allowance calls k) ≡ applyStores room (take k (runStores room form text tree allowance calls))
-  cut-run-room calls k = ap (applyStores room) (cut-run-stores calls k)
+      → runState room form text tree (min allowance k) (cutCalls room form text tree allowance calls k) .room
+      ≡ applyStores room (take k (runStores room form text tree allowance calls))
+  cut-run-room calls k =
+      run-room room form text tree (min allowance k) (cutCalls room form text tree allowance calls k) ∙ ap (applyStores room) (cut-run-stores calls k)
 
   -- The begin too is the same where its store is left.
   pub cut-begin : (k : ℕ) → length (begun room form text tree allowance .stores) ≤ k → begun room form text tree (min allowance k) ≡ begun room form text tree allowance
   cut-begin k h = enough (begun-compared room form text tree allowance k) h
+
+  -- A begin whose store is not.
+  pub cut-begin-out : (k : ℕ) → k < length (begun room form text tree allowance .stores) → begun room form text tree (min allowance k) .answer ≡ refused (refusalAt 23 k)
+  cut-begin-out k h = gave-out (begun-compared room form text tree allowance k) h
 
   pub cut-run-answers : (calls : List Call) (k : ℕ) → length (runStores room form text tree allowance calls) ≤ k
       → cutAnswers room form text tree allowance calls k ≡ runAnswers room form text tree allowance calls
@@ -297,3 +328,17 @@ module _ (room form text tree : List ℕ) (allowance : ℕ) where
       let full = begun room form text tree allowance in
       ap (λ (t : Turn). take (length before) (cutAnswersOf (next t room) (k - length (t .stores)) (before ++ after))) (cut-begin k (enough-first room full k before h))
       ∙ cut-answers-before before after (next full room) (k - length (full .stores)) (enough-behind room full k before h)
+
+  -- The call in which the stores give out.
+  pub cut-run-answer-out : (before after : List Call) (c : Call) (k : ℕ) → length (runStores room form text tree allowance before) ≤ k
+      → k < length (runStores room form text tree allowance (before ++ (c ∷ [])))
+      → take 1 (drop (length before) (cutAnswers room form text tree allowance (before ++ (c ∷ after)) k))
+      ≡ refused (refusalAt 23 (k - length (runStores room form text tree allowance before))) ∷ []
+  cut-run-answer-out before after c k h l =
+      let full = begun room form text tree allowance in
+      let n = length-append (full .stores) (storesOf (next full room) before) in
+      let m = length-append (full .stores) (storesOf (next full room) (before ++ (c ∷ []))) in
+      let less : k - length (full .stores) - length (storesOf (next full room) before) ≡ k - length (full .stores ++ storesOf (next full room) before) = omega arith in
+      ap (λ (t : Turn). take 1 (drop (length before) (cutAnswersOf (next t room) (k - length (t .stores)) (before ++ (c ∷ after))))) (cut-begin k (enough-first room full k before h))
+      ∙ cut-answer-out before after c (next full room) (k - length (full .stores)) (enough-behind room full k before h) (omega arith)
+      ∙ ap (λ (i : ℕ). refused (refusalAt 23 i) ∷ []) less

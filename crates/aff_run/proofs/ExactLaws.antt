@@ -10,7 +10,7 @@ use lib.Dec.{eqb, ltb}
 use lib.ListN.{length, getD, set, take, drop, length-append, length-drop}
 use lib.Seq.{length-take-le}
 use borrow.Author.Tests.{eqb-false, ltb-false, not-false}
-use Rattle.aff_format.specs.Answer.{Answer, accepted, refused, Check, check, refusal, refusalAt, unless, firstWrong}
+use Rattle.aff_format.specs.Answer.{Answer, accepted, refused, Check, check, refusal, unless, firstWrong}
 use Rattle.aff_format.specs.Bytes.{sameBytes}
 use Rattle.aff_format.specs.Kind.{kindOf, entrySize, isVoid}
 use Rattle.aff_format.specs.Limits.{imageLimit, stringLimit, nodeLimit, textArea, treeArea}
@@ -20,17 +20,16 @@ use Rattle.aff_format.specs.Tree.{Node, Tree, root, nodeAt}
 use Rattle.aff_format.specs.declared.entry.Entry.{Entry}
 use Rattle.aff_format.specs.declared.kind.Kind.{Kind}
 use Rattle.aff_format.specs.declared.refusal.Told.{Told}
-use Rattle.aff_format.proofs.AnswerLaws.{last-told}
 use Rattle.aff_format.proofs.LowestLaws.{lowest-same}
 use Rattle.aff_format.proofs.TestLaws.{or-false}
 use Rattle.aff_open.specs.Nodes.{nodeEntry}
 use Rattle.aff_write.specs.Areas.{usedText, entriesOut, finishedSize}
 use Rattle.aff_write.specs.Belongs.{belongs, sizesBelong, textBelongs, nodesBelong}
-use Rattle.aff_write.specs.Begin.{lentWrong, beginStores, beginAnswer}
+use Rattle.aff_write.specs.Begin.{beginStores, beginAnswer}
 use Rattle.aff_write.specs.Close.{symbolsPlace, treePlace, closeHeader, closeStores, storeChecks, closeAnswer}
 use Rattle.aff_write.specs.Make.{addedStrings, addedText, tooMany, isChild, childExists, childChecks, makeAnswer}
 use Rattle.aff_write.specs.Put.{takesNone, wrongData, dataKind, putPlace, putStores, dataChecks, putAnswer}
-use Rattle.aff_write.specs.Stores.{Store, applyStores, storesFrom}
+use Rattle.aff_write.specs.Stores.{applyStores, storesFrom}
 use Rattle.aff_write.specs.Writer.{dataPlace, begunWriter, stopped}
 use Rattle.aff_write.specs.declared.writer.Writer.{Writer}
 use Rattle.aff_write.proofs.BelongsLaws.{record-belongs, none-belongs}
@@ -38,12 +37,13 @@ use Rattle.aff_write.proofs.StoreLaws.{length-storesFrom, apply-length}
 use Rattle.aff_run.specs.Described.{withChild, withData, namesOf, dataSize, entriesSize, sizeOf}
 use Rattle.aff_run.specs.Exact.{hasChild, tooLarge, closeNeeds, exactChecks, exactAnswer, stops, Exact, AllWrongRecord}
 use Rattle.aff_run.specs.Run.{Call, make, put, close, State, Turn, next, makeTurn, putTurn, closeTurn, turn, answersOf, begun, afterBegin, runAnswers, runStores, isAccepted, grown}
+use Rattle.aff_run.proofs.BeginRefusedLaws.{begin-spent, asleep, none-run}
 use Rattle.aff_run.proofs.GoodLaws.{Good, used-text, names-in, entry-in, stored-in, name-in, entries-in, sizes-in-bytes, size-in, good-belongs}
 use Rattle.aff_run.proofs.NamesLaws.{length-add, text-add, names-snoc}
 use Rattle.aff_run.proofs.MakeGoodLaws.{child, size-child, length-snoc, made-good}
 use Rattle.aff_run.proofs.PutGoodLaws.{names-set, data-set, entries-set, data-right, void-size, put-good}
 use Rattle.aff_run.proofs.ClosedLaws.{length-header}
-use Rattle.aff_run.proofs.TurnLaws.{asleep-turn, asleep-next, asleep-stores}
+use Rattle.aff_run.proofs.TurnLaws.{asleep-turn, asleep-next}
 use Rattle.aff_run.proofs.RunLaws.{next-unchanged, make-answer, put-answer}
 use Rattle.aff_run.proofs.BeginGoodLaws.{lent-right, empty-good, begin-good}
 
@@ -338,43 +338,25 @@ module _ (room form text tree : List ℕ) (allowance : ℕ) (calls : List Call) 
 
   module _ (t : Told) (h : beginAnswer room form text tree allowance ≡ refused t) where
     module _ (spent : eqb (t .number) 23 ≡ true) where
-      -- A begin refused by 23 found nothing wrong before.
-      right : (lentWrong room form text tree ≡ false) × (ltb (length room) dataPlace ≡ false)
-      unfolding beginAnswer
-      right =
-          let c = last-told 23 (check (lentWrong room form text tree) (refusal 1) ∷ check (ltb (length room) dataPlace) (refusal 21) ∷ []) (refl, (refl, tt))
-          (ltb allowance 1) (refusalAt 23 allowance) 1 h spent .0 in
-          (c .0, c .1 .0)
-
-      spent-live : afterBegin room form text tree allowance calls .writer .live ≡ false
-      unfolding begun
-      spent-live = rw (h, spent)
-
       spent-belongs : let s = afterBegin room form text tree allowance calls in belongs (length (s .room)) (s .writer) (s .text) (s .tree) ≡ true
       unfolding begun
       spent-belongs =
-          let a = lent-right room form text tree (right .0) in
+          let clear = begin-spent room form text tree allowance t h spent .0 in
+          let a = lent-right room form text tree (clear .0) in
           rw (h, spent)
           (begun-belongs (length room) (applyStores room (take (t .place) beginStores)) form text tree (apply-length room (take (t .place) beginStores))
-          (a .0) (a .1) (a .2) (a .3) (ltb-false (length room) dataPlace (right .1)))
+          (a .0) (a .1) (a .2) (a .3) (ltb-false (length room) dataPlace (clear .1 .0)))
 
       pub run-spent : Exact (length room) true [] calls (runAnswers room form text tree allowance calls)
-      run-spent = exact-asleep calls (afterBegin room form text tree allowance calls) (length room) [] spent-live spent-belongs
+      run-spent = exact-asleep calls (afterBegin room form text tree allowance calls) (length room) [] (asleep room form text tree allowance t h) spent-belongs
 
     module _ (other : eqb (t .number) 23 ≡ false) where
-      none-live : afterBegin room form text tree allowance calls .writer .live ≡ false
-      unfolding begun
-      none-live = rw (h, other)
-
       none-here : let s = afterBegin room form text tree allowance calls in belongs (length (s .room)) (s .writer) (s .text) (s .tree) ≡ false
       unfolding begun
       none-here = rw (h, other) (none-belongs (length (applyStores room [])) text tree)
 
-      none-stored : begun room form text tree allowance .stores ≡ []
-      unfolding begun
-      none-stored = rw (h, other)
-
       pub run-refused : AllWrongRecord (runAnswers room form text tree allowance calls) × (runStores room form text tree allowance calls ≡ [])
-      run-refused =
-          let s = afterBegin room form text tree allowance calls in
-          (wrong-asleep calls s none-live none-here, ap₂ (λ (a b : List Store). a ++ b) none-stored (asleep-stores s none-live calls))
+      run-refused = (
+        wrong-asleep calls (afterBegin room form text tree allowance calls) (asleep room form text tree allowance t h) none-here,
+        none-run room form text tree allowance t h calls,
+      )

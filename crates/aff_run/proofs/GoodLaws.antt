@@ -6,8 +6,8 @@ use mathlib.Core.List.{List, [], _∷_, _++_}
 use Prim.Native.Nat.{ℕ, zero, suc, _+_, _-_, _*_, _^_, _≤_, _<_}
 use native.Mathlib.Numerals.{one-add}
 use native.Mathlib.Omega.{arith}
-use lib.ListN.{length, getD, take, length-append}
-use lib.Seq.{take-at}
+use lib.ListN.{length, getD, take, drop, replicate, length-append}
+use lib.Seq.{take-at, drop-at}
 use Rattle.aff_format.specs.Bytes.{part, EachWithout}
 use Rattle.aff_format.specs.Element.{countIn}
 use Rattle.aff_format.specs.Entry.{entryBytes, Storable}
@@ -30,7 +30,7 @@ use Rattle.aff_write.specs.Belongs.{Belongs}
 use Rattle.aff_write.specs.Writer.{written, dataPlace}
 use Rattle.aff_run.specs.Described.{namesOf, dataSize, entriesSize, sizeOf}
 use Rattle.aff_run.specs.Run.{State}
-use Rattle.aff_run.proofs.SlotsLaws.{slotsOf, Storables, slot-found, slot-entry, entries-out, sizes-are}
+use Rattle.aff_run.proofs.SlotsLaws.{slotsOf, Storables, length-slotsOf, slot-found, slot-entry, entries-out, sizes-are}
 
 -- ---- A node and its entry.
 
@@ -85,6 +85,20 @@ pub record Good (s : State) (tree : Tree) : Type 0 where
   pub distinct : (i k : ℕ) → i < k → k < length (namesOf tree) → getD (namesOf tree) i [] ≡ getD (namesOf tree) k [] → ⊥
   pub each : Each (namesOf tree) (s .room) (dataSize tree) 1 entries tree
   pub siblings : (j k : ℕ) → 0 < j → j < k → k ≤ length tree → nodeAt tree j .parent ≡ nodeAt tree k .parent → nodeAt tree j .name ≡ nodeAt tree k .name → ⊥
+
+-- All zero.
+abbrev pub Blank : List ℕ → Type 0
+Blank l = l ≡ replicate (length l) 0
+
+-- Zeros behind the strings and behind the slots: what an accepted begin, which clears both areas, leaves besides.
+pub record Behind (s : State) (tree : Tree) : Type 0 where
+  pub text-blank : Blank (drop (length (textOf (namesOf tree))) (s .text))
+  pub tree-blank : Blank (drop (25 * length tree) (s .tree))
+
+pub blank-drop : (k : ℕ) (l : List ℕ) → Blank l → Blank (drop k l)
+blank-drop zero l h = h
+blank-drop (suc k) [] h = refl
+blank-drop (suc k) (x ∷ l) h = blank-drop k l (ap (drop 1) h)
 
 -- ---- Each node, by its number.
 
@@ -194,6 +208,13 @@ module _ (s : State) (tree : Tree) (g : Good s tree) where
 
   pub name-in : (k : ℕ) → 0 < k → k ≤ length tree → nameOf (s .writer) (s .text) (s .tree) k ≡ nodeAt tree k .name
   name-in k lo hi = rw (names-in, entry-in k hi) (stored-in k lo hi .name-is)
+
+  -- What stands behind the strings and the slots.
+  pub text-behind : drop (length (textOf (namesOf tree))) (s .text) ≡ g .text-rest
+  text-behind = rw (g .text-is) (drop-at (textOf (namesOf tree)) (g .text-rest) (length (textOf (namesOf tree))) refl)
+
+  pub tree-behind : drop (25 * length tree) (s .tree) ≡ g .tree-rest
+  tree-behind = rw (g .tree-is) (drop-at (slotsOf (g .entries)) (g .tree-rest) (25 * length tree) (length-slotsOf (g .entries) ∙ ap (λ (n : ℕ). 25 * n) count-same))
 
   -- The record belongs to what is lent.
   pub good-belongs : Belongs (length (s .room)) (s .writer) (s .text) (s .tree)

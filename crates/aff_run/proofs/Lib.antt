@@ -11,4 +11,6 @@ pub mod RunLaws
 pub mod PlaceLaws
 pub mod CutLaws
 pub mod BeginGoodLaws
+pub mod BeginRefusedLaws
 pub mod ExactLaws
+pub mod HeldLaws

@@ -37,7 +37,7 @@ use Rattle.aff_write.specs.Stores.{applyStores}
 use Rattle.aff_write.specs.Writer.{written, dataPlace}
 use Rattle.aff_run.specs.Described.{withChild, addName, namesOf, dataSize, entriesSize, sizeOf}
 use Rattle.aff_run.specs.Run.{State, makeTurn, next}
-use Rattle.aff_run.proofs.GoodLaws.{Stored, Each, Good, names-in, count-same, entry-in, stored-in, name-in, size-in}
+use Rattle.aff_run.proofs.GoodLaws.{Stored, Each, Good, Behind, blank-drop, names-in, count-same, entry-in, stored-in, name-in, size-in, text-behind, tree-behind}
 use Rattle.aff_run.proofs.NamesLaws.{index-in, index-name, length-add, text-add, add-longer, add-old, text-stored, subkeys-add, distinct-add, names-snoc}
 use Rattle.aff_run.proofs.SlotsLaws.{slotsOf, slot-added}
 
@@ -186,7 +186,7 @@ module _ (s : State) (tree : Tree) (g : Good s tree) (parent : ℕ) (name : List
         there = λ v. absurd (true≢false v);
       }
 
-  text-left : (rest : List ℕ) × (left .text ≡ textOf (addName names name) ++ rest)
+  text-left : (k : ℕ) × (left .text ≡ textOf (addName names name) ++ drop k (g .text-rest))
   unfolding madeText
   text-left = rw (names-in s tree g, g .text-count, g .text-is) (text-stored names name (g .text-rest))
 
@@ -241,7 +241,7 @@ module _ (s : State) (tree : Tree) (g : Good s tree) (parent : ℕ) (name : List
       let z : dataSize (withChild tree parent name) ≡ dataSize tree = data-snoc tree t ∙ omega arith in
       record {
         entries = g .entries ++ (entry ∷ []);
-        text-rest = text-left .0;
+        text-rest = drop (text-left .0) (g .text-rest);
         tree-rest = drop 25 (g .tree-rest);
         text-is = rw ns (text-left .1);
         tree-is = tree-left;
@@ -267,3 +267,16 @@ module _ (s : State) (tree : Tree) (g : Good s tree) (parent : ℕ) (name : List
   pub made-good : Good (next (makeTurn s parent name) (s .room)) (withChild tree parent name)
   unfolding makeTurn applyStores
   made-good = rw h made-left
+
+  -- Zeros behind stay zeros.
+  left-behind : Behind s tree → Behind left (withChild tree parent name)
+  unfolding made-left text-left
+  left-behind b =
+      record {
+        text-blank = rw (text-behind left (withChild tree parent name) made-left) (blank-drop (text-left .0) (g .text-rest) (rw (text-behind s tree g) at (b .text-blank)));
+        tree-blank = rw (tree-behind left (withChild tree parent name) made-left) (blank-drop 25 (g .tree-rest) (rw (tree-behind s tree g) at (b .tree-blank)));
+      }
+
+  pub made-behind : Behind s tree → Behind (next (makeTurn s parent name) (s .room)) (withChild tree parent name)
+  unfolding makeTurn applyStores
+  made-behind b = rw h (left-behind b)

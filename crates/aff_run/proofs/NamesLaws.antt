@@ -74,15 +74,15 @@ module _ (names : List (List ℕ)) (x : List ℕ) where
       go true = refl
       go false = List·getD-append names (x ∷ []) [] i h
 
-  -- The text area with the name stored behind the text, unless it is one of the names.
-  pub text-stored : (rest : List ℕ) → (rest′ : List ℕ)
-      × (cond (isIn x names) (textOf names ++ rest) (spliced (length (textOf names)) (x ++ (0 ∷ [])) (textOf names ++ rest)) ≡ textOf (addName names x) ++ rest′)
+  -- The text area with the name stored behind the text, unless it is one of the names. What is behind it then stood there before.
+  pub text-stored : (rest : List ℕ) → (k : ℕ)
+      × (cond (isIn x names) (textOf names ++ rest) (spliced (length (textOf names)) (x ++ (0 ∷ [])) (textOf names ++ rest)) ≡ textOf (addName names x) ++ drop k rest)
   text-stored rest = rw add-is (go (isIn x names))
     where
-      go : (b : Bool) → (rest′ : List ℕ)
-          × (cond b (textOf names ++ rest) (spliced (length (textOf names)) (x ++ (0 ∷ [])) (textOf names ++ rest)) ≡ textOf (with-x b) ++ rest′)
-      go true = (rest, refl)
-      go false = (drop (length (x ++ (0 ∷ []))) rest, name-behind (textOf names) (x ++ (0 ∷ [])) rest ∙ ap (λ (l : List ℕ). l ++ drop (length (x ++ (0 ∷ []))) rest) (sym (textOf-snoc names x)))
+      go : (b : Bool) → (k : ℕ)
+          × (cond b (textOf names ++ rest) (spliced (length (textOf names)) (x ++ (0 ∷ [])) (textOf names ++ rest)) ≡ textOf (with-x b) ++ drop k rest)
+      go true = (0, refl)
+      go false = (length (x ++ (0 ∷ [])), name-behind (textOf names) (x ++ (0 ∷ [])) rest ∙ ap (λ (l : List ℕ). l ++ drop (length (x ++ (0 ∷ []))) rest) (sym (textOf-snoc names x)))
 
   pub subkeys-add : (e : Edition) → Subkeys e names → isSubkey e x ≡ true → Subkeys e (addName names x)
   subkeys-add e s h = rw add-is (go (isIn x names))

@@ -38,7 +38,7 @@ use Rattle.aff_write.specs.Writer.{dataPlace}
 use Rattle.aff_write.proofs.StoreLaws.{apply-spliced}
 use Rattle.aff_run.specs.Described.{withData, addName, namesFrom, namesOf, dataSize, entriesSize, sizeOf}
 use Rattle.aff_run.specs.Run.{State, putTurn, next}
-use Rattle.aff_run.proofs.GoodLaws.{Stored, Each, Good, count-same, entry-in, stored-in, size-in, small}
+use Rattle.aff_run.proofs.GoodLaws.{Stored, Each, Good, Behind, count-same, entry-in, stored-in, size-in, small, text-behind, tree-behind}
 use Rattle.aff_run.proofs.SlotsLaws.{slotsOf, slot-changed}
 
 -- ---- One node changed.
@@ -307,3 +307,16 @@ module _ (s : State) (tree : Tree) (g : Good s tree) (node type : ℕ) (bytes : 
   pub put-good : Good (next (putTurn s node type bytes allowance) (s .room)) after
   unfolding putTurn
   put-good = rw (h, room-left) put-left
+
+  -- Zeros behind stay zeros.
+  left-behind : Behind s tree → Behind left after
+  unfolding put-left
+  left-behind b =
+      record {
+        text-blank = rw (text-behind left after put-left) (rw (text-behind s tree g) at (b .text-blank));
+        tree-blank = rw (tree-behind left after put-left) (rw (tree-behind s tree g) at (b .tree-blank));
+      }
+
+  pub put-behind : Behind s tree → Behind (next (putTurn s node type bytes allowance) (s .room)) after
+  unfolding putTurn
+  put-behind b = rw (h, room-left) (left-behind b)

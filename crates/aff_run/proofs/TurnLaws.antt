@@ -15,7 +15,8 @@ use Rattle.aff_write.specs.Make.{childChecks, makeAnswer}
 use Rattle.aff_write.specs.Put.{dataChecks, putStores, putAnswer}
 use Rattle.aff_write.specs.Stores.{Store, applyStores, storesTold}
 use Rattle.aff_write.specs.declared.writer.Writer.{Writer}
-use Rattle.aff_run.specs.Run.{Call, make, put, close, State, Turn, next, makeTurn, putTurn, closeTurn, turn, answersOf, storesOf, isAccepted, isClose, closedBy, described}
+use Rattle.aff_write.proofs.StoreLaws.{apply-append}
+use Rattle.aff_run.specs.Run.{Call, make, put, close, State, Turn, next, makeTurn, putTurn, closeTurn, turn, answersOf, storesOf, stateAfter, runStores, afterBegin, begun, runState, isAccepted, isClose, closedBy, described}
 
 -- ---- What each call's turn is, by its answer.
 
@@ -89,3 +90,20 @@ asleep-closed s h (c ∷ cs) = rw (asleep-next s h c, asleep-turn s h c) (asleep
 pub asleep-described : (s : State) → s .writer .live ≡ false → (tree : Tree) (cs : List Call) → described tree cs (answersOf s cs) ≡ tree
 asleep-described s h tree [] = refl
 asleep-described s h tree (c ∷ cs) = rw (asleep-next s h c, asleep-turn s h c) (asleep-described s h tree cs)
+
+pub asleep-after : (s : State) → s .writer .live ≡ false → (cs : List Call) → stateAfter s cs ≡ s
+asleep-after s h [] = refl
+asleep-after s h (c ∷ cs) = rw (asleep-next s h c) (asleep-after s h cs)
+
+-- ---- The room that calls leave: all their stores made in order.
+
+pub room-after : (s : State) (cs : List Call) → stateAfter s cs .room ≡ applyStores (s .room) (storesOf s cs)
+unfolding applyStores
+room-after s [] = refl
+room-after s (c ∷ cs) = room-after (next (turn s c) (s .room)) cs ∙ sym (apply-append (s .room) (turn s c .stores) (storesOf (next (turn s c) (s .room)) cs))
+
+pub run-room : (room form text tree : List ℕ) (allowance : ℕ) (calls : List Call)
+    → runState room form text tree allowance calls .room ≡ applyStores room (runStores room form text tree allowance calls)
+run-room room form text tree allowance calls =
+    let s = afterBegin room form text tree allowance calls in
+    room-after s calls ∙ sym (apply-append room (begun room form text tree allowance .stores) (storesOf s calls))

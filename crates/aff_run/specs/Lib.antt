@@ -4,3 +4,4 @@ pub mod Run
 pub mod Shows
 pub mod Exact
 pub mod Cut
+pub mod Held

@@ -1,13 +1,13 @@
 -- 24 for the writer: the test in the order of the passes, the test and document 01's clauses (both ways), and what `judge` says to its
 -- callers. Node by node: an entry is lost, or has all that the clauses ask. Assumes nothing.
 use mathlib.Core.Path.{_≡_, refl, sym, ap, _∙_}
-use mathlib.Core.Bool.{Bool, true, false, not, _&&_, _||_, and-false, true≢false}
+use mathlib.Core.Bool.{Bool, true, false, _&&_, and-false, true≢false}
 use mathlib.Core.List.{List, _++_}
 use Prim.Native.Nat.{ℕ, _+_, _*_, _≤_, _<_}
 use native.Mathlib.Omega.{arith}
-use lib.Dec.{eqb, ltb, leb}
+use lib.Dec.{eqb, leb}
 use lib.ListN.{length}
-use borrow.Author.Tests.{eq-eqb, le-leb, lt-leb, le-ltb, eqb-true, leb-true, leb-false, not-true, not-false}
+use borrow.Author.Tests.{eq-eqb, le-leb, lt-leb, eqb-true, leb-true, leb-false, not-true, not-false}
 use Rattle.aff_format.specs.Answer.{accepted, refused, Check, firstWrong}
 use Rattle.aff_format.specs.Kind.{elementSize, isVoid}
 use Rattle.aff_format.specs.Limits.{imageLimit, stringLimit, nodeLimit, textArea, treeArea}
@@ -25,11 +25,10 @@ use Rattle.aff_format.specs.declared.verdict.Verdict.the-variants.{Accepted, Re
 use Rattle.aff_format.proofs.AnswerLaws.{passed, refused-before, passed-before, others-told}
 use Rattle.aff_format.proofs.LowestLaws.{none-holds, holds-none, none-at}
 use Rattle.aff_format.proofs.StringsLaws.{strings-zeros}
-use Rattle.aff_format.proofs.TestLaws.{both, all-seven}
+use Rattle.aff_format.proofs.TestLaws.{both, all-seven, or-false}
 use Rattle.aff_open.specs.Belongs.{noneLost}
-use Rattle.aff_open.specs.Nodes.{noString, outside}
 use Rattle.aff_open.specs.Recorded.{orNone}
-use Rattle.aff_open.proofs.LostLaws.{data-within}
+use Rattle.aff_open.proofs.LostLaws.{data-asks}
 use Rattle.aff_write.specs.Areas.{usedText, namesIn, foundSlot, slotEntry, entrySizes, finishedSize}
 use Rattle.aff_write.specs.Belongs.{belongs, Belongs, sizesBelong, textBelongs, slotLost, nodeLost, nodesBelong, writerChecks}
 use Rattle.aff_write.specs.Stores.{Store, applyStores, roomAfter}
@@ -108,30 +107,17 @@ pub record Kept (strings size k : ℕ) (e : Entry) : Type 0 where
   pub string : e .string < strings
   pub inside : isVoid (e .kind) ≡ false → (dataPlace ≤ e .offset) × (e .offset + e .count * elementSize (e .kind) ≤ dataPlace + size)
 
-module _ (strings size k : ℕ) (e : Entry) where
-  slot-facts : (p s : Bool) → leb k (e .parent) ≡ p → noString strings e ≡ s → (p || (s || outside dataPlace size e)) ≡ false → Kept strings size k e
-  slot-facts true s p q h = absurd (true≢false h)
-  slot-facts false true p q h = absurd (true≢false h)
-  slot-facts false false p q h = record { parent = leb-false _ _ p; string = leb-false _ _ q; inside = data-within dataPlace size e h }
-
-  within : (v : Bool) → isVoid (e .kind) ≡ v
-      → (isVoid (e .kind) ≡ false → (dataPlace ≤ e .offset) × (e .offset + e .count * elementSize (e .kind) ≤ dataPlace + size))
-      → (not v && (ltb (e .offset) dataPlace || ltb (dataPlace + size) (e .offset + e .count * elementSize (e .kind)))) ≡ false
-  within true v h = refl
-  within false v h =
-      let q = h v in
-      rw (le-ltb (e .offset) dataPlace (q .0), le-ltb (dataPlace + size) (e .offset + e .count * elementSize (e .kind)) (q .1))
-
-  pub kept-slot : (f : FoundEntry) → f ≡ Whole e → Kept strings size k e → slotLost strings size k f ≡ false
-  unfolding outside
-  kept-slot f q w =
-      rw (q, lt-leb k (e .parent) (w .parent), lt-leb strings (e .string) (w .string)) (within (isVoid (e .kind)) refl (w .inside))
+pub kept-slot : (strings size k : ℕ) (e : Entry) (f : FoundEntry) → f ≡ Whole e → Kept strings size k e → slotLost strings size k f ≡ false
+kept-slot strings size k e f q w =
+    rw (q, lt-leb k (e .parent) (w .parent), lt-leb strings (e .string) (w .string)) (data-asks dataPlace size e .1 (w .inside))
 
 pub slot-kept : (strings size k : ℕ) (f : FoundEntry) → slotLost strings size k f ≡ false
     → (f ≡ Whole (orNone f)) × Kept strings size k (orNone f)
 slot-kept strings size k Broken h = absurd (true≢false h)
 slot-kept strings size k (Whole e) h =
-    (refl, slot-facts strings size k e (leb k (e .parent)) (noString strings e) refl refl h)
+    let (p, r) = or-false _ _ h in
+    let (s, d) = or-false _ _ r in
+    (refl, record { parent = leb-false _ _ p; string = leb-false _ _ s; inside = data-asks dataPlace size e .0 d })
 
 -- A node by what stands in its slot.
 pub node-judged : (strings size : ℕ) (tree : List ℕ) (k : ℕ) {f : FoundEntry} {r b : Bool} → f ≡ foundSlot tree k → r ≡ slotLost strings size k f → r ≡ b

@@ -27,6 +27,7 @@ mod runs;
 mod steps;
 #[cfg(test)]
 mod tests;
+mod times;
 mod writer;
 
 use report::Report;
@@ -42,7 +43,8 @@ second_reader agree SEED COUNT
 second_reader lists SEED COUNT PROGRAM
 second_reader writes SEED COUNT
 second_reader kills SEED COUNT FOLDER
-second_reader steps SEED COUNT FOLDER";
+second_reader steps SEED COUNT FOLDER
+second_reader time CALL ARGUMENTS SAMPLES BATCH";
 
 /// True where nothing differs.
 type Outcome = Result<bool, Box<dyn Error>>;
@@ -67,6 +69,7 @@ fn run(words: &[&str]) -> Outcome {
         ["cases", seed, count, folder] => cases(seed.parse()?, count.parse()?, Path::new(folder)),
         ["lists", seed, count, program] => lists(seed.parse()?, count.parse()?, Path::new(program)),
         ["writes", seed, count] => writes(seed.parse()?, count.parse()?),
+        ["time", rest @ ..] => times::run(rest),
         _ => linked_run(words),
     }
 }

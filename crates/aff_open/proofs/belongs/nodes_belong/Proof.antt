@@ -8,7 +8,7 @@ use lib.ListN.{length-replicate}
 use Rattle.aff_format.specs.Lowest.{isAt}
 use Rattle.aff_format.specs.declared.lowest.Lowest.{Lowest}
 use Rattle.aff_open.specs.Belongs.{nodesBelong}
-use Rattle.aff_open.proofs.BelongsLaws.{copied-linked, climbs-decide}
+use Rattle.aff_open.proofs.BelongsLaws.{climbs-decide, nodes-linked}
 use Rattle.aff_open.proofs.belongs.nodes_belong.Statement.{statement}
 use Rattle.aff_open.proofs.belongs.nodes_belong.Tie as tie
 
@@ -27,7 +27,7 @@ climbs-requires : tie.Need-climbs-requires
 climbs-requires c κs =
     let n = c .before .before .before .before in
     let none = c .before .enum-told2 .given .1 in
-    copied-linked _ _ _ _ (sym (n .lost-node .ensures .0) ∙ none) (n .lost-node .ensures .1 none)
+    nodes-linked _ _ _ _ (sym (n .lost-node .ensures .0) ∙ none) (n .lost-node .ensures .1 none)
     (n .before .before .before .before .pre .1) (omega (arith, n .lost-node .kept .1 .1 .1 .1 .0 ∙ length-replicate {A = ℕ} 2049 0))
 
 returns : tie.Need-returns
