@@ -1,5 +1,5 @@
 -- The rules behind refusals 1 to 13 in document 01's order, each with the number and the place that are told where it fails. The rules are those
--- of `Obeys`, for the strings and entries of the tables; nothing here says how a rule is checked.
+-- of `Obeys`, said of the strings and entries into which the tables split (`stringsIn`, `nodesIn`, and `behindNodes`, what is left of a table that does not).
 use mathlib.Core.Path.{_≡_}
 use mathlib.Core.Bool.{true, false}
 use mathlib.Core.List.{List, [], _∷_}
