@@ -1,4 +1,5 @@
--- A block that is filled with line after line: what is filled and the lines that are left are the lines from the first on. Assumes nothing.
+-- A block that is filled with line after line: what is filled and the lines that are left are the lines from the first on, and what is not filled
+-- stays. Assumes nothing.
 use mathlib.Core.Path.{_≡_, refl, sym, ap, _∙_}
 use mathlib.Core.List.{List, [], _∷_, _++_, append-assoc}
 use mathlib.Core.Logic.{⊎-elim}
@@ -18,7 +19,7 @@ use Rattle.aff_read.specs.Once.{hit, occurrences}
 use Rattle.aff_read.specs.Recall.{kindAt, countAt, pathAt}
 use Rattle.aff_read.proofs.LineLaws.{tail-length}
 use Rattle.aff_read.proofs.OnceLaws.{order-only, order-length}
-use Rattle.aff_list.specs.Lister.{pathLimit, rowLimit, pathTooLong, row, rowAt, rows, rowsFrom, Ready, Fills, endBehind, putBehind}
+use Rattle.aff_list.specs.Lister.{pathLimit, rowLimit, pathTooLong, row, rows, rowsFrom, Ready, Fills, endBehind, putBehind}
 use Rattle.aff_list.proofs.RowLaws.{behind-stays, behind-put}
 
 -- Text put behind the first bytes of a block ends where those and the text are.
@@ -97,14 +98,14 @@ module _ {image : List ℕ} {reader : Reader} {strings entries numbers : List �
 
         pub filled-full : rowLimit ≤ length o → end ≡ used → Fills image reader strings entries from next used o p
         filled-full room e =
-            let stays = behind-stays used (rowOf n) block ends puts (omega (arith, row-length n)) e in
+            let kept = behind-stays used (rowOf n) block ends puts (omega (arith, row-length n)) e in
             record {
-              more = ⊎-elim (λ q. q) (λ (q : next ≤ from). absurd (omega (arith, stays .0, v .first q, v .sized, row-small n within))) (split from next);
+              more = ⊎-elim (λ q. q) (λ (q : next ≤ from). absurd (omega (arith, kept .0, v .first q, v .sized, row-small n within))) (split from next);
               most = v .most;
-              inside = rw (stays .1) (v .inside);
-              text = rw (stays .1) (v .text);
-              stays = rw (stays .1) (v .stays);
-              full = λ q. rw (number-at next h, sym is, stays .1) (stays .0);
+              inside = rw (kept .1) (v .inside);
+              text = rw (kept .1) (v .text);
+              stays = rw (kept .1) (v .stays);
+              full = λ q. rw (number-at next h, sym is, kept .1) (kept .0);
             }
 
         pub filling-next : (end ≡ used → ⊥) → Filling image reader strings entries from o p (next + 1) end

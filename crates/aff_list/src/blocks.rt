@@ -60,8 +60,9 @@ fn prepare(
     }
 }
 
-// Opens an image, with the form of our programs; where that is accepted, writes listing order and measures the paths. A refusal is all that
-// is printed of the image. The areas are left as opening leaves them, also by 21; an accepted `begin` leaves what `fill` asks (`Ready`).
+// Opens an image with the form of our programs; where that is accepted, writes listing order and measures the paths. A refusal is all that is
+// printed of the image. Both work areas are left as opening leaves them, also by 21. What it leaves where it accepts is what `fill` asks
+// (`judged-ready`).
 pub fn begin(
     image: &[u8],
     strings: &mut [u32; 2048],
