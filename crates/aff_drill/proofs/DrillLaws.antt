@@ -1,43 +1,36 @@
--- What the drill answers, for every allowance: the worked run makes 215 stores, so by demand 3 fewer leave a room that is refused by 3 and all of them
--- one that opens. With none the room is as it was, zeros. Assumes nothing.
-use mathlib.Core.Path.{_≡_, refl, sym, ap, _∙_}
+-- What the drill leaves and answers, for every allowance: the worked run makes 215 stores, so by demand 3 fewer leave a room that is refused by 3 and
+-- all of them one that opens. With none the room is as it was. Assumes nothing.
+use mathlib.Core.Path.{_≡_, refl, sym, ap, subst, _∙_}
 use mathlib.Core.Bool.{Bool, true, false, cond}
 use mathlib.Core.List.{List}
 use Prim.Native.Nat.{ℕ, zero, suc, _+_, _≤_, _<_}
 use native.Mathlib.Omega.{arith}
 use lib.Dec.{ltb}
-use lib.ListN.{length, getD}
+use lib.ListN.{length, getD, replicate, length-replicate}
 use lib.Seq.{take-all}
 use borrow.Author.Tests.{ltb-true, ltb-false}
-use Rattle.aff_format.specs.Answer.{accepted, refused, refusal}
+use Rattle.aff_format.specs.Answer.{accepted, refused, refusal, Check, firstWrong}
 use Rattle.aff_format.specs.Edition.{numberForm}
 use Rattle.aff_format.specs.Limits.{stringLimit, nodeLimit, textArea, treeArea}
-use Rattle.aff_format.specs.Refusal.{toldRefusal}
 use Rattle.aff_format.specs.Verdict.{verdictTold}
-use Rattle.aff_format.specs.declared.refusal.Told.{Told}
 use Rattle.aff_format.specs.declared.verdict.Verdict.{Verdict}
 use Rattle.aff_format.specs.declared.verdict.Verdict.the-variants.{Accepted, Refused}
-use Rattle.aff_format.proofs.AnswerLaws.{not-both}
-use Rattle.aff_open.specs.Opening.{opened, verdictOf, openingTold}
+use Rattle.aff_format.proofs.AnswerLaws.{passed, clear-accepts, same-refusal}
+use Rattle.aff_open.specs.Opening.{openChecks, opened, verdictOf, openingTold}
 use Rattle.aff_open.specs.declared.opening.Opening.{Opening}
 use Rattle.aff_open.specs.declared.reader.Reader.{Reader}
 use Rattle.aff_write.specs.Stores.{Store, applyStores}
-use Rattle.aff_run.specs.Cut.{cutStores}
 use Rattle.aff_run.specs.Run.{Call, runStores}
 use Rattle.aff.specs.Demand3.{roomAt}
 use Rattle.aff.specs.Worked.{workedForm, workedCalls, workedFile, WorkedRun}
 use Rattle.aff.proofs.Demand3Laws.{zero-refused, demand3, demand3-cut}
 use Rattle.aff.proofs.WorkedLaws.{worked}
-use Rattle.aff_drill.specs.Drill.{CutRun, drilled}
+use Rattle.aff_drill.specs.Drill.{CutRun, CutDrill, reopened, drilled}
 
 -- A verdict, from what opening tells.
-verdict-refused : (v : Verdict) (r : Reader) (t : Told) → verdictOf v r ≡ refused t → verdictTold v ≡ refused t
-verdict-refused Accepted r t h = not-both (sym h)
-verdict-refused (Refused q) r t h = let e : toldRefusal q ≡ t = cc in ap refused e
-
-verdict-accepted : (v : Verdict) (r s : Reader) → verdictOf v r ≡ accepted s → verdictTold v ≡ accepted tt
-verdict-accepted Accepted r s h = refl
-verdict-accepted (Refused q) r s h = not-both h
+verdict-told : (checks : List Check) (v : Verdict) (r reader : Reader) → verdictOf v r ≡ firstWrong checks reader → verdictTold v ≡ firstWrong checks (tt {0})
+verdict-told checks Accepted r reader h = sym (clear-accepts checks tt (passed checks reader (sym h)))
+verdict-told checks (Refused q) r reader h = sym (same-refusal checks reader tt (sym h))
 
 -- Any room of 214 bytes with a zero at place 0, and any areas of their lengths.
 module _ (room text tree : List ℕ) (r : length room ≡ 214) (z : getD room 0 0 ≡ 0) (x : length text ≡ textArea) (t : length tree ≡ treeArea) (k : ℕ) where
@@ -73,23 +66,35 @@ module _ (room text tree : List ℕ) (r : length room ≡ 214) (z : getD room 0 
       let e : roomAt room all k ≡ workedFile = ap (applyStores room) (take-all k all (omega arith)) ∙ run .file in
       (run .shows .reader, ap (λ (i : List ℕ). opened i workedForm stringLimit nodeLimit) e ∙ run .shows .opens)
 
-  module _ (after form : List ℕ) (o : Opening) (f : form ≡ workedForm) (h : CutRun room form text tree k after)
-      (told : openingTold o ≡ opened after form stringLimit nodeLimit) where
+  module _ (after : List ℕ) (h : CutRun room workedForm text tree k after) where
     after-is : after ≡ roomAt room all k
-    after-is =
-        h most (omega arith)
-        ∙ ap (λ (l : List ℕ). applyStores room (cutStores room l text tree most calls k)) f
-        ∙ ap (applyStores room) (demand3-cut room workedForm text tree most calls k .stores)
+    after-is = h most (omega arith) ∙ ap (applyStores room) (demand3-cut room workedForm text tree most calls k .stores)
 
-    told-is : openingTold o ≡ opened (roomAt room all k) workedForm stringLimit nodeLimit
-    told-is =
-        told
-        ∙ ap (λ (i : List ℕ). opened i form stringLimit nodeLimit) after-is
-        ∙ ap (λ (l : List ℕ). opened (roomAt room all k) l stringLimit nodeLimit) f
+    abbrev checks : List Check
+    checks = openChecks (roomAt room all k) workedForm stringLimit nodeLimit
 
-    by-count : (b : Bool) → ltb k 215 ≡ b → verdictTold (o .verdict) ≡ cond b (refused (refusal 3)) (accepted tt)
-    by-count true e = verdict-refused (o .verdict) (o .reader) (refusal 3) (told-is ∙ some-made k refl (ltb-true k 215 e))
-    by-count false e = let q = all-made (ltb-false k 215 e) in verdict-accepted (o .verdict) (o .reader) (q .0) (told-is ∙ q .1)
+    by-count : (b : Bool) → ltb k 215 ≡ b → reopened (roomAt room all k) ≡ cond b (refused (refusal 3)) (accepted tt)
+    by-count true e = same-refusal checks _ tt (some-made k refl (ltb-true k 215 e))
+    by-count false e = clear-accepts checks tt (passed checks _ (all-made (ltb-false k 215 e) .1))
 
-    pub drill-told : verdictTold (o .verdict) ≡ drilled k
-    drill-told = by-count (ltb k 215) refl
+    reopened-is : reopened after ≡ drilled k
+    reopened-is = ap reopened after-is ∙ by-count (ltb k 215) refl
+
+-- What the drill leaves and answers, in any room of 214 bytes.
+module _ (room after form : List ℕ) (n : length room ≡ 214) (k : ℕ) (o : Opening) (f : form ≡ workedForm)
+    (h : CutRun room form (replicate textArea 0) (replicate treeArea 0) k after) (told : openingTold o ≡ opened after form stringLimit nodeLimit) where
+  cut : CutDrill room k after
+  cut = subst (λ (l : List ℕ). CutRun room l (replicate textArea 0) (replicate treeArea 0) k after) f h
+
+  answer : verdictTold (o .verdict) ≡ reopened after
+  answer =
+      verdict-told (openChecks after form stringLimit nodeLimit) (o .verdict) (o .reader) _ told
+      ∙ ap (λ (l : List ℕ). firstWrong (openChecks after l stringLimit nodeLimit) tt) f
+
+  from-zeros : room ≡ replicate 214 0 → verdictTold (o .verdict) ≡ drilled k
+  from-zeros z =
+      let e : getD room 0 0 ≡ 0 = ap (λ (l : List ℕ). getD l 0 0) z in
+      answer ∙ reopened-is room (replicate textArea 0) (replicate treeArea 0) n e (length-replicate {A = ℕ} textArea 0) (length-replicate {A = ℕ} treeArea 0) k after cut
+
+  pub drill-told : CutDrill room k after × ((verdictTold (o .verdict) ≡ reopened after) × (room ≡ replicate 214 0 → verdictTold (o .verdict) ≡ drilled k))
+  drill-told = (cut, (answer, from-zeros))

@@ -8,6 +8,7 @@ use aff::Writer;
 use aff::Writing;
 ghost use mathlib.Core.Path.{_≡_};
 ghost use Prim.Native.Nat.{_-_};
+ghost use lib.ListN.{replicate};
 ghost use Rattle.aff_format.specs.Answer.{refused};
 ghost use Rattle.aff_format.specs.Limits.{stringLimit, nodeLimit};
 ghost use Rattle.aff_format.specs.Refusal.{toldRefusal};
@@ -16,7 +17,7 @@ ghost use Rattle.aff_open.specs.Opening.{opened, openingTold};
 ghost use Rattle.aff_write.specs.Stores.{applyStores, storesTold};
 ghost use Rattle.aff_run.specs.Run.{put, turn};
 ghost use Rattle.aff.specs.Worked.{minusSeventy, workedCalls};
-ghost use Rattle.aff_drill.specs.Drill.{given, named, lastCalls, CutFrom, CutRun, drilled};
+ghost use Rattle.aff_drill.specs.Drill.{given, named, lastCalls, CutFrom, CutRun, CutDrill, reopened, drilled};
 
 // The stores that a refusal tells.
 fn told_by(refusal: Refusal) -> usize
@@ -121,15 +122,17 @@ fn reopen(room: &[u8], form: &[u8]) -> Opening
     aff::open(room, form, &mut strings, &mut entries)
 }
 
-// Makes the worked file in a room of 214 zero bytes with a total allowance, and opens that room: refused by 3 below 215, else opened.
-pub fn drill(allowance: usize) -> Verdict
-    ensures { λ r. ⌜ verdictTold r ≡ drilled allowance ⌝ }
+// Makes the worked file in a room of 214 bytes with a total allowance, and opens that room. The room is left as the run cut there leaves it,
+// and the verdict is that of opening what it then holds: from a room of zeros, refused by 3 below 215, else opened.
+pub fn drill(room: &mut [u8; 214], allowance: usize) -> Verdict
+    ensures room { λ _. ⌜ CutDrill (now (room .entry)) allowance (now (room .exit)) ⌝ }
+    ensures answer { λ r. ⌜ verdictTold r ≡ reopened (now (room .exit)) ⌝ }
+    ensures zeros { λ r. ⌜ (now (room .entry) ≡ replicate 214 0 → verdictTold r ≡ drilled allowance) ⌝ }
 {
-    let mut room = [0u8; 214];
     let mut text = [0u8; 32768];
     let mut tree = [0u8; 51200];
     let form = Edition::Two.number_form();
-    write(&mut room, &form, &mut text, &mut tree, allowance);
-    let opening = reopen(&room, &form);
+    write(room, &form, &mut text, &mut tree, allowance);
+    let opening = reopen(room, &form);
     opening.verdict
 }

@@ -1,4 +1,5 @@
--- A block that is filled with line after line: what is filled and the lines that are left are the lines from the first on. Assumes nothing.
+-- A block that is filled with line after line: what is filled and the lines that are left are the lines from the first on, and what is not filled
+-- stays. Assumes nothing.
 use mathlib.Core.Path.{_≡_, refl, sym, ap, _∙_}
 use mathlib.Core.List.{List, [], _∷_, _++_, append-assoc}
 use mathlib.Core.Logic.{⊎-elim}
@@ -6,10 +7,10 @@ use Prim.Native.Nat.{ℕ, zero, suc, _+_, _≤_, _<_}
 use native.Mathlib.Numerals.{add-one}
 use native.Mathlib.Omega.{arith}
 use lib.ListN.{length, getD, take, drop, length-append}
-use lib.Seq.{drop-cons, getD-take, take-at, length-take-le}
+use lib.Seq.{drop-cons, drop-drop, getD-take, take-at, length-take-le}
 use borrow.Author.Tests.{ltb-false, eq-eqb}
 use Rattle.aff_format.specs.Bytes.{spliced}
-use Rattle.aff_format.proofs.BytesLaws.{length-spliced}
+use Rattle.aff_format.proofs.BytesLaws.{length-spliced, drop-spliced}
 use Rattle.aff_format.proofs.LowestLaws.{none-holds}
 use Rattle.aff_open.specs.declared.reader.Reader.{Reader}
 use Rattle.aff_open.proofs.OrderLaws.{split}
@@ -18,7 +19,7 @@ use Rattle.aff_read.specs.Once.{hit, occurrences}
 use Rattle.aff_read.specs.Recall.{kindAt, countAt, pathAt}
 use Rattle.aff_read.proofs.LineLaws.{tail-length}
 use Rattle.aff_read.proofs.OnceLaws.{order-only, order-length}
-use Rattle.aff_list.specs.Lister.{pathLimit, rowLimit, pathTooLong, row, rows, rowsFrom, Ready, endBehind, putBehind, Fills}
+use Rattle.aff_list.specs.Lister.{pathLimit, rowLimit, pathTooLong, row, rows, rowsFrom, Ready, Fills, endBehind, putBehind}
 use Rattle.aff_list.proofs.RowLaws.{behind-stays, behind-put}
 
 -- Text put behind the first bytes of a block ends where those and the text are.
@@ -42,14 +43,15 @@ pub record Filling (image : List ℕ) (reader : Reader) (strings entries : List 
   pub inside : used ≤ length block
   pub text : rowsFrom image reader strings entries from ≡ take used block ++ rowsFrom image reader strings entries next
   pub sized : length block ≡ length block₀
+  pub stays : drop used block ≡ drop used block₀
   pub first : next ≤ from → used ≡ 0
 
 module _ {image : List ℕ} {reader : Reader} {strings entries numbers : List ℕ} (ready : Ready image reader strings entries numbers) where
   abbrev all : List ℕ
   all = order image reader strings entries
 
-  abbrev rowAt : ℕ → List ℕ
-  rowAt = row image reader strings entries
+  abbrev rowOf : ℕ → List ℕ
+  rowOf = row image reader strings entries
 
   abbrev rest : ℕ → List ℕ
   rest = rowsFrom image reader strings entries
@@ -65,15 +67,15 @@ module _ {image : List ℕ} {reader : Reader} {strings entries numbers : List �
       ⊎-elim (λ (q : reader .nodes < getD numbers k 0). absurd (omega (arith, occurs all k (placed k h), order-only (ready .belongs) (getD all k 0) (omega (arith, number-at k h)))))
       (λ q. q) (split (reader .nodes) (getD numbers k 0))
 
-  rest-next : (k n : ℕ) → k ≤ reader .nodes → n ≡ getD numbers k 0 → rest k ≡ rowAt n ++ rest (k + 1)
+  rest-next : (k n : ℕ) → k ≤ reader .nodes → n ≡ getD numbers k 0 → rest k ≡ rowOf n ++ rest (k + 1)
   unfolding rows
   rest-next k n h is = ap (rows image reader strings entries) (drop-cons all k 0 (placed k h)) ∙ rw (number-at k h, is, add-one k)
 
-  row-length : (n : ℕ) → length (rowAt n) ≡ length (lineAt image reader strings entries n) + 1
+  row-length : (n : ℕ) → length (rowOf n) ≡ length (lineAt image reader strings entries n) + 1
   unfolding row
   row-length n = length-append (lineAt image reader strings entries n) (10 ∷ [])
 
-  row-small : (n : ℕ) → n ≤ reader .nodes → length (rowAt n) ≤ rowLimit
+  row-small : (n : ℕ) → n ≤ reader .nodes → length (rowOf n) ≤ rowLimit
   unfolding pathTooLong lineAt
   row-small n h =
       let path = pathAt image reader strings entries n in
@@ -82,40 +84,46 @@ module _ {image : List ℕ} {reader : Reader} {strings entries numbers : List �
 
   module _ {from : ℕ} {o : List ℕ} (some : from ≤ reader .nodes) where
     pub filling-none : Filling image reader strings entries from o o from 0
-    filling-none = record { least = omega arith; most = omega arith; inside = omega arith; text = refl; sized = refl; first = λ h. refl }
+    filling-none = record { least = omega arith; most = omega arith; inside = omega arith; text = refl; sized = refl; stays = refl; first = λ h. refl }
 
     module _ {block : List ℕ} {next used : ℕ} (v : Filling image reader strings entries from o block next used) where
-      pub filled-all : reader .nodes < next → Fills rest (reader .nodes + 1) from next used block
-      filled-all h = record { more = omega arith; most = v .most; inside = v .inside; text = v .text }
+      pub filled-all : reader .nodes < next → Fills image reader strings entries from next used o block
+      filled-all h =
+          record { more = omega arith; most = v .most; inside = v .inside; text = v .text; stays = v .stays; full = λ q. absurd (omega arith) }
 
       module _ (h : next ≤ reader .nodes) {n end : ℕ} {p : List ℕ} (is : n ≡ getD numbers next 0)
-          (ends : end ≡ endBehind used (rowAt n) block) (puts : p ≡ putBehind used (rowAt n) block) where
+          (ends : end ≡ endBehind used (rowOf n) block) (puts : p ≡ putBehind used (rowOf n) block) where
         within : n ≤ reader .nodes
         within = omega (arith, is, number-within next h)
 
-        pub filled-full : rowLimit ≤ length o → end ≡ used → Fills rest (reader .nodes + 1) from next used p
+        pub filled-full : rowLimit ≤ length o → end ≡ used → Fills image reader strings entries from next used o p
         filled-full room e =
-            let stays = behind-stays used (rowAt n) block ends puts (omega (arith, row-length n)) e in
+            let kept = behind-stays used (rowOf n) block ends puts (omega (arith, row-length n)) e in
             record {
-              more = ⊎-elim (λ q. q) (λ (q : next ≤ from). absurd (omega (arith, stays .0, v .first q, v .sized, row-small n within))) (split from next);
+              more = ⊎-elim (λ q. q) (λ (q : next ≤ from). absurd (omega (arith, kept .0, v .first q, v .sized, row-small n within))) (split from next);
               most = v .most;
-              inside = rw (stays .1) (v .inside);
-              text = rw (stays .1) (v .text);
+              inside = rw (kept .1) (v .inside);
+              text = rw (kept .1) (v .text);
+              stays = rw (kept .1) (v .stays);
+              full = λ q. rw (number-at next h, sym is, kept .1) (kept .0);
             }
 
         pub filling-next : (end ≡ used → ⊥) → Filling image reader strings entries from o p (next + 1) end
         filling-next other =
-            let (fits, at, area) = behind-put used (rowAt n) block ends puts other in
-            let taken : take end p ≡ take used block ++ rowAt n = rw (area, at) (taken-behind used (rowAt n) block (v .inside)) in
-            let long : length p ≡ length block = ap length area ∙ length-spliced used (rowAt n) block fits in
+            let (fits, at, area) = behind-put used (rowOf n) block ends puts other in
+            let taken : take end p ≡ take used block ++ rowOf n = rw (area, at) (taken-behind used (rowOf n) block (v .inside)) in
+            let long : length p ≡ length block = ap length area ∙ length-spliced used (rowOf n) block fits in
             record {
               least = omega (arith, v .least);
               most = omega arith;
               inside = omega (arith, fits, at, long);
               text =
                   v .text ∙ ap (λ (l : List ℕ). take used block ++ l) (rest-next next n h is)
-                  ∙ sym (append-assoc (take used block) (rowAt n) (rest (next + 1)))
+                  ∙ sym (append-assoc (take used block) (rowOf n) (rest (next + 1)))
                   ∙ ap (λ (l : List ℕ). l ++ rest (next + 1)) (sym taken);
               sized = long ∙ v .sized;
+              stays =
+                  rw (area, at) (drop-spliced used (rowOf n) block fits
+                  ∙ sym (drop-drop (length (rowOf n)) used block) ∙ ap (drop (length (rowOf n))) (v .stays) ∙ drop-drop (length (rowOf n)) used o);
               first = λ g. absurd (omega (arith, v .least));
             }

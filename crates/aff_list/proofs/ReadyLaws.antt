@@ -1,19 +1,18 @@
 -- What is decided before the first line, and what then holds: opening decides, then the paths. Assumes nothing.
-use mathlib.Core.Path.{_≡_, sym, ap, _∙_}
+use mathlib.Core.Path.{_≡_, refl, sym, ap, _∙_}
 use mathlib.Core.List.{List, _++_}
 use Prim.Native.Nat.{ℕ, _+_}
 use lib.ListN.{length, take, drop}
 use lib.Seq.{take-at}
 use Rattle.aff_format.specs.Answer.{Answer, accepted, refused, Check, firstWrong}
 use Rattle.aff_format.specs.Refusal.{toldRefusal}
-use Rattle.aff_format.specs.Verdict.{verdictTold}
 use Rattle.aff_format.specs.declared.refusal.Refusal.{Refusal}
 use Rattle.aff_format.specs.declared.verdict.Verdict.{Verdict}
 use Rattle.aff_format.specs.declared.verdict.Verdict.the-variants.{Accepted, Refused}
-use Rattle.aff_format.proofs.AnswerLaws.{passed, passed-value, clear-accepts, same-refusal}
+use Rattle.aff_format.proofs.AnswerLaws.{not-both, passed, passed-value}
 use Rattle.aff_format.proofs.LowestLaws.{none-at}
 use Rattle.aff_open.specs.Belongs.{Belongs}
-use Rattle.aff_open.specs.Opening.{opened, openingTold, verdictOf, stringsAfter, entriesAfter}
+use Rattle.aff_open.specs.Opening.{opened, openingTold, verdictOf, readerAfter, stringsAfter, entriesAfter}
 use Rattle.aff_open.specs.Sections.{formFor}
 use Rattle.aff_open.specs.declared.opening.Opening.{Opening}
 use Rattle.aff_open.specs.declared.reader.Reader.{Reader}
@@ -21,18 +20,14 @@ use Rattle.aff_open.proofs.BelongsLaws.{belongs-record}
 use Rattle.aff_open.proofs.OpenedLaws.{opened-belongs}
 use Rattle.aff_read.specs.Calls.{order}
 use Rattle.aff_read.proofs.OnceLaws.{order-length}
-use Rattle.aff_list.specs.Lister.{pathChecks, Ready, withPaths, judged}
+use Rattle.aff_list.specs.Lister.{pathChecks, Ready, withPaths, judged, withOrder, orderAfter}
 
 -- Behind an accepted opening: the paths decide.
 module _ (image : List ℕ) (reader : Reader) (strings entries : List ℕ) where
   abbrev checks : List Check
   checks = pathChecks image reader strings entries
 
-  pub paths-judged : (v : Verdict) → verdictTold v ≡ firstWrong checks (tt {0}) → verdictOf v reader ≡ firstWrong checks reader
-  paths-judged Accepted h = sym (clear-accepts checks reader (passed checks (tt {0}) (sym h)))
-  paths-judged (Refused q) h = sym (same-refusal checks (tt {0}) reader (sym h))
-
-  pub paths-ready : Belongs image reader strings entries → (o : List ℕ) {p : List ℕ}
+  paths-ready : Belongs image reader strings entries → (o : List ℕ) {p : List ℕ}
       → p ≡ order image reader strings entries ++ drop (length (order image reader strings entries)) o
       → (a : Reader) → firstWrong checks reader ≡ accepted a → Ready image a strings entries p
   paths-ready b o e a h =
@@ -43,8 +38,14 @@ module _ (image : List ℕ) (reader : Reader) (strings entries : List ℕ) where
         ordered = ap (take (reader .nodes + 1)) e ∙ take-at (order image reader strings entries) _ (reader .nodes + 1) (order-length b);
       })
 
+-- What is handed back and left before the first line: the answer and the record, the two areas, and listing order.
+abbrev Begun : List ℕ → List ℕ → List ℕ → List ℕ → Answer Reader → Reader → List ℕ → List ℕ → List ℕ → Type 0
+Begun image strings entries numbers told reader ss es ns =
+    (told ≡ judged image strings entries) × ((reader ≡ readerAfter (judged image strings entries)) × ((ss ≡ stringsAfter image (formFor image) strings entries)
+    × ((es ≡ entriesAfter image (formFor image) strings entries) × (ns ≡ orderAfter image strings entries numbers))))
+
 -- What opening told.
-module _ (image strings entries : List ℕ) {form ss es : List ℕ} (o : Opening) (f : form ≡ formFor image)
+module _ (image strings entries numbers : List ℕ) {form ss es : List ℕ} (o : Opening) (f : form ≡ formFor image)
     (told : openingTold o ≡ opened image form (length strings) (length entries))
     (s : ss ≡ stringsAfter image form strings entries) (e : es ≡ entriesAfter image form strings entries) where
   opened-is : (v : Verdict) → o .verdict ≡ v → opened image form (length strings) (length entries) ≡ verdictOf v (o .reader)
@@ -54,11 +55,52 @@ module _ (image strings entries : List ℕ) {form ss es : List ℕ} (o : Opening
   unfolding judged
   judged-is v h = rw (s, e, sym (opened-is v h), f)
 
-  pub begun-refused : (q : Refusal) → o .verdict ≡ Refused q → refused (toldRefusal q) ≡ judged image strings entries
-  begun-refused q h = judged-is (Refused q) h
+  order-is : (v : Verdict) → o .verdict ≡ v → withOrder image ss es numbers (verdictOf v (o .reader)) ≡ orderAfter image strings entries numbers
+  unfolding orderAfter
+  order-is v h = rw (s, e, sym (opened-is v h), f)
 
-  pub begun-judged : o .verdict ≡ Accepted → firstWrong (pathChecks image (o .reader) ss es) (o .reader) ≡ judged image strings entries
-  begun-judged h = judged-is Accepted h
+  strings-left : ss ≡ stringsAfter image (formFor image) strings entries
+  strings-left = s ∙ ap (λ (l : List ℕ). stringsAfter image l strings entries) f
 
-  pub begun-belongs : o .verdict ≡ Accepted → Belongs image (o .reader) ss es
-  begun-belongs h = rw (s, e) (belongs-record (opened-belongs image form strings entries (opened-is Accepted h)))
+  entries-left : es ≡ entriesAfter image (formFor image) strings entries
+  entries-left = e ∙ ap (λ (l : List ℕ). entriesAfter image l strings entries) f
+
+  pub begun-refused : o .reader ≡ readerAfter (openingTold o) → (q : Refusal) → o .verdict ≡ Refused q
+      → Begun image strings entries numbers (refused (toldRefusal q)) (o .reader) ss es numbers
+  begun-refused g q h =
+      let j = judged-is (Refused q) h in
+      let r = g ∙ ap (λ (w : Verdict). readerAfter (verdictOf w (o .reader))) h ∙ ap readerAfter j in
+      (j, (r, (strings-left, (entries-left, order-is (Refused q) h))))
+
+  module _ (h : o .verdict ≡ Accepted) where
+    pub begun-belongs : Belongs image (o .reader) ss es
+    begun-belongs = rw (s, e) (belongs-record (opened-belongs image form strings entries (opened-is Accepted h)))
+
+    pub begun-judged : (p : Opening) {ns : List ℕ} → openingTold p ≡ firstWrong (pathChecks image (o .reader) ss es) (o .reader)
+        → p .reader ≡ readerAfter (openingTold p) → ns ≡ withOrder image ss es numbers (accepted (o .reader))
+        → Begun image strings entries numbers (openingTold p) (p .reader) ss es ns
+    begun-judged p a g n =
+        let j = a ∙ judged-is Accepted h in
+        (j, (g ∙ ap readerAfter j, (strings-left, (entries-left, n ∙ order-is Accepted h))))
+
+-- Accepted: all is ready for the first line.
+module _ (image strings entries numbers : List ℕ) where
+  abbrev ss : List ℕ
+  ss = stringsAfter image (formFor image) strings entries
+
+  abbrev es : List ℕ
+  es = entriesAfter image (formFor image) strings entries
+
+  by-opening : (o : Answer Reader) → opened image (formFor image) (length strings) (length entries) ≡ o → (a : Reader) → withPaths image ss es o ≡ accepted a
+      → Ready image a ss es (withOrder image ss es numbers o)
+  by-opening (refused t) e a h = not-both h
+  by-opening (accepted r) e a h = paths-ready image r ss es (belongs-record (opened-belongs image (formFor image) strings entries e)) numbers refl a h
+
+  pub judged-ready : (a : Reader) → judged image strings entries ≡ accepted a → Ready image a ss es (orderAfter image strings entries numbers)
+  unfolding judged orderAfter
+  judged-ready a h = by-opening (opened image (formFor image) (length strings) (length entries)) refl a h
+
+  pub begun-ready : (o : Opening) {ss′ es′ ns : List ℕ} → Begun image strings entries numbers (openingTold o) (o .reader) ss′ es′ ns → o .verdict ≡ Accepted
+      → Ready image (o .reader) ss′ es′ ns
+  begun-ready o (j, (g, (s, (e, n)))) h =
+      rw (s, e, n) (judged-ready (o .reader) (sym j ∙ ap (λ (v : Verdict). verdictOf v (o .reader)) h))

@@ -4,7 +4,7 @@ use mathlib.Core.Bool.{Bool, cond}
 use mathlib.Core.List.{List, [], _∷_, _++_}
 use Prim.Native.Nat.{ℕ, _+_, _≤_, _<_}
 use lib.Dec.{ltb, leb}
-use lib.ListN.{length, take, drop}
+use lib.ListN.{length, getD, take, drop}
 use Rattle.aff_format.specs.Answer.{Answer, accepted, refused, Check, check, refusal, firstWrong}
 use Rattle.aff_format.specs.Bytes.{spliced}
 use Rattle.aff_format.specs.Lowest.{lowestFrom, isAt}
@@ -13,7 +13,7 @@ use Rattle.aff_open.specs.Belongs.{Belongs}
 use Rattle.aff_open.specs.Opening.{opened, stringsAfter, entriesAfter}
 use Rattle.aff_open.specs.Sections.{formFor}
 use Rattle.aff_open.specs.declared.reader.Reader.{Reader}
-use Rattle.aff_read.specs.Calls.{order, lineAt}
+use Rattle.aff_read.specs.Calls.{frontWritten, order, lineAt}
 use Rattle.aff_read.specs.Recall.{pathAt}
 
 -- The longest path that is printed, and the longest line with its line feed: at most 19 bytes stand behind the path.
@@ -35,6 +35,10 @@ module _ (image : List ℕ) (reader : Reader) (strings entries : List ℕ) where
   unfoldable pub row : ℕ → List ℕ
   row node = lineAt image reader strings entries node ++ (10 ∷ [])
 
+  -- The line at place k of listing order.
+  abbrev pub rowAt : ℕ → List ℕ
+  rowAt k = row (getD (order image reader strings entries) k 0)
+
   -- The lines of some nodes.
   unfoldable pub rows : List ℕ → List ℕ
   rows [] = []
@@ -51,6 +55,16 @@ module _ (image : List ℕ) (reader : Reader) (strings entries : List ℕ) where
     pub fits : lowestFrom pathTooLong (reader .nodes + 1) 0 ≡ Nothing
     pub ordered : take (reader .nodes + 1) numbers ≡ order image reader strings entries
 
+  -- A block is filled from its front with the lines from place `from` of listing order on, one at least, up to place `next`: as many as it has
+  -- room for. The rest of it stays.
+  pub record Fills (from next used : ℕ) (before after : List ℕ) : Type 0 where
+    pub more : from < next
+    pub most : next ≤ reader .nodes + 1
+    pub inside : used ≤ length after
+    pub text : rowsFrom from ≡ take used after ++ rowsFrom next
+    pub stays : drop used after ≡ drop used before
+    pub full : next ≤ reader .nodes → length after < used + length (rowAt next)
+
 -- The refusal of opening, else 21 where a path is too long, else the record.
 abbrev pub withPaths : List ℕ → List ℕ → List ℕ → Answer Reader → Answer Reader
 withPaths image strings entries (refused t) = refused t
@@ -62,16 +76,20 @@ judged image strings entries =
     withPaths image (stringsAfter image (formFor image) strings entries) (entriesAfter image (formFor image) strings entries)
     (opened image (formFor image) (length strings) (length entries))
 
+-- Behind an accepted opening, listing order stands at the front of its area, also where a path is too long; a refused one leaves the area.
+abbrev pub withOrder : List ℕ → List ℕ → List ℕ → List ℕ → Answer Reader → List ℕ
+withOrder image strings entries numbers (refused t) = numbers
+withOrder image strings entries numbers (accepted r) = frontWritten (accepted (r .nodes + 1)) (order image r strings entries) numbers
+
+-- The area for listing order, before the first line is printed.
+unfoldable pub orderAfter : List ℕ → List ℕ → List ℕ → List ℕ → List ℕ
+orderAfter image strings entries numbers =
+    withOrder image (stringsAfter image (formFor image) strings entries) (entriesAfter image (formFor image) strings entries) numbers
+    (opened image (formFor image) (length strings) (length entries))
+
 -- Text put behind the first `used` bytes of a block, where the block has room for it: where it ends, and the block after it.
 unfoldable pub endBehind : ℕ → List ℕ → List ℕ → ℕ
 endBehind used text block = cond (leb (used + length text) (length block)) (used + length text) used
 
 unfoldable pub putBehind : ℕ → List ℕ → List ℕ → List ℕ
 putBehind used text block = cond (leb (used + length text) (length block)) (spliced used text block) block
-
--- A block is filled with the lines from place `from` of n on, one at least, up to place `next`.
-pub record Fills (rest : ℕ → List ℕ) (n from next used : ℕ) (block : List ℕ) : Type 0 where
-  pub more : from < next
-  pub most : next ≤ n
-  pub inside : used ≤ length block
-  pub text : rest from ≡ take used block ++ rest next

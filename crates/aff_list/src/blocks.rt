@@ -8,14 +8,14 @@ use aff_open::recorded;
 use aff_read::lister;
 use aff_read::paths;
 ghost use mathlib.Core.Path.{_≡_};
-ghost use Prim.Native.Nat.{_+_, _≤_};
+ghost use Prim.Native.Nat.{_≤_};
 ghost use lib.ListN.{length};
 ghost use Rattle.aff_format.specs.Answer.{accepted, firstWrong};
 ghost use Rattle.aff_format.specs.Verdict.{verdictTold};
 ghost use Rattle.aff_open.specs.Belongs.{Belongs};
-ghost use Rattle.aff_open.specs.Opening.{openingTold};
-ghost use Rattle.aff_open.specs.declared.reader.Reader.{Reader as ReaderOf};
-ghost use Rattle.aff_list.specs.Lister.{pathChecks, row, rowsFrom, Ready, judged, endBehind, putBehind, Fills};
+ghost use Rattle.aff_open.specs.Opening.{openingTold, readerAfter, stringsAfter, entriesAfter};
+ghost use Rattle.aff_open.specs.Sections.{formFor};
+ghost use Rattle.aff_list.specs.Lister.{pathChecks, row, Ready, Fills, judged, withOrder, orderAfter, endBehind, putBehind};
 
 // 21 where a path is above 65,536 bytes, for a record that belongs. One climb a node.
 fn measure(image: &[u8], reader: Reader, strings: &[u32], entries: &[u32]) -> Verdict
@@ -32,7 +32,8 @@ fn measure(image: &[u8], reader: Reader, strings: &[u32], entries: &[u32]) -> Ve
     Verdict::Accepted
 }
 
-// Behind an accepted opening: measures the paths, and writes listing order.
+// Behind an accepted opening: writes listing order, and measures the paths. A path that is too long makes it a refused opening, whose record
+// is all zero.
 fn prepare(
     image: &[u8],
     reader: Reader,
@@ -42,16 +43,26 @@ fn prepare(
 ) -> Opening
     requires { ⌜ Belongs (now image) reader (now strings) (now entries) ⌝ }
     ensures answer { λ r. ⌜ openingTold r ≡ firstWrong (pathChecks (now (image .entry)) reader (now (strings .entry)) (now (entries .entry))) reader ⌝ }
-    ensures ready { λ r. ⌜ ((a : ReaderOf) → openingTold r ≡ accepted a → Ready (now (image .entry)) a (now (strings .entry)) (now (entries .entry)) (now (order .exit))) ⌝ }
+    ensures record { λ r. ⌜ r .reader ≡ readerAfter (openingTold r) ⌝ }
+    ensures order { λ _. ⌜ now (order .exit) ≡ withOrder (now (image .entry)) (now (strings .entry)) (now (entries .entry)) (now (order .entry)) (accepted reader) ⌝ }
 {
     lister::listing_of(image, reader, strings, entries, order);
-    Opening {
-        verdict: measure(image, reader, strings, entries),
-        reader,
+    let none = Reader::none();
+    match measure(image, reader, strings, entries) {
+        Verdict::Refused(refusal) => Opening {
+            verdict: Verdict::Refused(refusal),
+            reader: none,
+        },
+        Verdict::Accepted => Opening {
+            verdict: Verdict::Accepted,
+            reader,
+        },
     }
 }
 
-// Opens an image, measures its paths, and writes listing order. A refusal is all that is printed of the image.
+// Opens an image with the form of our programs; where that is accepted, writes listing order and measures the paths. A refusal is all that is
+// printed of the image. Both work areas are left as opening leaves them, also by 21. What it leaves where it accepts is what `fill` asks
+// (`judged-ready`).
 pub fn begin(
     image: &[u8],
     strings: &mut [u32; 2048],
@@ -59,7 +70,10 @@ pub fn begin(
     order: &mut [u32; 2049],
 ) -> Opening
     ensures answer { λ r. ⌜ openingTold r ≡ judged (now (image .entry)) (now (strings .entry)) (now (entries .entry)) ⌝ }
-    ensures ready { λ r. ⌜ ((a : ReaderOf) → openingTold r ≡ accepted a → Ready (now (image .entry)) a (now (strings .exit)) (now (entries .exit)) (now (order .exit))) ⌝ }
+    ensures record { λ r. ⌜ r .reader ≡ readerAfter (judged (now (image .entry)) (now (strings .entry)) (now (entries .entry))) ⌝ }
+    ensures strings { λ _. ⌜ now (strings .exit) ≡ stringsAfter (now (image .entry)) (formFor (now (image .entry))) (now (strings .entry)) (now (entries .entry)) ⌝ }
+    ensures entries { λ _. ⌜ now (entries .exit) ≡ entriesAfter (now (image .entry)) (formFor (now (image .entry))) (now (strings .entry)) (now (entries .entry)) ⌝ }
+    ensures order { λ _. ⌜ now (order .exit) ≡ orderAfter (now (image .entry)) (now (strings .entry)) (now (entries .entry)) (now (order .entry)) ⌝ }
 {
     let form = aff_open::form_for(image);
     let opening = aff_open::open(image, &form, strings, entries);
@@ -117,7 +131,8 @@ pub struct Filled {
     pub used: usize,
 }
 
-// Fills a block from its front with the lines from a place in listing order on, as many as it has room for.
+// Fills a block from its front with the lines from a place in listing order on, one at least and as many as it has room for; the rest of it
+// stays.
 pub fn fill(
     image: &[u8],
     reader: Reader,
@@ -128,7 +143,7 @@ pub fn fill(
     block: &mut [u8; 131072],
 ) -> Filled
     requires { ⌜ Ready (now image) reader (now strings) (now entries) (now order) × (from ≤ reader .nodes) ⌝ }
-    ensures { λ r. ⌜ Fills (rowsFrom (now (image .entry)) reader (now (strings .entry)) (now (entries .entry))) (reader .nodes + 1) from (r .next) (r .used) (now (block .exit)) ⌝ }
+    ensures { λ r. ⌜ Fills (now (image .entry)) reader (now (strings .entry)) (now (entries .entry)) from (r .next) (r .used) (now (block .entry)) (now (block .exit)) ⌝ }
 {
     let mut next = from;
     let mut used: usize = 0;

@@ -4,8 +4,9 @@
 use aff_format::Verdict;
 
 fn line(allowance: usize) {
+    let mut room = [0u8; 214];
     console::decimal(allowance as u64);
-    match aff_drill::drill(allowance) {
+    match aff_drill::drill(&mut room, allowance) {
         Verdict::Refused(refusal) => {
             console::text(b" ");
             console::refusal(refusal);

@@ -1,8 +1,6 @@
 -- `listing` meets its contract: what `begin` accepts is ready to be printed.
 use borrow.Author.Needs.{needs}
-use mathlib.Core.Path.{ap}
-use Rattle.aff_format.specs.declared.verdict.Verdict.{Verdict}
-use Rattle.aff_open.specs.Opening.{verdictOf}
+use Rattle.aff_list.proofs.ReadyLaws.{begun-ready}
 use Rattle.aff_list.proofs.output.listing.Statement.{statement}
 use Rattle.aff_list.proofs.output.listing.Tie as tie
 
@@ -10,7 +8,7 @@ lines-requires : tie.Need-lines-requires
 lines-requires c κs =
     let t = c .before .before .before in
     let b = t .before .before .begin in
-    b .ensures .1 _ (ap (λ (v : Verdict). verdictOf v (b .result .reader)) (t .enum-told .given .1))
+    begun-ready _ _ _ _ (b .result) (b .ensures) (t .enum-told .given .1)
 
 pub listing-spec : {M : Type 1} → statement M
 listing-spec =
