@@ -23,7 +23,7 @@ PARTS = [
     ("images in memory: opening, every reading call, altered memory", "agree", 20_000, []),
     ("images through the program `list`", "lists", 500, [os.path.join(TARGET, "bin", "list")]),
     ("runs of the writer, whole and cut", "writes", 5_000, []),
-    ("processes killed while they write into a mapped file", "kills", 600, [FOLDER]),
+    ("processes killed while they write into a mapped file", "kills", 2_000, [FOLDER]),
     ("runs stopped after each instruction", "steps", 20, [FOLDER]),
 ]
 

@@ -9,7 +9,7 @@ use crate::report::Report;
 use crate::runs::{play, Run};
 use crate::writer::Store;
 use std::collections::BTreeMap;
-use std::io::{self, BufRead, BufReader, Write};
+use std::io::{self, BufRead, BufReader, Read, Write};
 use std::os::unix::process::ExitStatusExt;
 use std::path::{Path, PathBuf};
 use std::process::{Child, ChildStdout, Command, Stdio};
@@ -22,7 +22,7 @@ const SIGKILL: i32 = 9;
 /// The run that kill `number` of a seed is of.
 fn run_of(seed: u64, number: u64) -> Run {
     let random = Random::of(seed, number / KILLS_OF_A_RUN);
-    let nodes = random.pick(&[3, 60, 400, 1200, 2048]);
+    let nodes = random.pick(&[60, 400, 1200, 2048, 2048]);
     plans::run(&random, nodes, random.pick(&[8, 200]))
 }
 
@@ -45,9 +45,15 @@ fn say(word: &str) -> io::Result<()> {
     out.flush()
 }
 
-/// When a process is killed: so long after it begins, or after a store is seen in the file.
+/// When a process is killed: so long after this.
+enum After {
+    Start,
+    Begin,
+    Store(usize),
+}
+
 struct Moment {
-    seen: Option<usize>,
+    after: After,
     more: Duration,
 }
 
@@ -65,9 +71,13 @@ impl Writing {
             .stdout(Stdio::piped())
             .spawn()?;
         let words = BufReader::new(child.stdout.take().expect("piped"));
-        let mut writing = Writing { child, words };
-        match writing.word()?.as_str() {
-            "begins" => Ok(writing),
+        Ok(Writing { child, words })
+    }
+
+    /// Waits until it begins.
+    fn begin(&mut self) -> io::Result<()> {
+        match self.word()?.as_str() {
+            "begins" => Ok(()),
             word => Err(io::Error::other(format!("not 'begins' but '{word}'"))),
         }
     }
@@ -93,9 +103,10 @@ impl Writing {
     /// Kills it; tells whether the signal was what ended it, and whether it had said that it closed.
     fn kill(mut self) -> io::Result<(bool, bool)> {
         self.child.kill()?;
-        let closed = self.word()? == "closed";
+        let mut said = String::new();
+        self.words.read_to_string(&mut said)?;
         let status = self.child.wait()?;
-        Ok((status.signal() == Some(SIGKILL), closed))
+        Ok((status.signal() == Some(SIGKILL), said.ends_with("closed\n")))
     }
 
     /// Waits for its end.
@@ -144,8 +155,13 @@ struct Times {
     stores: Duration,
 }
 
-/// About how long a signal takes to end a process.
+/// About how long a signal takes to end a process, and a process to start.
 const SIGNAL: Duration = Duration::from_micros(40);
+const START: Duration = Duration::from_millis(2);
+
+fn store_or_begin(store: Option<usize>) -> After {
+    store.map_or(After::Begin, After::Store)
+}
 
 impl Target {
     /// Makes the run once without a kill: the file must be whole.
@@ -171,6 +187,7 @@ impl Target {
     fn timed(&self, number: u64) -> io::Result<Times> {
         let mut writing = self.start(number)?;
         let mapped = Mapped::of(&self.file)?;
+        writing.begin()?;
         let start = Instant::now();
         let close = self.plan.before_close;
         let mut seen = |store: Option<usize>| -> io::Result<Duration> {
@@ -199,8 +216,12 @@ impl Target {
         report: &mut Report,
     ) -> io::Result<Vec<u8>> {
         let mut writing = self.start(number)?;
-        if let Some(store) = moment.seen {
-            writing.watch(&Mapped::of(&self.file)?, self.plan.stores[store])?;
+        match moment.after {
+            After::Start => (),
+            After::Begin => writing.begin()?,
+            After::Store(store) => {
+                writing.watch(&Mapped::of(&self.file)?, self.plan.stores[store])?
+            }
         }
         spin(moment.more);
         let (by_signal, closed) = writing.kill()?;
@@ -212,28 +233,25 @@ impl Target {
         Ok(room)
     }
 
-    /// A moment: in the whole time of the run, at any store, or about the stores of close.
+    /// A moment: while the process starts, in the whole time of its calls, at any store, or about the stores of close.
     fn moment(&self, random: &Random) -> Moment {
         let part = |time: Duration| time * random.below(1001) as u32 / 1000;
-        match random.below(10) {
-            0..=2 => Moment {
-                seen: None,
-                more: part(self.times.run * 11 / 10),
-            },
-            3..=4 => {
-                let any = random.below(self.plan.before_close);
-                Moment {
-                    seen: (any..self.plan.before_close).find(|i| self.is_visible(*i)),
-                    more: part(SIGNAL),
-                }
-            }
+        let close = self.plan.before_close;
+        let seen = |from: usize| (from..close).find(|i| self.is_visible(*i));
+        let (after, more) = match random.below(20) {
+            0 => (After::Start, START),
+            1..=5 => (After::Begin, self.times.run * 11 / 10),
+            6..=8 => (store_or_begin(seen(random.below(close))), SIGNAL),
             _ => {
                 let early = self.times.sums.saturating_sub(2 * SIGNAL);
-                Moment {
-                    seen: self.last_put(),
-                    more: early + part(self.times.stores + 3 * SIGNAL),
-                }
+                let more = early + part(self.times.stores + 3 * SIGNAL);
+                let after = store_or_begin(self.last_put());
+                return Moment { after, more };
             }
+        };
+        Moment {
+            after,
+            more: part(more),
         }
     }
 
