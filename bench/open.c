@@ -4,12 +4,10 @@
 // crates/md5_c, and prints the median time of the three together before that of an opening. A sample is the processor time of BATCH calls in a row,
 // divided by BATCH; samples of the two take turns. It fails where an opening does not hand back NUMBER: 0 for acceptance, else the
 // refusal's. The file is mapped into memory.
+#include "../include/aff.h"
 #include "timing.h"
 
-// From the static libraries of crates/aff_c and crates/md5_c.
-uint32_t aff_open_image(const uint8_t *image, size_t image_length, const uint8_t *form, size_t form_length, uint32_t *strings,
-    size_t strings_length, uint32_t *entries, size_t entries_length, uint64_t *record, size_t record_length);
-bool aff_form_for(const uint8_t *image, size_t image_length, uint8_t *output, size_t output_length);
+// From the static library of crates/md5_c.
 bool md5_c_digest(const uint8_t *message, size_t message_length, uint8_t *output, size_t output_length);
 
 static const uint8_t *image;

@@ -5,21 +5,10 @@
 // lines `NODE PATH`, which the calls take in turn; NODE is 0 where no node has the path, and only lookup takes such. Element j of node n is
 // n + j / 1024, and a node with data has 64. A sample is the processor time of BATCH calls in a row, divided by BATCH. It prints the
 // median in seconds, and fails where an answer is another.
+#include "../include/aff.h"
 #include "timing.h"
 
-// From the static library of crates/aff_c.
-uint32_t aff_open_image(const uint8_t *image, size_t image_length, const uint8_t *form, size_t form_length, uint32_t *strings,
-    size_t strings_length, uint32_t *entries, size_t entries_length, uint64_t *record, size_t record_length);
-bool aff_form_for(const uint8_t *image, size_t image_length, uint8_t *output, size_t output_length);
-#define OPENED const uint8_t *image, size_t image_length, const uint64_t *record, const uint32_t *strings, size_t strings_length, \
-    const uint32_t *entries, size_t entries_length
-uint32_t aff_lookup(OPENED, const uint8_t *path, size_t path_length, uint64_t *node);
-uint32_t aff_listing(OPENED, uint32_t *output, size_t output_length, uint64_t *count);
-uint32_t aff_view(OPENED, uint64_t node, uint64_t *offset, uint64_t *size);
-uint32_t aff_element(OPENED, uint64_t node, uint64_t index, double *value, double *imaginary);
-uint32_t aff_decode(uint64_t kind, const uint8_t *bytes, size_t bytes_length, uint64_t index, double *value, double *imaginary);
-
-enum { KEYS = 4096, DOUBLE = 4, COUNT = 64, ABSENT = 15 };
+enum { KEYS = 4096, COUNT = 64, ABSENT = 15 };
 
 static const uint8_t *image;
 static size_t length;
@@ -39,7 +28,7 @@ static size_t count, k;
 // Whether element `index` of a view of a key's node is decoded as expected.
 static bool decodes(uint64_t node, uint64_t offset, uint64_t size, uint64_t index) {
     double value = 0, imaginary = 1;
-    return aff_decode(DOUBLE, image + offset, size, index, &value, &imaginary) == 0 && value == node + index / 1024.0 && imaginary == 0;
+    return aff_decode(AFF_DOUBLE, image + offset, size, index, &value, &imaginary) == 0 && value == node + index / 1024.0 && imaginary == 0;
 }
 
 // Whether listing order is that of the numbers, up to the last key's node at least.

@@ -4,26 +4,15 @@
 // being n + j / 1024. CALL is build (begin, make and put for each node, close), make (the last node), put (the data of the last node), judge (a put to
 // the root, which is 24 and then 18) or close. Before each make, put and close the record and what the call changed of the tree area are as they were. A
 // sample is the processor time of BATCH calls in a row, divided by BATCH. It prints the median in seconds, and fails where an answer is another.
+#include "../include/aff.h"
 #include "timing.h"
 
-// From the static library of crates/aff_c.
-#define LENT_TREE uint8_t *tree, size_t tree_length
-#define WRITER uint64_t *numbers, const uint8_t *kept
-uint32_t aff_begin(uint8_t *room, size_t room_length, const uint8_t *form, size_t form_length, uint8_t *text, size_t text_length, LENT_TREE,
-    uint64_t allowance, uint64_t *numbers, uint8_t *kept);
-uint32_t aff_make(const uint8_t *room, size_t room_length, WRITER, uint8_t *text, size_t text_length, LENT_TREE, uint64_t parent,
-    const uint8_t *name, size_t name_length);
-uint32_t aff_put(uint8_t *room, size_t room_length, WRITER, const uint8_t *text, size_t text_length, LENT_TREE, uint64_t node, uint64_t kind,
-    const uint8_t *bytes, size_t bytes_length, uint64_t allowance);
-uint32_t aff_close(uint8_t *room, size_t room_length, WRITER, const uint8_t *text, size_t text_length, const uint8_t *tree, size_t tree_length,
-    uint64_t allowance);
-
-enum { NODES = 2048, COUNT = 64, DOUBLE = 4, TEXT = 32768, TREE = 51200, SLOT = 25, ROOM = 2 << 20, TAKEN = 18 };
+enum { NODES = 2048, COUNT = 64, SLOT = 25, ROOM = 2 << 20, TAKEN = 18 };
 
 static const uint8_t form[12] = {0, 64, 2, 53, 4, 0, 3, 253, 0, 0, 0, 168};
-static uint8_t room[ROOM], text[TEXT], tree[TREE], kept[12];
+static uint8_t room[ROOM], text[AFF_TEXT], tree[AFF_TREE], kept[12];
 static uint64_t numbers[7];
-#define LENT room, ROOM, numbers, kept, text, TEXT, tree, TREE
+#define LENT room, ROOM, numbers, kept, text, AFF_TEXT, tree, AFF_TREE
 
 static struct {
     uint64_t parent;
@@ -41,7 +30,7 @@ static void expect(int right) {
 }
 
 static void begin(void) {
-    expect(aff_begin(room, ROOM, form, sizeof form, text, TEXT, tree, TREE, 1, numbers, kept) == 0);
+    expect(aff_begin(room, ROOM, form, sizeof form, text, AFF_TEXT, tree, AFF_TREE, 1, numbers, kept) == 0);
 }
 
 static void make(size_t k) {
@@ -49,7 +38,7 @@ static void make(size_t k) {
 }
 
 static void put(size_t k) {
-    expect(aff_put(LENT, k + 1, DOUBLE, nodes[k].data, sizeof nodes[k].data, UINT64_MAX) == 0 && numbers[0] == sizeof nodes[k].data);
+    expect(aff_put(LENT, k + 1, AFF_DOUBLE, nodes[k].data, sizeof nodes[k].data, UINT64_MAX) == 0 && numbers[0] == sizeof nodes[k].data);
 }
 
 static void finish(void) {
@@ -89,7 +78,7 @@ static void call_once(void) {
         put(count - 1);
         break;
     case 'j':
-        expect(aff_put(LENT, 0, DOUBLE, form, 0, 0) == TAKEN);
+        expect(aff_put(LENT, 0, AFF_DOUBLE, form, 0, 0) == TAKEN);
         break;
     default:
         finish();
