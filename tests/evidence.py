@@ -28,15 +28,21 @@ PARTS = [
 ]
 
 
+def made(command, **more):
+    """Runs a command that builds something; what it printed is shown where it fails."""
+    done = subprocess.run(command, cwd=ROOT, stdout=subprocess.PIPE, stderr=subprocess.STDOUT, text=True, **more)
+    if done.returncode:
+        sys.exit(f"{done.stdout}\n{' '.join(command)} failed")
+
+
 def build():
     """The lister, the static library, and the second reader with it."""
-    quiet = {"cwd": ROOT, "check": True, "stdout": subprocess.DEVNULL, "stderr": subprocess.DEVNULL}
-    subprocess.run(["rt", "check", "list"], **quiet)
-    subprocess.run(["rt", "staticlib", "aff_c"], **quiet)
+    made(["rt", "check", "list"])
+    made(["rt", "staticlib", "aff_c"])
     manifest = os.path.join(ROOT, "tests", "second_reader", "Cargo.toml")
     folders = {"CARGO_TARGET_DIR": os.path.join(TARGET, "second_reader"), "AFF_LIBRARY": os.path.join(TARGET, "staticlib")}
-    cargo = ["cargo", "build", "--quiet", "--release", "--offline", "--features", "library", "--manifest-path", manifest]
-    subprocess.run(cargo, cwd=ROOT, check=True, env={**os.environ, **folders})
+    cargo = ["cargo", "build", "--release", "--offline", "--features", "library", "--manifest-path", manifest]
+    made(cargo, env={**os.environ, **folders})
 
 
 def main():
@@ -47,7 +53,8 @@ def main():
     different = []
     for what, command, count, more in PARTS:
         words = [command, str(seed), str(max(1, count // part)), *more]
-        print(f"== {what}: second_reader {' '.join(os.path.relpath(w, ROOT) if os.path.isabs(w) else w for w in words)}", flush=True)
+        shown = [os.path.relpath(word, ROOT) if os.path.isabs(word) else word for word in words]
+        print(f"== {what}: second_reader {' '.join(shown)}", flush=True)
         begin = time.monotonic()
         status = subprocess.run([SECOND, *words], cwd=FOLDER).returncode
         print(f"   {time.monotonic() - begin:.0f} s", flush=True)
