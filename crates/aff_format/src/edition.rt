@@ -16,14 +16,8 @@ pub enum FoundEdition {
 }
 
 impl Edition {
-    // Bytes that every edition has alike: the signature, a sum, and the tree entry of a Void and of another node.
-    pub const SIGNATURE: usize = 32;
-
-    pub const SUM: usize = 16;
-
+    // Bytes of a Void node's tree entry, in every edition.
     pub const VOID_ENTRY: usize = 13;
-
-    pub const DATA_ENTRY: usize = 25;
 
     pub fn number(self) -> u32
         ensures { λ r. ⌜ r ≡ editionNumber self ⌝ }

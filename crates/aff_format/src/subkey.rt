@@ -87,12 +87,12 @@ pub fn subkey_within(edition: Edition, bytes: &[u8], from: usize, end: usize) ->
     if from == end {
         return Grammar::BreaksAt(from);
     }
-    if may_begin(edition, bytes[from]) {} else {
+    if !may_begin(edition, bytes[from]) {
         return Grammar::BreaksAt(from);
     }
     let mut at = from + 1;
     while at < end {
-        if may_follow(edition, bytes[at]) {} else {
+        if !may_follow(edition, bytes[at]) {
             return Grammar::BreaksAt(at);
         }
         at += 1;

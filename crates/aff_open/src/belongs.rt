@@ -73,10 +73,10 @@ fn sections_inside(image: &[u8], reader: Reader) -> bool
     let symbols = reader.symbols;
     let tree = reader.tree;
     let data = reader.data;
-    if span_inside(image, symbols) {} else {
+    if !span_inside(image, symbols) {
         return false;
     }
-    if span_inside(image, tree) {} else {
+    if !span_inside(image, tree) {
         return false;
     }
     span_inside(image, data)
@@ -202,10 +202,10 @@ fn tables_belong(image: &[u8], reader: Reader, strings: &[u32], entries: &[u32])
 pub fn belongs(image: &[u8], reader: Reader, strings: &[u32], entries: &[u32]) -> bool
     ensures { λ r. ⌜ r ≡ belongsOf (now (image .entry)) reader (now (strings .entry)) (now (entries .entry)) ⌝ }
 {
-    if sizes(image, reader, strings, entries) {} else {
+    if !sizes(image, reader, strings, entries) {
         return false;
     }
-    if sections_inside(image, reader) {} else {
+    if !sections_inside(image, reader) {
         return false;
     }
     tables_belong(image, reader, strings, entries)

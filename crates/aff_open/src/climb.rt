@@ -44,7 +44,7 @@ pub fn climbs(parents: &[u32], nodes: usize) -> Lowest
     let mut k: usize = 0;
     while k < nodes {
         k += 1;
-        if trail(parents, nodes, k, &mut marks) {} else {
+        if !trail(parents, nodes, k, &mut marks) {
             return Lowest::At(k);
         }
     }

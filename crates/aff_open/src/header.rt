@@ -80,7 +80,7 @@ fn header_of(image: &[u8], form: &[u8], edition: Edition) -> Signed
     if image.len() < edition.header_size() {
         return Signed::Refused(Refusal::ShortImage);
     }
-    if bytes::same(&image[20..32], form) {} else {
+    if !bytes::same(&image[20..32], form) {
         return Signed::Refused(Refusal::WrongForm);
     }
     if header_sum_wrong(image, edition) {

@@ -12,6 +12,7 @@ use aff_format::Edition;
 use aff_format::Refusal;
 use aff_format::Section;
 use aff_format::Verdict;
+use aff_format::limits;
 ghost use mathlib.Core.Path.{_≡_};
 ghost use Prim.Native.Nat.{_≤_, _<_};
 ghost use mathlib.Core.List.{_++_};
@@ -36,13 +37,13 @@ fn lent_wrong(image: &[u8], form: &[u8], strings: &[u32], entries: &[u32]) -> bo
     if form.len() != 12 {
         return true;
     }
-    if strings.len() != 2048 {
+    if strings.len() != limits::STRING_LIMIT {
         return true;
     }
-    if entries.len() != 2048 {
+    if entries.len() != limits::NODE_LIMIT {
         return true;
     }
-    2147483647 < image.len()
+    limits::IMAGE_LIMIT < image.len()
 }
 
 fn clear(area: &mut [u32])

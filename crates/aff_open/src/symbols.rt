@@ -99,7 +99,7 @@ pub fn symbol_table(image: &[u8], edition: Edition, places: &mut [u32]) -> Symbo
     let span = sections::span(image, edition, Section::Symbol);
     let from = span.offset;
     let end = from + span.size;
-    if ended(&image[from..end]) {} else {
+    if !ended(&image[from..end]) {
         return Symbols::Unended;
     }
     match split(&image[from..end], from, places) {

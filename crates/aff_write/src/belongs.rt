@@ -75,7 +75,7 @@ fn text_belongs(writer: Writer, text: &[u8]) -> bool
     ensures { λ r. ⌜ r ≡ textBelongs writer (now (text .entry)) ⌝ }
 {
     let used = writer.text;
-    if ends_in_zero(&text[..used]) {} else {
+    if !ends_in_zero(&text[..used]) {
         return false;
     }
     zeros(&text[..used]) == writer.strings
@@ -137,10 +137,10 @@ fn nodes_belong(writer: Writer, tree: &[u8]) -> bool
 pub fn belongs(image: &[u8], writer: Writer, text: &[u8], tree: &[u8]) -> bool
     ensures { λ r. ⌜ r ≡ belongsOf (length (now (image .entry))) writer (now (text .entry)) (now (tree .entry)) ⌝ }
 {
-    if sizes(image, writer, text, tree) {} else {
+    if !sizes(image, writer, text, tree) {
         return false;
     }
-    if text_belongs(writer, text) {} else {
+    if !text_belongs(writer, text) {
         return false;
     }
     nodes_belong(writer, tree)
@@ -150,7 +150,7 @@ pub fn belongs(image: &[u8], writer: Writer, text: &[u8], tree: &[u8]) -> bool
 pub fn judge(image: &[u8], writer: Writer, text: &[u8], tree: &[u8]) -> Verdict
     ensures { λ r. ⌜ verdictTold r ≡ firstWrong (writerChecks (length (now (image .entry))) writer (now (text .entry)) (now (tree .entry))) tt ⌝ }
 {
-    if belongs(image, writer, text, tree) {} else {
+    if !belongs(image, writer, text, tree) {
         return Verdict::Refused(Refusal::WrongRecord);
     }
     if writer.live {

@@ -3,6 +3,7 @@ use mathlib.Core.Path.{_≡_, sym, _∙_}
 use Prim.Native.Nat.{_≤_, _<_, _-_}
 use native.Mathlib.Omega.{arith}
 use borrow.Author.Needs.{needs}
+use borrow.Author.Tests.{not-true, not-false}
 use Rattle.aff_format.specs.Bytes.{part}
 use Rattle.aff_format.specs.Subkey.{subkeyFrom, restOfSubkey}
 use Rattle.aff_format.proofs.SubkeyLaws.{begin-good, begin-bad, begin-empty, rest-good, rest-bad, rest-end}
@@ -33,7 +34,7 @@ returns-2 : tie.Need-returns-2 Inv-loop μ-loop
 returns-2 c =
     let a = c .before .before .before .before .before .args in
     let h : a .from < a .end = omega arith in
-    sym (begin-bad _ _ _ _ h (c .before .before .before .before .before .pre .1) (sym (c .before .may-begin .ensures) ∙ c .if2 .left))
+    sym (begin-bad _ _ _ _ h (c .before .before .before .before .before .pre .1) (sym (c .before .may-begin .ensures) ∙ not-true _ (c .if2 .taken)))
 
 add-at : tie.Need-add-at Inv-loop μ-loop
 add-at c = omega arith
@@ -42,7 +43,7 @@ loop-holds : tie.Need-loop-holds Inv-loop μ-loop
 loop-holds c =
     let a = c .before .before .before .before .before .args in
     let h : a .from < a .end = omega arith in
-    (omega arith, sym (begin-good _ _ _ _ h (c .before .before .before .before .before .pre .1) (sym (c .before .may-begin .ensures) ∙ c .if2 .taken)))
+    (omega arith, sym (begin-good _ _ _ _ h (c .before .before .before .before .before .pre .1) (sym (c .before .may-begin .ensures) ∙ not-false _ (c .if2 .left))))
 
 shared-slice-read-may-follow : tie.Need-shared-slice-read-may-follow Inv-loop μ-loop
 shared-slice-read-may-follow c = omega arith
@@ -54,7 +55,7 @@ returns-3 : tie.Need-returns-3 Inv-loop μ-loop
 returns-3 c =
     let b = c .before .before .before in
     let z = b .before .before .before .before .before .before .before in
-    sym (rest-bad _ _ _ _ (b .loop-test .taken) (z .pre .1) (sym (c .before .may-follow .ensures) ∙ c .if3 .left)) ∙ b .before .loop .inv .1
+    sym (rest-bad _ _ _ _ (b .loop-test .taken) (z .pre .1) (sym (c .before .may-follow .ensures) ∙ not-true _ (c .if3 .taken))) ∙ b .before .loop .inv .1
 
 add-at-2 : tie.Need-add-at-2 Inv-loop μ-loop
 add-at-2 c = omega arith
@@ -66,7 +67,7 @@ loop-again : tie.Need-loop-again Inv-loop μ-loop
 loop-again c =
     let b = c .before .before .before in
     let z = b .before .before .before .before .before .before .before in
-    (omega arith, sym (rest-good _ _ _ _ (b .loop-test .taken) (z .pre .1) (sym (c .before .may-follow .ensures) ∙ c .if3 .taken)) ∙ b .before .loop .inv .1)
+    (omega arith, sym (rest-good _ _ _ _ (b .loop-test .taken) (z .pre .1) (sym (c .before .may-follow .ensures) ∙ not-false _ (c .if3 .left))) ∙ b .before .loop .inv .1)
 
 returns-4 : tie.Need-returns-4 Inv-loop μ-loop
 returns-4 c = sym (rest-end _ _ _ _ (c .loop-test .left)) ∙ c .before .loop .inv .1

@@ -2,6 +2,7 @@
 use mathlib.Core.Path.{sym, _∙_}
 use mathlib.Core.Bool.{and-false}
 use borrow.Author.Needs.{needs}
+use borrow.Author.Tests.{not-true, not-false}
 use Rattle.aff_open.specs.Belongs.{sectionsInside}
 use Rattle.aff_open.proofs.belongs.sections_inside.Statement.{statement}
 use Rattle.aff_open.proofs.belongs.sections_inside.Tie as tie
@@ -11,14 +12,14 @@ span-inside-requires c κs = search needs
 
 returns : tie.Need-returns
 unfolding sectionsInside
-returns c = simp (sym (c .before .span-inside .ensures) ∙ c .if1 .left)
+returns c = simp (sym (c .before .span-inside .ensures) ∙ not-true _ (c .if1 .taken))
 
 span-inside-requires-2 : tie.Need-span-inside-requires-2
 span-inside-requires-2 c κs = search needs
 
 returns-2 : tie.Need-returns-2
 unfolding sectionsInside
-returns-2 c = simp (sym (c .before .span-inside2 .ensures) ∙ c .if2 .left, and-false)
+returns-2 c = simp (sym (c .before .span-inside2 .ensures) ∙ not-true _ (c .if2 .taken), and-false)
 
 span-inside-requires-3 : tie.Need-span-inside-requires-3
 span-inside-requires-3 c κs = search needs
@@ -27,7 +28,7 @@ returns-3 : tie.Need-returns-3
 unfolding sectionsInside
 returns-3 c =
     let t = c .before .before in
-    simp (sym (t .before .before .span-inside .ensures) ∙ t .before .if1 .taken, sym (t .span-inside2 .ensures) ∙ c .before .if2 .taken, c .span-inside3 .ensures)
+    simp (sym (t .before .before .span-inside .ensures) ∙ not-false _ (t .before .if1 .left), sym (t .span-inside2 .ensures) ∙ not-false _ (c .before .if2 .left), c .span-inside3 .ensures)
 
 pub sections-inside-spec : {M : Type 1} → statement M
 sections-inside-spec =

@@ -4,6 +4,7 @@ use mathlib.Core.Path.{_≡_, sym}
 use Prim.Native.Nat.{ℕ, _-_}
 use native.Mathlib.Omega.{arith}
 use lib.ListN.{length, length-replicate}
+use borrow.Author.Tests.{not-true, not-false}
 use Rattle.aff_open.specs.Climb.{parentAt}
 use Rattle.aff_open.proofs.MarkLaws.{Passed, none-passed, all-passed, next-passed, next-endless}
 use Rattle.aff_open.proofs.climb.climbs.Statement.{statement}
@@ -29,6 +30,12 @@ trail-requires c κs =
     let lp = c .before .before in
     record { links = lp .before .before .pre; start = omega arith; node = omega arith; marked = lp .loop .inv .1 .marked }
 
+returns : tie.Need-returns Inv-loop μ-loop
+returns c =
+    let t = c .before .before in
+    let turn = t .before .before in
+    next-endless (turn .before .loop .inv .1) (turn .loop-test .taken) (t .trail .ensures) (not-true _ (c .if1 .taken))
+
 loop-less : tie.Need-loop-less Inv-loop μ-loop
 loop-less c = omega arith
 
@@ -37,13 +44,7 @@ loop-again c =
     let t = c .before .before in
     let turn = t .before .before in
     let inv = turn .before .loop .inv in
-    (omega (arith, t .trail .kept, inv .0), next-passed (inv .1) (turn .loop-test .taken) (t .trail .ensures) (c .if1 .taken))
-
-returns : tie.Need-returns Inv-loop μ-loop
-returns c =
-    let t = c .before .before in
-    let turn = t .before .before in
-    next-endless (turn .before .loop .inv .1) (turn .loop-test .taken) (t .trail .ensures) (c .if1 .left)
+    (omega (arith, t .trail .kept, inv .0), next-passed (inv .1) (turn .loop-test .taken) (t .trail .ensures) (not-false _ (c .if1 .left)))
 
 returns-2 : tie.Need-returns-2 Inv-loop μ-loop
 returns-2 c = all-passed (c .before .loop .inv .1) (c .loop-test .left)
@@ -58,7 +59,7 @@ climbs-spec =
     add-k
     slice-aggregate-trail
     trail-requires
+    returns
     loop-less
     loop-again
-    returns
     returns-2)

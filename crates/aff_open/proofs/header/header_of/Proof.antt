@@ -2,7 +2,7 @@
 use mathlib.Core.Path.{_≡_, sym, _∙_}
 use mathlib.Core.Bool.{false}
 use borrow.Author.Needs.{needs}
-use borrow.Author.Tests.{lt-ltb, le-ltb}
+use borrow.Author.Tests.{lt-ltb, le-ltb, not-true, not-false}
 use lib.Dec.{ltb}
 use lib.ListN.{length}
 use Rattle.aff_format.specs.Edition.{headerSize}
@@ -17,14 +17,14 @@ returns : tie.Need-returns
 returns c = rw (lt-ltb _ _ (rw (c .before .header-size .ensures) at (c .if1 .taken)))
 
 returns-2 : tie.Need-returns-2
-returns-2 c = rw (whole (c .before .before .before), sym (c .before .same .ensures) ∙ c .if2 .left)
+returns-2 c = rw (whole (c .before .before .before), sym (c .before .same .ensures) ∙ not-true _ (c .if2 .taken))
 
 returns-3 : tie.Need-returns-3
 returns-3 c =
     let form = c .before .before in
     rw (
       whole (form .before .before .before),
-      sym (form .before .same .ensures) ∙ form .if2 .taken,
+      sym (form .before .same .ensures) ∙ not-false _ (form .if2 .left),
       sym (c .before .header-sum-wrong .ensures) ∙ c .if3 .taken,
     )
 
@@ -33,7 +33,7 @@ returns-4 c =
     let form = c .before .before in
     rw (
       whole (form .before .before .before),
-      sym (form .before .same .ensures) ∙ form .if2 .taken,
+      sym (form .before .same .ensures) ∙ not-false _ (form .if2 .left),
       sym (c .before .header-sum-wrong .ensures) ∙ c .if3 .left,
     )
 

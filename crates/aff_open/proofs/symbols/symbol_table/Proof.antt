@@ -1,6 +1,7 @@
 -- `symbol_table` meets its contract: each answer is one law of the table, from what the three passes ensure. Assumes nothing.
 use borrow.Author.Needs.{needs}
 use native.Mathlib.Omega.{arith}
+use borrow.Author.Tests.{not-true, not-false}
 use Rattle.aff_format.specs.declared.section.Section.the-variants.{Symbol}
 use Rattle.aff_open.proofs.TableLaws.{span-inside, span-short}
 use Rattle.aff_open.proofs.SymbolLaws.{table-unended, table-many, table-places, table-counted}
@@ -21,7 +22,7 @@ part-ended-end c = span-inside Symbol (c .before .before .before .before .pre .0
 returns : tie.Need-returns
 returns c =
     let s = c .before .before .before .before in
-    table-unended _ _ (s .before .before .before .pre .0) (s .span .ensures) (c .before .ended .ensures) (c .if1 .left)
+    table-unended _ _ (s .before .before .before .pre .0) (s .span .ensures) (c .before .ended .ensures) (not-true _ (c .if1 .taken))
 
 part-split-end : tie.Need-part-split-end
 part-split-end c =
@@ -50,7 +51,7 @@ returns-2 c =
     let f = p .before .before .before in
     let s = f .before .before .before .before in
     let a = s .before .before .before in
-    table-many _ _ (a .pre .0) (s .span .ensures) (f .before .ended .ensures) (a .pre .1) (p .split .ensures .0) (p .split .ensures .1) (f .if1 .taken) (c .enum-told .given .1)
+    table-many _ _ (a .pre .0) (s .span .ensures) (f .before .ended .ensures) (a .pre .1) (p .split .ensures .0) (p .split .ensures .1) (not-false _ (f .if1 .left)) (c .enum-told .given .1)
 
 returns-3 : tie.Need-returns-3
 returns-3 c =
@@ -59,7 +60,7 @@ returns-3 c =
     let f = p .before .before .before in
     let s = f .before .before .before .before in
     let a = s .before .before .before in
-    table-counted _ _ (a .pre .0) (s .span .ensures) (f .before .ended .ensures) (a .pre .1) (p .split .ensures .0) (p .split .ensures .1) (n .n .given .1) (f .if1 .taken) (c .counted .ensures)
+    table-counted _ _ (a .pre .0) (s .span .ensures) (f .before .ended .ensures) (a .pre .1) (p .split .ensures .0) (p .split .ensures .1) (n .n .given .1) (not-false _ (f .if1 .left)) (c .counted .ensures)
 
 pub symbol-table-spec : {M : Type 1} → statement M
 symbol-table-spec =

@@ -3,6 +3,7 @@ use mathlib.Core.Path.{sym, _∙_}
 use lib.Seq.{length-take-le}
 use Rattle.aff_write.proofs.BelongsLaws.{unended-decides, zeros-decide}
 use borrow.Author.Needs.{needs}
+use borrow.Author.Tests.{not-true, not-false}
 use Rattle.aff_write.proofs.belongs.text_belongs.Statement.{statement}
 use Rattle.aff_write.proofs.belongs.text_belongs.Tie as tie
 
@@ -13,7 +14,7 @@ ends-in-zero-requires : tie.Need-ends-in-zero-requires
 ends-in-zero-requires c κs = search needs
 
 returns : tie.Need-returns
-returns c = sym (unended-decides _ _ (sym (c .before .ends-in-zero .ensures) ∙ c .if1 .left))
+returns c = sym (unended-decides _ _ (sym (c .before .ends-in-zero .ensures) ∙ not-true _ (c .if1 .taken)))
 
 slice-aggregate-zeros : tie.Need-slice-aggregate-zeros
 slice-aggregate-zeros c =
@@ -26,7 +27,7 @@ zeros-requires c κs = search needs
 returns-2 : tie.Need-returns-2
 returns-2 c =
     let t = c .before .before .before in
-    rw (c .before .zeros .ensures) (sym (zeros-decide _ _ (sym (t .before .ends-in-zero .ensures) ∙ t .if1 .taken)))
+    rw (c .before .zeros .ensures) (sym (zeros-decide _ _ (sym (t .before .ends-in-zero .ensures) ∙ not-false _ (t .if1 .left))))
 
 pub text-belongs-spec : {M : Type 1} → statement M
 text-belongs-spec =
