@@ -1,5 +1,6 @@
 -- The proofs of the demands.
 pub mod RulesLaws
+pub mod LeavesLaws
 pub mod Demand1Laws
 pub mod Demand2Laws
 pub mod Demand3Laws

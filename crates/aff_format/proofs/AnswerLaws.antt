@@ -79,6 +79,11 @@ others-told n [] o a e = not-both (sym e)
 others-told n (check true q ∷ checks) o a {t} e = let p : t ≡ q = cc in rw p (o .0)
 others-told n (check false q ∷ checks) o a e = others-told n checks (o .1) a e
 
+-- Of two lists, one after the other.
+pub others-both : (n : ℕ) (before after : List Check) → Others n before → Others n after → Others n (before ++ after)
+others-both n [] after o p = p
+others-both n (check wrong t ∷ before) after o p = (o .0, others-both n before after (o .1) p)
+
 -- A number that the last check alone can tell: those before it found nothing wrong.
 pub last-told : {A : Type 0} (n : ℕ) (before : List Check) → Others n before → (wrong : Bool) (r : Told) (a : A) {t : Told}
     → firstWrong (before ++ (check wrong r ∷ [])) a ≡ refused t → eqb (t .number) n ≡ true → Clear before × (wrong ≡ true) × (t ≡ r)
