@@ -1,4 +1,5 @@
 -- The proofs of the demands.
+pub mod CasesLaws
 pub mod RulesLaws
 pub mod LeavesLaws
 pub mod Demand1Laws

@@ -1,4 +1,5 @@
 -- The demands on the library, as statements over the definitions that the contracts cite.
+pub mod Cases
 pub mod Rules
 pub mod Leaves
 pub mod Demand1
