@@ -1,4 +1,4 @@
--- Demand 1 from the laws of rules (`reading-by`, `begin-by`, `writing-by`), of 24 (`opened-belongs`, `none-belongs`) and of runs (`run-exact`,
+-- Demand 1 from the laws of rules (`reading-by`, `begin-by`, `writing-by`), of what calls leave (`opening-leaves` and its like), of 24 (`opened-belongs`, `none-belongs`) and of runs (`run-exact`,
 -- `run-spent`, `run-refused`). Every reading and writing call judges 24 first, so it answers 24 where the record does not belong, and where it does, no
 -- check behind tells 24. Assumes nothing.
 use mathlib.Core.Path.{_≡_, refl, sym, ap, _∙_}
@@ -38,6 +38,7 @@ use Rattle.aff_run.proofs.CutLaws.{make-stores, put-tells, close-tells, begun-t
 use Rattle.aff_run.proofs.ExactLaws.{run-exact, run-spent, run-refused}
 use Rattle.aff_run.proofs.HeldLaws.{run-held}
 use Rattle.aff.specs.Demand1.{NotBy, Is24, Not24, EachReading, EachWriting, Numbered, toldBy, Demand1}
+use Rattle.aff.proofs.LeavesLaws.{opening-leaves, reading-leaves, begin-leaves, writing-leaves}
 use Rattle.aff.proofs.RulesLaws.{opening-by, decode-by, reading-by, begin-by, writing-by}
 
 -- ---- Checks that tell other numbers.
@@ -211,6 +212,10 @@ demand1 =
       decode = decode-by;
       begin = begin-by;
       writing = writing-by;
+      opening-leaves = opening-leaves;
+      reading-leaves = reading-leaves;
+      begin-leaves = begin-leaves;
+      writing-leaves = writing-leaves;
       reading-24 = reads-24;
       writing-24 = writes-24;
       opened-reads = λ image form strings entries h.

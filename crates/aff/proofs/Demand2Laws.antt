@@ -5,7 +5,7 @@ use mathlib.Core.Path.{_≡_, refl, sym, ap, subst, _∙_}
 use mathlib.Core.Bool.{Bool, true, false, cond, not, true≢false}
 use mathlib.Core.List.{List, [], _∷_}
 use mathlib.Core.Logic.{_↔_}
-use Prim.Native.Nat.{ℕ, zero, suc, _*_, _≤_, _<_}
+use Prim.Native.Nat.{ℕ, zero, suc, _+_, _*_, _≤_, _<_}
 use native.Mathlib.Numerals.{add-one}
 use native.Mathlib.Omega.{arith}
 use lib.Dec.{eqb, ltb}
@@ -37,15 +37,17 @@ use Rattle.aff_open.proofs.FaultLaws.{refused-first, first-refused}
 use Rattle.aff_open.proofs.ObeysLaws.{accepted-obeys, obeys-accepted, edition-found, strings-found, entries-found}
 use Rattle.aff_open.proofs.OpenedLaws.{OpenedShape, opened-shape, opened-belongs}
 use Rattle.aff_read.specs.Answers.{nameAnswer, kindAnswer, countAnswer, viewAnswer, elementAnswer}
-use Rattle.aff_read.specs.Calls.{editionBy, found, lookupAnswer, pathAnswer, preorder, order}
+use Rattle.aff_read.specs.Calls.{editionBy, found, lookupAnswer, pathAnswer, preorder, order, listingAnswer}
+use Rattle.aff_read.specs.Lookup.{NoneWith, OnlyWith}
 use Rattle.aff_read.specs.Recall.{kindAt, parentAt, nameAt, nameSpan, dataSpan, spanBytes, bytesAt, pathAt}
-use Rattle.aff_read.proofs.CasesLaws.{cases-hold}
 use Rattle.aff_read.proofs.FrontLaws.{name-bytes}
+use Rattle.aff_read.proofs.ListingLaws.{preorder-same}
 use Rattle.aff_read.proofs.LookupLaws.{lookup-malformed, lookup-accepts, lookup-absent}
 use Rattle.aff_read.proofs.OnceLaws.{order-once, order-only, order-length}
 use Rattle.aff_read.proofs.UniqueLaws.{lookup-only, lookup-path}
 use Rattle.aff_run.specs.Shows.{PartIs, Absent}
-use Rattle.aff.specs.Demand2.{dataNamed, Reads, itsEntry, itsName, itsPath, ReadsFile, Demand2}
+use Rattle.aff.specs.Demand2.{dataNamed, Reads, itsEntry, itsName, itsParent, itsPath, ItsNode, NoNode, ReadsFile, Demand2}
+use Rattle.aff.proofs.CasesLaws.{cases-hold}
 use Rattle.aff.proofs.Demand1Laws.{others-not}
 
 -- ---- What is read with a record that belongs.
@@ -130,6 +132,9 @@ module _ (image : List ℕ) (r : Reader) (strings entries : List ℕ) (b : Belon
 
 -- ---- What is read right after an accepted opening.
 
+both : {A B C : Type 0} → A ↔ B → B ↔ C → A ↔ C
+both (f, g) (h, k) = (λ a. h (f a), λ c. g (k c))
+
 module _ (image form strings entries : List ℕ) {r : Reader} (h : opened image form (length strings) (length entries) ≡ accepted r) (file : Obeys image form) where
   abbrev ss : List ℕ
   ss = stringsAfter image form strings entries
@@ -175,12 +180,46 @@ module _ (image form strings entries : List ℕ) {r : Reader} (h : opened image 
       (shape .strings-are (itsEntry file node .string) (omega (arith, strings-count, file .string node lo (omega (arith, nodes-count))))
       ∙ ap (λ (x : List (List ℕ)). getD x (itsEntry file node .string) []) strings-are)
 
+  parent-is : (node : ℕ) → node ≤ r .nodes → parentAt image es node ≡ itsParent file node
+  parent-is node l = ap (λ (e : Entry). e .parent) (entry-is node l)
+
   path-is : (node : ℕ) → node ≤ r .nodes → pathAt image r ss es node ≡ itsPath file node
   path-is node l =
       ap (λ (f : List ℕ). cond (eqb node 0) (47 ∷ []) f)
-      (front-same (parentAt image es) (λ k. itsEntry file k .parent) (nameAt image r ss es) (itsName file) (r .nodes)
-      (λ k lo hi. ap (λ (e : Entry). e .parent) (entry-is k hi)) name-is (shown .parent-exists) (r .nodes) node l
-      ∙ ap (λ (steps : ℕ). frontBy (λ k. itsEntry file k .parent) (itsName file) steps node) nodes-count)
+      (front-same (parentAt image es) (itsParent file) (nameAt image r ss es) (itsName file) (r .nodes)
+      (λ k lo hi. parent-is k hi) name-is (shown .parent-exists) (r .nodes) node l
+      ∙ ap (λ (steps : ℕ). frontBy (itsParent file) (itsName file) steps node) nodes-count)
+
+  -- A node with a path, by the areas and by the file.
+  its-node : (path : List ℕ) (n : ℕ) → OnlyWith image r ss es path n ↔ ItsNode file path n
+  its-node path n = (
+    λ o. record {
+      exists = rw (sym nodes-count) (o .exists);
+      has = sym (path-is n (o .exists)) ∙ o .has;
+      only = λ k l e. let here : k ≤ r .nodes = omega (arith, nodes-count) in o .only k here (path-is k here ∙ e);
+    },
+    λ o. let there : n ≤ r .nodes = omega (arith, nodes-count, o .exists) in record {
+      exists = there;
+      has = path-is n there ∙ o .has;
+      only = λ k l e. o .only k (omega (arith, nodes-count)) (sym (path-is k l) ∙ e);
+    },
+  )
+
+  no-node : (path : List ℕ) → NoneWith image r ss es path ↔ NoNode file path
+  no-node path = (
+    λ o k l e. let here : k ≤ r .nodes = omega (arith, nodes-count) in o k here (path-is k here ∙ e),
+    λ o k l e. o k (omega (arith, nodes-count)) (sym (path-is k l) ∙ e),
+  )
+
+  -- Listing order by the file's parents.
+  order-is : order image r ss es ≡ preorder (itsParent file) (length (file .entries) + 1) (length (file .entries) + 1) 0
+  order-is =
+      preorder-same (parentAt image es) (itsParent file) (r .nodes + 1) (r .nodes + 1) 0 (λ k lo hi. parent-is k (omega arith))
+      ∙ ap (λ (n : ℕ). preorder (itsParent file) (n + 1) (n + 1) 0) nodes-count
+
+  listing-is : (room : ℕ) → length (file .entries) < room → listingAnswer image r ss es room ≡ accepted (length (file .entries) + 1)
+  unfolding listingAnswer
+  listing-is room l = rw (record-belongs shown, nodes-count, le-ltb room (length (file .entries) + 1) (omega arith))
 
   reads-others : (n : ℕ) → r .nodes < n → Absent image r ss es n
   unfolding nameAnswer kindAnswer countAnswer viewAnswer elementAnswer pathAnswer
@@ -213,9 +252,12 @@ module _ (image form strings entries : List ℕ) {r : Reader} (h : opened image 
             (entry-is node l) (element-read image r ss es shown node l index);
         path = path-is;
         others = reads-others;
-        lookup = λ path w. lookup-only image form strings entries h path (formed w);
-        lookup-absent = λ path w. lookup-absent image r ss es path shown (formed w);
+        lookup-malformed = λ path. rw (← edition-is) (malformed image r ss es shown path);
+        lookup = λ path w n. both (lookup-only image form strings entries h path (formed w) n) (its-node path n);
+        lookup-absent = λ path w. both (lookup-absent image r ss es path shown (formed w)) (no-node path);
         lookup-path = λ node l. rw (sym (path-is node l)) (lookup-path image form strings entries h node l);
+        listing = listing-is;
+        listing-order = order-is;
       }
 
 -- ---- The demand.

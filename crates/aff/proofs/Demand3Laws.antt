@@ -1,4 +1,4 @@
--- Demand 3 from the laws of runs: the tree by `run-shows`, the kill by `run-shape`, since a room with a zero at place 0 is refused by 3. A begin
+-- Demand 3 from the laws of runs: the tree by `closed-shows` and `run-holds`, the kill by `run-shape`, since a room with a zero at place 0 is refused by 3. A begin
 -- that is refused stores nothing. Assumes nothing.
 use mathlib.Core.Path.{_≡_, refl, sym, ap, _∙_, subst}
 use mathlib.Core.Bool.{true, false, not, _||_, true≢false}
@@ -12,24 +12,28 @@ use Rattle.aff_format.specs.Answer.{Answer, accepted, refused, refusal}
 use Rattle.aff_format.specs.Edition.{signatureText}
 use Rattle.aff_format.specs.Bytes.{sameBytes}
 use Rattle.aff_format.specs.Limits.{imageLimit, stringLimit, nodeLimit}
+use Rattle.aff_format.specs.Tree.{Tree}
 use Rattle.aff_open.specs.Opening.{openChecks, opened}
 use Rattle.aff_open.specs.Sections.{textEdition, isKnown}
+use Rattle.aff_open.specs.declared.reader.Reader.{Reader}
 use Rattle.aff_open.proofs.FaultLaws.{lent-asks}
 use Rattle.aff_write.specs.Begin.{beginAnswer}
 use Rattle.aff_write.specs.Stores.{Store, applyStores, storesFrom}
 use Rattle.aff_write.specs.Writer.{dataPlace}
 use Rattle.aff_write.proofs.StoreLaws.{apply-append, apply-length}
-use Rattle.aff_run.specs.Described.{sizeOf}
+use Rattle.aff_run.specs.Described.{notVoid, sizeOf}
 use Rattle.aff_run.specs.Run.{Call, State, next, begun, storesOf, answersOf, runAnswers, runStores, runState, afterBegin, described, closedBy}
 use Rattle.aff_run.specs.Shows.{Shows}
 use Rattle.aff_run.proofs.BeginGoodLaws.{begin-good, begin-form, begin-stores}
 use Rattle.aff_run.proofs.BeginRefusedLaws.{none-run, none-closed}
+use Rattle.aff_run.proofs.ClosedLaws.{closed}
 use Rattle.aff_run.proofs.CutLaws.{cut-run-stores, cut-run-room, cut-begin, cut-run-answers-before, cut-begin-out, cut-run-answer-out}
 use Rattle.aff_run.proofs.GoodLaws.{Good}
 use Rattle.aff_run.proofs.PlaceLaws.{Behind, Shaped, behind-first, shaped-take, run-shape}
-use Rattle.aff_run.proofs.RunLaws.{run-shows}
+use Rattle.aff_run.proofs.RunLaws.{run-holds}
+use Rattle.aff_run.proofs.ShownLaws.{closed-shows, closed-counts}
 use Rattle.aff_run.proofs.TurnLaws.{run-room}
-use Rattle.aff.specs.Demand3.{roomAt, Killed, KilledAt, Demand3, Cut, Demand3Cut}
+use Rattle.aff.specs.Demand3.{roomAt, Killed, KilledAt, Demand3, Cut, Demand3Cut, DataCounted}
 
 -- ---- A room with a zero at place 0.
 
@@ -65,6 +69,10 @@ nothing-killed room form stores calls answers last k e z l le =
 
 -- ---- A begin that is accepted.
 
+-- Opening reports the number of nodes that are not Void.
+abbrev Counted : List ℕ → List ℕ → Tree → Type 0
+Counted image form tree = (r : Reader) → opened image form stringLimit nodeLimit ≡ accepted r → r .records ≡ notVoid tree
+
 module _ (room form text tree : List ℕ) (allowance : ℕ) (calls : List Call) {n : ℕ} (h : beginAnswer room form text tree allowance ≡ accepted n) where
   abbrev s : State
   s = afterBegin room form text tree allowance calls
@@ -85,12 +93,20 @@ module _ (room form text tree : List ℕ) (allowance : ℕ) (calls : List Call) 
       let f : length form ≡ 12 = ap length (sym (begin-form room form text tree allowance h)) ∙ good .form-length in
       (omega (arith, good .fits, good .room-length), omega (arith, good .room-length, good .room-allowed), f)
 
-  all-shown : closedBy calls answers ≡ true → Shows (applyStores room all) form (described [] calls answers)
-  all-shown c =
+  -- What holds of each closed room holds of the room after all stores.
+  all-holds : (P : List ℕ → List ℕ → Tree → Type 0) → ((s : State) (tree : Tree) (g : Good s tree) → P (closed s tree g) (s .writer .form) tree)
+      → closedBy calls answers ≡ true → P (applyStores room all) form (described [] calls answers)
+  all-holds P closes c =
       let b = begun room form text tree allowance .stores in
       let shown = described [] calls answers in
-      subst (λ (f : List ℕ). Shows (applyStores room all) f shown) (begin-form room form text tree allowance h)
-      (subst (λ (r : List ℕ). Shows r (s .writer .form) shown) (sym (apply-append room b (storesOf s calls))) (run-shows calls s [] good c))
+      subst (λ (f : List ℕ). P (applyStores room all) f shown) (begin-form room form text tree allowance h)
+      (subst (λ (r : List ℕ). P r (s .writer .form) shown) (sym (apply-append room b (storesOf s calls))) (run-holds P closes calls s [] good c))
+
+  all-shown : closedBy calls answers ≡ true → Shows (applyStores room all) form (described [] calls answers)
+  all-shown = all-holds Shows closed-shows
+
+  all-counted : closedBy calls answers ≡ true → Counted (applyStores room all) form (described [] calls answers)
+  all-counted = all-holds Counted closed-counts
 
   all-is : all ≡ record { at = 0; byte = 0 } ∷ storesOf s calls
   all-is = ap (λ (b : List Store). b ++ storesOf s calls) (begin-stores room form text tree allowance h)
@@ -145,3 +161,12 @@ demand3-cut room form text tree allowance calls k =
       begin-out = cut-begin-out room form text tree allowance k;
       answer-out = λ before after c e l m. rw e (cut-run-answer-out room form text tree allowance before after c k l m);
     }
+
+counted-by : (a : Answer ℕ) (room form text tree : List ℕ) (allowance : ℕ) (calls : List Call) → beginAnswer room form text tree allowance ≡ a
+    → closedBy calls (runAnswers room form text tree allowance calls) ≡ true
+    → Counted (runState room form text tree allowance calls .room) form (described [] calls (runAnswers room form text tree allowance calls))
+counted-by (accepted n) room form text tree allowance calls h c = rw (run-room room form text tree allowance calls) (all-counted room form text tree allowance calls h c)
+counted-by (refused t) room form text tree allowance calls h c = absurd (true≢false (sym c ∙ none-closed room form text tree allowance t h calls))
+
+pub data-counted : DataCounted
+data-counted room form text tree allowance calls c = counted-by (beginAnswer room form text tree allowance) room form text tree allowance calls refl c

@@ -1,5 +1,7 @@
 -- The proofs of the demands.
+pub mod CasesLaws
 pub mod RulesLaws
+pub mod LeavesLaws
 pub mod Demand1Laws
 pub mod Demand2Laws
 pub mod Demand3Laws

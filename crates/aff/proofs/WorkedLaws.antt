@@ -42,7 +42,7 @@ use Rattle.aff_run.proofs.MakeGoodLaws.{made-good}
 use Rattle.aff_run.proofs.PutGoodLaws.{put-good}
 use Rattle.aff_run.proofs.RunLaws.{turn-form, close-told, make-answer, put-answer}
 use Rattle.aff.specs.Demand3.{roomAt}
-use Rattle.aff.specs.Worked.{workedForm, nameA, nameN, minusSeventy, workedCalls, workedTree, workedFile, WorkedRun, Worked, voidTree, ShorterRun, OneShorter, NoSubkey}
+use Rattle.aff.specs.Worked.{workedForm, nameA, nameN, minusSeventy, workedCalls, workedTree, workedFile, WorkedRun, Worked, voidTree, ShorterRun, OneShorter}
 use Rattle.aff.proofs.Demand3Laws.{demand3}
 use Rattle.aff.proofs.WorkedSums.{symbols-digest, entries-digest, data-digest, workedFront, header-digest}
 
@@ -219,17 +219,6 @@ module _ (room text tree : List ℕ) (begins puts closes : ℕ) (r : length room
 
 pub worked-213 : OneShorter
 worked-213 = shorter
-
--- ---- (P5) for make.
-
-expected-9a : (room : ℕ) → expected room false [] (make 0 (57 ∷ 97 ∷ []) ∷ []) ≡ refused (refusal 14) ∷ []
-unfolding narrowFirst subkeyFrom
-expected-9a room = refl
-
-pub no-subkey : NoSubkey
-no-subkey room form text tree allowance n h =
-    let cs = make 0 (57 ∷ 97 ∷ []) ∷ [] in
-    exact-is cs (length room) false [] (runAnswers room form text tree allowance cs) refl (run-exact room form text tree allowance cs h) ∙ expected-9a (length room)
 
 -- ---- The worked run.
 

@@ -2,8 +2,8 @@
 -- what it is lent and meets its contract for every input is what the prover proves of it; each contract is an equation with a definition of
 -- specs/. This file says of those definitions: each call is accepted exactly when its rules hold, in document 01's order, and else refused by the
 -- first that fails, for every record, everything lent and every argument, altered or not (`By` and the rules are in Rules.antt, opening's in
--- crates/aff_open/specs/Faults.antt); when the numbers 24 and 22 come at all; and that in a run a writer's answers are decided by the tree that the calls
--- describe. So a writer that refuses every call cannot pass.
+-- crates/aff_open/specs/Faults.antt); what it then leaves in record, areas, room and output (Leaves.antt); when the numbers 24 and 22 come at all; and that
+-- in a run a writer's answers are decided by the tree that the calls describe. So a writer that refuses every call cannot pass.
 use mathlib.Core.Path.{_≡_}
 use mathlib.Core.Bool.{Bool, true, false, _||_}
 use mathlib.Core.List.{List, [], _∷_}
@@ -32,6 +32,7 @@ use Rattle.aff_write.specs.declared.writer.Writer.{Writer}
 use Rattle.aff_run.specs.Exact.{Exact, AllWrongRecord, stops}
 use Rattle.aff_run.specs.Held.{Held}
 use Rattle.aff_run.specs.Run.{Call, make, put, close, State, begun, turn, runAnswers, runStores, runState, described}
+use Rattle.aff.specs.Leaves.{OpeningLeaves, ReadingLeaves, BeginLeaves, WritingLeaves}
 use Rattle.aff.specs.Rules.{By, Is, decodeRules, ReadingByRules, beginRules, WritingByRules}
 
 -- An answer is no refusal by this number.
@@ -87,6 +88,11 @@ pub record Demand1 : Type 0 where
   pub begin : (room form text tree : List ℕ) (allowance : ℕ)
       → By (beginRules room form text tree allowance) (Is 1) (beginAnswer room form text tree allowance)
   pub writing : (room : List ℕ) (w : Writer) (text tree : List ℕ) → WritingByRules room w text tree
+  -- What each call leaves in the caller's memory, by its answer.
+  pub opening-leaves : (image form strings entries : List ℕ) → OpeningLeaves image form strings entries
+  pub reading-leaves : (image : List ℕ) (r : Reader) (strings entries : List ℕ) → ReadingLeaves image r strings entries
+  pub begin-leaves : (room form text tree : List ℕ) (allowance : ℕ) → BeginLeaves room form text tree allowance
+  pub writing-leaves : (s : State) (c : Call) → WritingLeaves s c
   -- So 24 comes exactly when the record does not belong to what is lent.
   pub reading-24 : (image : List ℕ) (r : Reader) (strings entries : List ℕ)
       → EachReading (λ A answer. Is24 A answer ↔ (ReaderBelongs image r strings entries → ⊥)) image r strings entries

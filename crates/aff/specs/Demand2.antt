@@ -26,12 +26,12 @@ use Rattle.aff_open.specs.Opening.{opened, stringsAfter, entriesAfter}
 use Rattle.aff_open.specs.Recorded.{recordedEntry}
 use Rattle.aff_open.specs.declared.reader.Reader.{Reader}
 use Rattle.aff_read.specs.Answers.{nameAnswer, kindAnswer, countAnswer, viewAnswer, elementAnswer}
-use Rattle.aff_read.specs.Calls.{editionBy, lookupAnswer, order}
-use Rattle.aff_read.specs.Cases.{AllHold, caseTable}
-use Rattle.aff_read.specs.Lookup.{LowestWith, NoneWith, OnlyWith}
+use Rattle.aff_read.specs.Calls.{editionBy, lookupAnswer, preorder, order, listingAnswer}
+use Rattle.aff_read.specs.Lookup.{LowestWith, NoneWith}
 use Rattle.aff_read.specs.Once.{occurrences}
 use Rattle.aff_read.specs.Recall.{nameAt, pathAt}
 use Rattle.aff_run.specs.Shows.{PartIs, Absent}
+use Rattle.aff.specs.Cases.{EachHolds, caseTable}
 
 -- The bytes that an entry names: its count of elements, from its offset on; none where it is Void.
 abbrev pub dataNamed : List ℕ → Entry → List ℕ
@@ -69,8 +69,20 @@ module _ {image form : List ℕ} (file : Obeys image form) where
   abbrev pub itsName : ℕ → List ℕ
   itsName node = getD (file .strings) (itsEntry node .string) []
 
+  abbrev pub itsParent : ℕ → ℕ
+  itsParent node = itsEntry node .parent
+
   abbrev pub itsPath : ℕ → List ℕ
-  itsPath node = pathBy (λ k. itsEntry k .parent) itsName (length (file .entries)) node
+  itsPath node = pathBy itsParent itsName (length (file .entries)) node
+
+  -- Node n, and no other, has the path; no node has it.
+  pub record ItsNode (path : List ℕ) (n : ℕ) : Type 0 where
+    pub exists : n ≤ length (file .entries)
+    pub has : itsPath n ≡ path
+    pub only : (k : ℕ) → k ≤ length (file .entries) → itsPath k ≡ path → k ≡ n
+
+  abbrev pub NoNode : List ℕ → Type 0
+  NoNode path = (k : ℕ) → k ≤ length (file .entries) → itsPath k ≡ path → ⊥
 
   -- What is read right after an accepted opening: the file's own strings and entries, as `Obeys` has them.
   pub record ReadsFile (r : Reader) (strings entries : List ℕ) : Type 0 where
@@ -85,13 +97,15 @@ module _ {image form : List ℕ} (file : Obeys image form) where
     pub path : (node : ℕ) → node ≤ r .nodes → pathAt image r strings entries node ≡ itsPath node
     -- Every other number is 15.
     pub others : (n : ℕ) → r .nodes < n → Absent image r strings entries n
-    -- For a well-formed path lookup answers n exactly when n is the one node with that path, and 15 exactly when no node has it. So it finds each node
-    -- by its path.
-    pub lookup : (path : List ℕ) → WellFormed (file .edition) path → (n : ℕ)
-        → (lookupAnswer image r strings entries path ≡ accepted n) ↔ OnlyWith image r strings entries path n
-    pub lookup-absent : (path : List ℕ) → WellFormed (file .edition) path
-        → (lookupAnswer image r strings entries path ≡ refused (refusal 15)) ↔ NoneWith image r strings entries path
+    -- Lookup answers 14 exactly when the path is malformed in the file's edition. For a well-formed one it answers n exactly when n is the one node with that
+    -- path, and 15 exactly when no node has it. So it finds each node by its path.
+    pub lookup-malformed : (path : List ℕ) → (lookupAnswer image r strings entries path ≡ refused (refusal 14)) ↔ (WellFormed (file .edition) path → ⊥)
+    pub lookup : (path : List ℕ) → WellFormed (file .edition) path → (n : ℕ) → (lookupAnswer image r strings entries path ≡ accepted n) ↔ ItsNode path n
+    pub lookup-absent : (path : List ℕ) → WellFormed (file .edition) path → (lookupAnswer image r strings entries path ≡ refused (refusal 15)) ↔ NoNode path
     pub lookup-path : (node : ℕ) → node ≤ r .nodes → lookupAnswer image r strings entries (itsPath node) ≡ accepted node
+    -- Listing order: the root, then its children in number order, each followed by its subtree, by the file's own parents.
+    pub listing : (room : ℕ) → length (file .entries) < room → listingAnswer image r strings entries room ≡ accepted (length (file .entries) + 1)
+    pub listing-order : order image r strings entries ≡ preorder itsParent (length (file .entries) + 1) (length (file .entries) + 1) 0
 
 pub record Demand2 : Type 0 where
   -- Opening accepts an image of bytes, with areas of 2,048 numbers, exactly when it obeys the format.
@@ -108,4 +122,4 @@ pub record Demand2 : Type 0 where
   -- Whatever a record belongs to is read so.
   pub reads : (image : List ℕ) (r : Reader) (strings entries : List ℕ) → Belongs image r strings entries → Reads image r strings entries
   -- Document 01's table of cases, P1 to P10.
-  pub cases : AllHold caseTable
+  pub cases : EachHolds caseTable

@@ -7,11 +7,13 @@ use mathlib.Core.Bool.{true}
 use mathlib.Core.List.{List, [], _∷_, _++_}
 use Prim.Native.Nat.{ℕ, _-_, _≤_, _<_, min}
 use lib.ListN.{length, take, drop}
-use Rattle.aff_format.specs.Answer.{Answer, refused, refusal, refusalAt}
+use Rattle.aff_format.specs.Answer.{Answer, accepted, refused, refusal, refusalAt}
 use Rattle.aff_format.specs.Limits.{stringLimit, nodeLimit}
 use Rattle.aff_open.specs.Opening.{opened}
+use Rattle.aff_open.specs.declared.reader.Reader.{Reader}
 use Rattle.aff_write.specs.Stores.{Store, applyStores}
 use Rattle.aff_run.specs.Cut.{cutCalls, cutAnswers, cutStores}
+use Rattle.aff_run.specs.Described.{notVoid}
 use Rattle.aff_run.specs.Run.{Call, begun, runAnswers, runStores, runState, described, closedBy}
 use Rattle.aff_run.specs.Shows.{Shows}
 
@@ -60,3 +62,11 @@ pub record Cut (room form text tree : List ℕ) (allowance : ℕ) (calls : List 
 
 abbrev pub Demand3Cut : Type 0
 Demand3Cut = (room form text tree : List ℕ) (allowance : ℕ) (calls : List Call) (k : ℕ) → Cut room form text tree allowance calls k
+
+-- The data header's record count of a closed file, as opening reports it, is the number of nodes that are not Void: document 01, 'Layout of a file'. It is said
+-- of every run with an accepted close.
+abbrev pub DataCounted : Type 0
+DataCounted = (room form text tree : List ℕ) (allowance : ℕ) (calls : List Call)
+    → closedBy calls (runAnswers room form text tree allowance calls) ≡ true
+    → (r : Reader) → opened (runState room form text tree allowance calls .room) form stringLimit nodeLimit ≡ accepted r
+    → r .records ≡ notVoid (described [] calls (runAnswers room form text tree allowance calls))

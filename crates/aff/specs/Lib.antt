@@ -1,5 +1,7 @@
 -- The demands on the library, as statements over the definitions that the contracts cite.
+pub mod Cases
 pub mod Rules
+pub mod Leaves
 pub mod Demand1
 pub mod Demand2
 pub mod Demand3

@@ -97,9 +97,3 @@ module _ (room text tree : List ℕ) (begins puts closes : ℕ) where
 abbrev pub OneShorter : Type 0
 OneShorter = (room text tree : List ℕ) (begins puts closes : ℕ) → length room ≡ 213 → length text ≡ textArea → length tree ≡ treeArea
     → 1 ≤ begins → 198 ≤ closes → ShorterRun room text tree begins puts closes
-
--- ---- (P5) of document 01's cases, for make: behind every accepted begin a child `9a` is 14. (For a path it is in crates/aff_read/specs/Cases.antt.)
-
-abbrev pub NoSubkey : Type 0
-NoSubkey = (room form text tree : List ℕ) (allowance n : ℕ) → beginAnswer room form text tree allowance ≡ accepted n
-    → runAnswers room form text tree allowance (make 0 (57 ∷ 97 ∷ []) ∷ []) ≡ refused (refusal 14) ∷ []

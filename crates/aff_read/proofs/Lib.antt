@@ -8,7 +8,6 @@ pub mod WriteLaws
 pub mod FitLaws
 pub mod StepLaws
 pub mod LookupLaws
-pub mod CasesLaws
 pub mod WrittenLaws
 pub mod ListingLaws
 pub mod OnceLaws

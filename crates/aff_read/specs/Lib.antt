@@ -6,4 +6,3 @@ pub mod Lookup
 pub mod Fit
 pub mod Written
 pub mod Once
-pub mod Cases

@@ -34,7 +34,7 @@ module _ (room form text tree : List ℕ) (allowance : ℕ) (t : Told) (h : begi
       let z : t .place ≡ 0 = omega (arith, q .1, ap (λ (x : Told). x .place) (q .2)) in
       rw z
 
-  none-stored : begun room form text tree allowance .stores ≡ []
+  pub none-stored : begun room form text tree allowance .stores ≡ []
   unfolding begun
   none-stored = rw h (no-stores (eqb (t .number) 23) refl)
 

@@ -39,10 +39,10 @@ use Rattle.aff_write.specs.Header.{sectionHeader, headerFront, withSum}
 use Rattle.aff_write.specs.Stores.{Store, applyStores, storesFrom}
 use Rattle.aff_write.specs.Writer.{dataPlace}
 use Rattle.aff_write.proofs.StoreLaws.{apply-append, apply-length, apply-spliced}
-use Rattle.aff_run.specs.Described.{namesOf, dataSize, entriesSize, sizeOf}
+use Rattle.aff_run.specs.Described.{namesOf, dataSize, entriesSize, notVoid, sizeOf}
 use Rattle.aff_run.specs.Run.{State}
 use Rattle.aff_run.proofs.SlotsLaws.{Storables, storables-at}
-use Rattle.aff_run.proofs.GoodLaws.{Stored, Good, used-text, names-in, entries-in, count-same, stored-in, storables, clean, sizes-in-bytes}
+use Rattle.aff_run.proofs.GoodLaws.{Stored, Good, used-text, names-in, entries-in, count-same, stored-in, storables, clean, sizes-in-bytes, not-void-few, data-nodes-in}
 
 -- A header stored from its byte 1 on, and last its first byte.
 header-stored : (h l : List ℕ) → 1 ≤ length h → length h ≤ length l → spliced 0 (take 1 h) (spliced 1 (drop 1 h) l) ≡ h ++ drop (length h) l
@@ -231,6 +231,15 @@ module _ (s : State) (tree : Tree) (g : Good s tree) where
       number 11 120 (length stored) (simp (length-signatureText, length-beBytes, length-md5) (omega (arith, g .form-length))) refl
       (omega (arith, fits, short, length-stored))
       ∙ length-stored
+
+  -- The data header counts the nodes that are not Void.
+  pub data-records : sectionRecords Two Data closed ≡ notVoid tree
+  unfolding sectionRecords pieces
+  data-records =
+      let few : notVoid tree ≤ length tree = not-void-few tree in
+      number 12 128 (dataNodes (s .tree) (length tree)) (simp (length-signatureText, length-beBytes, length-md5) (omega (arith, g .form-length))) refl
+      (omega (arith, g .nodes-few, few, data-nodes-in s tree g))
+      ∙ data-nodes-in s tree g
 
   data-sum : sectionSum Two Data closed ≡ md5 stored
   unfolding pieces

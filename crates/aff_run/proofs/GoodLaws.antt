@@ -1,13 +1,14 @@
 -- What holds between the calls of a run while the writer is live: the record and the two areas are those of the tree described so far, and
 -- the data that the nodes have stand in the room. From it what the writer reads in its areas, and that the record belongs. Assumes nothing.
 use mathlib.Core.Path.{_≡_, refl, sym, ap, _∙_}
-use mathlib.Core.Bool.{Bool, true, false}
+use mathlib.Core.Bool.{Bool, true, false, cond}
 use mathlib.Core.List.{List, [], _∷_, _++_}
 use Prim.Native.Nat.{ℕ, zero, suc, _+_, _-_, _*_, _^_, _≤_, _<_}
+use native.Mathlib.Nat.{zero-add}
 use native.Mathlib.Numerals.{one-add}
 use native.Mathlib.Omega.{arith}
 use lib.ListN.{length, getD, take, drop, replicate, length-append}
-use lib.Seq.{take-at, drop-at}
+use lib.Seq.{take-at, drop-at, take-suc, take-length}
 use Rattle.aff_format.specs.Bytes.{part, EachWithout}
 use Rattle.aff_format.specs.Element.{countIn}
 use Rattle.aff_format.specs.Entry.{entryBytes, Storable}
@@ -25,10 +26,10 @@ use Rattle.aff_format.proofs.StringsLaws.{stringsOf-textOf, endsInZero-textOf}
 use Rattle.aff_format.proofs.SubkeyLaws.{subkey-no-zero}
 use Rattle.aff_open.specs.Nodes.{noEntry, nodeEntry}
 use Rattle.aff_open.specs.Tables.{treeBytes}
-use Rattle.aff_write.specs.Areas.{usedText, namesIn, foundSlot, slotEntry, nameOf, entrySizes, entriesOut, finishedSize}
+use Rattle.aff_write.specs.Areas.{usedText, namesIn, foundSlot, slotEntry, nameOf, entrySizes, entriesOut, dataNodes, finishedSize}
 use Rattle.aff_write.specs.Belongs.{Belongs}
 use Rattle.aff_write.specs.Writer.{written, dataPlace}
-use Rattle.aff_run.specs.Described.{namesOf, dataSize, entriesSize, sizeOf}
+use Rattle.aff_run.specs.Described.{namesOf, dataSize, entriesSize, notVoid, sizeOf}
 use Rattle.aff_run.specs.Run.{State}
 use Rattle.aff_run.proofs.SlotsLaws.{slotsOf, Storables, length-slotsOf, slot-found, slot-entry, entries-out, sizes-are}
 
@@ -156,6 +157,22 @@ module _ (names : List (List ℕ)) (room : List ℕ) (size : ℕ) where
       length-append (entryBytes e) (treeBytes es)
       ∙ rw (length-entryBytes e, h .0 .kind-is, each-sizes (suc i) es ts (h .1))
 
+-- ---- Nodes that are not Void.
+
+not-void-append : (a b : Tree) → notVoid (a ++ b) ≡ notVoid a + notVoid b
+unfolding notVoid
+not-void-append [] b = sym (zero-add (notVoid b))
+not-void-append (t ∷ a) b = omega (arith, not-void-append a b)
+
+one-more : (b : Bool) (n m : ℕ) → n ≤ m → cond b 0 1 + n ≤ suc m
+one-more true n m h = omega arith
+one-more false n m h = omega arith
+
+pub not-void-few : (tree : Tree) → notVoid tree ≤ length tree
+unfolding notVoid
+not-void-few [] = omega arith
+not-void-few (t ∷ ts) = one-more (isVoid (t .kind)) (notVoid ts) (length ts) (not-void-few ts)
+
 -- ---- What the writer reads in its areas.
 
 names-clean : (names : List (List ℕ)) → Subkeys written names → EachWithout 0 names
@@ -193,6 +210,22 @@ module _ (s : State) (tree : Tree) (g : Good s tree) where
 
   pub entries-in : entriesOut (s .tree) (s .writer .nodes) ≡ treeBytes (g .entries)
   entries-in = rw (g .nodes-count, ← count-same, g .tree-is) (entries-out (g .entries) (g .tree-rest) storables)
+
+  -- The nodes that are not Void.
+  void-in : (k : ℕ) → k < length tree → isVoid (slotEntry (s .tree) (k + 1) .kind) ≡ isVoid (getD tree k root .kind)
+  void-in k h =
+      let e : k + 1 ≡ suc k = omega arith in
+      rw e (ap (λ (x : Entry). isVoid (x .kind)) (entry-in (suc k) (omega arith)) ∙ ap isVoid (stored-in (suc k) (omega arith) (omega arith) .kind-is))
+
+  data-nodes-to : (n : ℕ) → n ≤ length tree → dataNodes (s .tree) n ≡ notVoid (take n tree)
+  unfolding dataNodes notVoid
+  data-nodes-to zero h = refl
+  data-nodes-to (suc n) h =
+      rw (take-suc tree n root (omega arith), not-void-append (take n tree) (getD tree n root ∷ []), void-in n (omega arith))
+      (omega (arith, data-nodes-to n (omega arith)))
+
+  pub data-nodes-in : dataNodes (s .tree) (length tree) ≡ notVoid tree
+  data-nodes-in = data-nodes-to (length tree) (omega arith) ∙ ap notVoid (take-length tree)
 
   -- The bytes of the entries in a file.
   pub sizes-in-bytes : length (treeBytes (g .entries)) ≡ entriesSize tree

@@ -1,4 +1,4 @@
--- Calls that go on from a good state: where a close is accepted among them, the room behind all their stores shows the tree that they describe.
+-- Calls that go on from a good state: where a close is accepted among them, the room after all their stores has whatever each closed room has.
 -- By induction on the calls, and for each call by its answer. Assumes nothing.
 use mathlib.Core.Path.{_≡_, refl, sym, ap, _∙_, subst}
 use mathlib.Core.Bool.{Bool, true, false, cond, not, _&&_, _||_, true≢false}
@@ -20,12 +20,10 @@ use Rattle.aff_write.specs.Writer.{stopped, writerAfter}
 use Rattle.aff_write.specs.declared.writer.Writer.{Writer}
 use Rattle.aff_write.proofs.StoreLaws.{apply-append}
 use Rattle.aff_run.specs.Run.{Call, make, put, close, State, Turn, next, makeTurn, putTurn, closeTurn, turn, answersOf, storesOf, isAccepted, grown, described, isClose, closedBy}
-use Rattle.aff_run.specs.Shows.{Shows}
 use Rattle.aff_run.proofs.GoodLaws.{Good}
 use Rattle.aff_run.proofs.MakeGoodLaws.{made-good}
 use Rattle.aff_run.proofs.PutGoodLaws.{put-good}
 use Rattle.aff_run.proofs.ClosedLaws.{closed, closed-room}
-use Rattle.aff_run.proofs.ShownLaws.{closed-shows}
 use Rattle.aff_run.proofs.TurnLaws.{unchanged, turn-refused, asleep-stores, asleep-closed, asleep-described}
 
 -- ---- What a call leaves of the record.
@@ -88,44 +86,46 @@ put-answer s node type bytes allowance = refl
 
 -- ---- The run.
 
-abbrev pub ShowsFrom : List Call → Type 0
-ShowsFrom cs = (s : State) (tree : Tree) → Good s tree → closedBy cs (answersOf s cs) ≡ true
-    → Shows (applyStores (s .room) (storesOf s cs)) (s .writer .form) (described tree cs (answersOf s cs))
+-- What holds of each closed room, with the writer's form and the tree described, holds of the room that a run with an accepted close leaves.
+module _ (P : List ℕ → List ℕ → Tree → Type 0) (closes : (s : State) (tree : Tree) (g : Good s tree) → P (closed s tree g) (s .writer .form) tree) where
+  abbrev HoldsFrom : List Call → Type 0
+  HoldsFrom cs = (s : State) (tree : Tree) → Good s tree → closedBy cs (answersOf s cs) ≡ true
+      → P (applyStores (s .room) (storesOf s cs)) (s .writer .form) (described tree cs (answersOf s cs))
 
-module _ (s : State) (tree : Tree) (g : Good s tree) (cs : List Call) (later : ShowsFrom cs) where
-  -- The same, after call c.
-  abbrev ShowsBehind : Call → Tree → Type 0
-  ShowsBehind c after = Shows (applyStores (s .room) (turn s c .stores ++ storesOf (next (turn s c) (s .room)) cs)) (s .writer .form) (described after cs (answersOf (next (turn s c) (s .room)) cs))
+  module _ (s : State) (tree : Tree) (g : Good s tree) (cs : List Call) (later : HoldsFrom cs) where
+    -- The same, after call c.
+    abbrev HoldsAfter : Call → Tree → Type 0
+    HoldsAfter c after = P (applyStores (s .room) (turn s c .stores ++ storesOf (next (turn s c) (s .room)) cs)) (s .writer .form) (described after cs (answersOf (next (turn s c) (s .room)) cs))
 
-  goes-on : (c : Call) (after : Tree) → Good (next (turn s c) (s .room)) after → closedBy cs (answersOf (next (turn s c) (s .room)) cs) ≡ true → ShowsBehind c after
-  goes-on c after good z =
-      let n = next (turn s c) (s .room) in
-      let all = applyStores (s .room) (turn s c .stores ++ storesOf n cs) in
-      let shown = described after cs (answersOf n cs) in
-      subst (λ (f : List ℕ). Shows all f shown) (turn-form s c)
-      (subst (λ (r : List ℕ). Shows r (n .writer .form) shown) (sym (apply-append (s .room) (turn s c .stores) (storesOf n cs))) (later n after good z))
+    goes-on : (c : Call) (after : Tree) → Good (next (turn s c) (s .room)) after → closedBy cs (answersOf (next (turn s c) (s .room)) cs) ≡ true → HoldsAfter c after
+    goes-on c after good z =
+        let n = next (turn s c) (s .room) in
+        let all = applyStores (s .room) (turn s c .stores ++ storesOf n cs) in
+        let shown = described after cs (answersOf n cs) in
+        subst (λ (f : List ℕ). P all f shown) (turn-form s c)
+        (subst (λ (r : List ℕ). P r (n .writer .form) shown) (sym (apply-append (s .room) (turn s c .stores) (storesOf n cs))) (later n after good z))
 
-  -- An accepted close: what comes behind it changes nothing.
-  ends : (allowance : ℕ) {n : ℕ} → turn s (close allowance) .answer ≡ accepted n → ShowsBehind (close allowance) tree
-  ends allowance h =
-      let after = next (turn s (close allowance)) (s .room) in
-      let asleep = close-stops s allowance h in
-      rw (asleep-stores after asleep cs, asleep-described after asleep tree cs, append-nil, close-told s allowance h, ← closed-room s tree g) (closed-shows s tree g)
+    -- An accepted close: what comes after it changes nothing.
+    ends : (allowance : ℕ) {n : ℕ} → turn s (close allowance) .answer ≡ accepted n → HoldsAfter (close allowance) tree
+    ends allowance h =
+        let after = next (turn s (close allowance)) (s .room) in
+        let asleep = close-stops s allowance h in
+        rw (asleep-stores after asleep cs, asleep-described after asleep tree cs, append-nil, close-told s allowance h, ← closed-room s tree g) (closes s tree g)
 
-  by-number : (c : Call) (t : Told) (b : Bool) → eqb (t .number) 23 ≡ b → turn s c .answer ≡ refused t
-      → closedBy cs (answersOf (next (turn s c) (s .room)) cs) ≡ true → ShowsBehind c tree
-  by-number c t true e h z = absurd (true≢false (sym z ∙ asleep-closed (next (turn s c) (s .room)) (turn-stops s c t h e) cs))
-  by-number c t false e h z = goes-on c tree (rw (next-unchanged s c t e h) g) z
+    by-number : (c : Call) (t : Told) (b : Bool) → eqb (t .number) 23 ≡ b → turn s c .answer ≡ refused t
+        → closedBy cs (answersOf (next (turn s c) (s .room)) cs) ≡ true → HoldsAfter c tree
+    by-number c t true e h z = absurd (true≢false (sym z ∙ asleep-closed (next (turn s c) (s .room)) (turn-stops s c t h e) cs))
+    by-number c t false e h z = goes-on c tree (rw (next-unchanged s c t e h) g) z
 
-  by-answer : (c : Call) (a : Answer ℕ) → turn s c .answer ≡ a → ((isAccepted a && isClose c) || closedBy cs (answersOf (next (turn s c) (s .room)) cs)) ≡ true
-      → ShowsBehind c (grown tree c (isAccepted a))
-  by-answer c (refused t) h z = by-number c t (eqb (t .number) 23) refl h z
-  by-answer (make parent name) (accepted n) h z = goes-on (make parent name) (grown tree (make parent name) true) (made-good s tree g parent name (make-answer s parent name ∙ h)) z
-  by-answer (put node type bytes allowance) (accepted n) h z =
-      goes-on (put node type bytes allowance) (grown tree (put node type bytes allowance) true)
-      (put-good s tree g node type bytes allowance (put-answer s node type bytes allowance ∙ h)) z
-  by-answer (close allowance) (accepted n) h z = ends allowance h
+    by-answer : (c : Call) (a : Answer ℕ) → turn s c .answer ≡ a → ((isAccepted a && isClose c) || closedBy cs (answersOf (next (turn s c) (s .room)) cs)) ≡ true
+        → HoldsAfter c (grown tree c (isAccepted a))
+    by-answer c (refused t) h z = by-number c t (eqb (t .number) 23) refl h z
+    by-answer (make parent name) (accepted n) h z = goes-on (make parent name) (grown tree (make parent name) true) (made-good s tree g parent name (make-answer s parent name ∙ h)) z
+    by-answer (put node type bytes allowance) (accepted n) h z =
+        goes-on (put node type bytes allowance) (grown tree (put node type bytes allowance) true)
+        (put-good s tree g node type bytes allowance (put-answer s node type bytes allowance ∙ h)) z
+    by-answer (close allowance) (accepted n) h z = ends allowance h
 
-pub run-shows : (cs : List Call) → ShowsFrom cs
-run-shows [] s tree g z = absurd (true≢false (sym z))
-run-shows (c ∷ cs) s tree g z = by-answer s tree g cs (run-shows cs) c (turn s c .answer) refl z
+  pub run-holds : (cs : List Call) → HoldsFrom cs
+  run-holds [] s tree g z = absurd (true≢false (sym z))
+  run-holds (c ∷ cs) s tree g z = by-answer s tree g cs (run-holds cs) c (turn s c .answer) refl z

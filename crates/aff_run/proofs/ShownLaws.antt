@@ -20,6 +20,7 @@ use Rattle.aff_format.specs.Tree.{Node, Tree, root, nodeAt, countAt, frontBy, p
 use Rattle.aff_format.specs.declared.entry.Entry.{Entry}
 use Rattle.aff_format.specs.declared.edition.Edition.{Edition}
 use Rattle.aff_format.specs.declared.edition.Edition.the-variants.{Two}
+use Rattle.aff_format.specs.declared.section.Section.the-variants.{Data}
 use Rattle.aff_format.specs.declared.kind.Kind.{Kind}
 use Rattle.aff_format.specs.declared.kind.Kind.the-variants.{Void, Char, Int, Double, Complex}
 use Rattle.aff_format.proofs.ClimbLaws.{absurd-bool}
@@ -29,7 +30,7 @@ use Rattle.aff_open.specs.Belongs.{belongs}
 use Rattle.aff_open.specs.Nodes.{noEntry, nodeEntry}
 use Rattle.aff_open.specs.Opening.{opened, readerFor, stringsAfter, entriesAfter}
 use Rattle.aff_open.specs.Recorded.{recordedEntry, recordedString}
-use Rattle.aff_open.specs.Sections.{editionIn}
+use Rattle.aff_open.specs.Sections.{editionIn, sectionRecords}
 use Rattle.aff_open.specs.Tables.{nameFrom, stringsIn, nodesIn}
 use Rattle.aff_open.specs.Reader.{noSpan}
 use Rattle.aff_open.specs.declared.reader.Reader.{Reader}
@@ -41,11 +42,11 @@ use Rattle.aff_read.specs.Calls.{frontWritten, pathAnswer}
 use Rattle.aff_read.specs.Recall.{symbolsEnd, kindAt, nameAt, nameSpan, dataSpan, spanBytes, parentAt, pathAt}
 use Rattle.aff_write.specs.Writer.{dataPlace}
 use Rattle.aff_write.proofs.StoreLaws.{length-take-most}
-use Rattle.aff_run.specs.Described.{namesOf, dataSize}
+use Rattle.aff_run.specs.Described.{namesOf, dataSize, notVoid}
 use Rattle.aff_run.specs.Run.{State}
 use Rattle.aff_run.specs.Shows.{PartIs, NodeShown, Absent, Shows}
 use Rattle.aff_run.proofs.GoodLaws.{Stored, Good, count-same, stored-in}
-use Rattle.aff_run.proofs.ClosedLaws.{closed, closed-obeys, closed-edition, closed-strings, closed-nodes, data-there}
+use Rattle.aff_run.proofs.ClosedLaws.{closed, closed-obeys, closed-edition, closed-strings, closed-nodes, data-records, data-there}
 
 -- A string is the front of the bytes from its place on.
 front-string : (image : List ℕ) (at n : ℕ) → part at (length (upToZero (part at n image))) image ≡ upToZero (part at n image)
@@ -222,3 +223,13 @@ module _ (s : State) (tree : Tree) (g : Good s tree) where
 
   pub closed-shows : Shows image form tree
   closed-shows = record { reader = reader; opens = opens; nodes = node-shown; others = other-absent }
+
+  -- Opening reports the number of nodes that are not Void.
+  pub closed-counts : (r : Reader) → opened image form stringLimit nodeLimit ≡ accepted r → r .records ≡ notVoid tree
+  unfolding reader
+  closed-counts r h =
+      let both : accepted reader ≡ accepted r = sym opens ∙ h in
+      let same : reader ≡ r = cc in
+      ap (λ (x : Reader). x .records) (sym same)
+      ∙ ap (λ (e : Edition). sectionRecords e Data image) (closed-edition s tree g)
+      ∙ data-records s tree g

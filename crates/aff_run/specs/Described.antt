@@ -3,7 +3,7 @@ use mathlib.Core.Bool.{Bool, true, false, cond}
 use mathlib.Core.List.{List, [], _∷_, _++_}
 use Prim.Native.Nat.{ℕ, _+_, _-_}
 use lib.ListN.{length, set}
-use Rattle.aff_format.specs.Kind.{entrySize}
+use Rattle.aff_format.specs.Kind.{entrySize, isVoid}
 use Rattle.aff_format.specs.Strings.{isIn, textOf}
 use Rattle.aff_format.specs.Tree.{Node, Tree, nodeAt}
 use Rattle.aff_format.specs.declared.kind.Kind.{Kind}
@@ -39,6 +39,11 @@ dataSize (t ∷ ts) = length (t .bytes) + dataSize ts
 unfoldable pub entriesSize : Tree → ℕ
 entriesSize [] = 0
 entriesSize (t ∷ ts) = entrySize (t .kind) + entriesSize ts
+
+-- How many nodes are not Void.
+unfoldable pub notVoid : Tree → ℕ
+notVoid [] = 0
+notVoid (t ∷ ts) = cond (isVoid (t .kind)) 0 1 + notVoid ts
 
 -- Finished size: header, data bytes, string bytes with their zeros, entries.
 unfoldable pub sizeOf : Tree → ℕ

@@ -3,7 +3,7 @@
 use mathlib.Core.Path.{_≡_}
 use mathlib.Core.Bool.{true, false}
 use mathlib.Core.List.{List, [], _∷_}
-use Prim.Native.Nat.{ℕ}
+use Prim.Native.Nat.{ℕ, _≤_}
 use lib.IntN.{ℤ, pos, negsuc}
 use lib.ListN.{length}
 use Rattle.aff_format.specs.Answer.{Answer, accepted, refused, refusal}
@@ -17,7 +17,10 @@ use Rattle.aff_format.specs.declared.kind.Kind.{Kind}
 use Rattle.aff_format.specs.declared.kind.Kind.the-variants.{Void, Int}
 use Rattle.aff_open.specs.Belongs.{belongs}
 use Rattle.aff_open.specs.declared.reader.Reader.{Reader}
 use Rattle.aff_read.specs.Calls.{lookupAnswer}
+use Rattle.aff_write.specs.Belongs.{Belongs as WriterBelongs}
+use Rattle.aff_write.specs.Make.{makeAnswer}
+use Rattle.aff_write.specs.declared.writer.Writer.{Writer}
 
 pub data Case : Type 0 where
   -- A path, and what a lookup of it answers.
@@ -36,22 +39,28 @@ LookupIs path answer =
     (image : List ℕ) (reader : Reader) (strings entries : List ℕ) → belongs image reader strings entries ≡ true
     → lookupAnswer image reader strings entries path ≡ answer
 
+-- A child of that name below any node, by any record of a live writer that belongs to what is lent.
+abbrev pub MakeIs : List ℕ → Answer ℕ → Type 0
+MakeIs name answer =
+    (room : ℕ) (writer : Writer) (text tree : List ℕ) (parent : ℕ) → WriterBelongs room writer text tree → writer .live ≡ true → parent ≤ writer .nodes
+    → makeAnswer room writer text tree parent name ≡ answer
+
 -- The bytes of each entry of a kind.
 abbrev pub EntryTakes : Kind → ℕ → Type 0
 EntryTakes kind size = (e : Entry) → e .kind ≡ kind → length (entryBytes e) ≡ size
 
--- What a row says. A name that is no subkey is 14 as a path's.
+-- What a row says. A name that is no subkey is 14 in a path, and 14 as the name of a new child.
 abbrev pub Holds : Case → Type 0
 Holds (pathCase path answer) = LookupIs path answer
 Holds (subkeyCase name) = (e : Edition) → isSubkey e name ≡ true
-Holds (notSubkeyCase name) = ((e : Edition) → isSubkey e name ≡ false) × LookupIs (47 ∷ name) (refused (refusal 14))
+Holds (notSubkeyCase name) = ((e : Edition) → isSubkey e name ≡ false) × LookupIs (47 ∷ name) (refused (refusal 14)) × MakeIs name (refused (refusal 14))
 Holds (intCase bytes value) = decoded Int bytes 0 ≡ accepted (element.Int value)
 Holds (entryCase void int) = EntryTakes Void void × EntryTakes Int int
 
 -- Each row holds.
-abbrev pub AllHold : List Case → Type 0
-AllHold [] = Unit {0}
-AllHold (row ∷ rows) = Holds row × AllHold rows
+abbrev pub EachHolds : List Case → Type 0
+EachHolds [] = Unit {0}
+EachHolds (row ∷ rows) = Holds row × EachHolds rows
 
 -- (P1) `/` is the root, (P2) the empty path, (P3) `//a`, (P4) `/a/`, (P5) `9a`, (P6) `_`, (P7) -70, (P8) -2147483648, (P9) 2147483647, (P10).
 abbrev pub caseTable : List Case
