@@ -131,6 +131,8 @@ module _ (image : List ℕ) (r : Reader) (strings entries : List ℕ) where
         line = λ node out.
             wrote (lineAnswer image r strings entries node (length out)) (lineAt image r strings entries node) out
             (λ n h. text-fits (numberChecks image r strings entries node) (length out) (length (lineAt image r strings entries node)) h);
+        no-name = λ node t h. rw h;
+        no-view = λ node t h. rw h;
       }
 
 -- ---- Begin.

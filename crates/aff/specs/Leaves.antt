@@ -12,6 +12,7 @@ use Rattle.aff_open.specs.Reader.{noReader}
 use Rattle.aff_open.specs.Sections.{editionIn}
 use Rattle.aff_open.specs.Tables.{laidOver}
 use Rattle.aff_open.specs.declared.reader.Reader.{Reader}
+use Rattle.aff_read.specs.Answers.{partOf, nameAnswer, viewAnswer}
 use Rattle.aff_read.specs.Calls.{frontWritten, pathAnswer, order, listingAnswer, lineAt, lineAnswer}
 use Rattle.aff_read.specs.Recall.{pathAt}
 use Rattle.aff_write.specs.Begin.{beginAnswer}
@@ -56,6 +57,9 @@ module _ (image : List ℕ) (r : Reader) (strings entries : List ℕ) where
     pub path : (node : ℕ) → Wrote (pathAnswer image r strings entries node) (pathAt image r strings entries node)
     pub listing : Wrote (listingAnswer image r strings entries) (order image r strings entries)
     pub line : (node : ℕ) → Wrote (lineAnswer image r strings entries node) (lineAt image r strings entries node)
+    -- A refused name or view is an empty part of the image.
+    pub no-name : (node : ℕ) (t : Told) → nameAnswer image r strings entries node ≡ refused t → partOf image (nameAnswer image r strings entries node) ≡ []
+    pub no-view : (node : ℕ) (t : Told) → viewAnswer image r strings entries node ≡ refused t → partOf image (viewAnswer image r strings entries node) ≡ []
 
 -- ---- Begin.
 
