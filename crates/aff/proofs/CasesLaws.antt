@@ -1,17 +1,18 @@
 -- Document 01's table of cases holds, row by row: paths and subkeys by computing in each edition, numbers by computing, entries by the law of
 -- their lengths. Assumes nothing.
 use mathlib.Core.Path.{_≡_, refl, sym, ap, _∙_}
-use mathlib.Core.Bool.{Bool, true, false}
-use mathlib.Core.List.{List, [], _∷_}
-use Prim.Native.Nat.{ℕ}
+use mathlib.Core.Bool.{Bool, true, false, not}
+use mathlib.Core.List.{List, [], _∷_, _++_}
+use Prim.Native.Nat.{ℕ, _+_}
 use native.Mathlib.Numerals.{add-one}
+use lib.Dec.{ltb}
 use lib.ListN.{drop}
-use borrow.Author.Tests.{le-ltb}
-use Rattle.aff_format.specs.Answer.{accepted, refused, refusal}
+use borrow.Author.Tests.{le-ltb, eqb-false}
+use Rattle.aff_format.specs.Answer.{accepted, refused, Check, check, refusal, firstWrong}
 use Rattle.aff_format.specs.Bytes.{sameBytes}
 use Rattle.aff_format.specs.Element.{decoded, elementAt}
 use Rattle.aff_format.specs.Kind.{entrySize}
-use Rattle.aff_format.specs.Lowest.{lowestFrom}
+use Rattle.aff_format.specs.Lowest.{lowestFrom, isAt}
 use Rattle.aff_format.specs.Number.{beOf, twosComplement}
 use Rattle.aff_format.specs.Path.{betweenSlashes, partsFrom, pathGrammar, isPath, root}
 use Rattle.aff_format.specs.Subkey.{narrowFirst, restOfSubkey, subkeyFrom, isSubkey}
@@ -20,15 +21,20 @@ use Rattle.aff_format.specs.declared.edition.Edition.the-variants.{One, Two}
 use Rattle.aff_format.specs.declared.kind.Kind.{Kind}
 use Rattle.aff_format.specs.declared.kind.Kind.the-variants.{Void, Int}
 use Rattle.aff_format.specs.declared.lowest.Lowest.the-variants.{At}
+use Rattle.aff_format.specs.declared.refusal.Told.{Told}
+use Rattle.aff_format.proofs.AnswerLaws.{Others, others-told, others-both}
 use Rattle.aff_format.proofs.EntryLaws.{length-entryBytes}
 use Rattle.aff_format.proofs.PathLaws.{path-complete}
+use Rattle.aff_open.specs.Belongs.{belongs}
 use Rattle.aff_open.specs.declared.reader.Reader.{Reader}
-use Rattle.aff_read.specs.Calls.{editionBy, found}
+use Rattle.aff_open.proofs.BelongsLaws.{record-belongs as reader-belongs}
+use Rattle.aff_read.specs.Calls.{lowestOr0, editionBy, found, lookupAnswer}
 use Rattle.aff_read.proofs.LookupLaws.{lookup-malformed, lookup-at}
-use Rattle.aff_write.specs.Make.{makeAnswer}
+use Rattle.aff_write.specs.Belongs.{writerChecks}
+use Rattle.aff_write.specs.Make.{namedChecks, makeAnswer}
 use Rattle.aff_write.specs.Writer.{written}
 use Rattle.aff_write.proofs.BelongsLaws.{record-belongs}
-use Rattle.aff.specs.Cases.{notSubkeyCase, entryCase, Holds, EachHolds, caseTable, LookupIs, MakeIs, EntryTakes}
+use Rattle.aff.specs.Cases.{notSubkeyCase, entryCase, Holds, EachHolds, caseTable, LookupIs, MakeIs, Taken, EntryTakes}
 
 each-edition : (P : Edition → Type 0) → P One → P Two → (e : Edition) → P e
 each-edition P one two One = one
@@ -37,12 +43,37 @@ each-edition P one two Two = two
 -- What is a path in neither edition is 14.
 no-path : (path : List ℕ) → isPath One path ≡ false → isPath Two path ≡ false → LookupIs path (refused (refusal 14))
 no-path path one two image reader strings entries b =
-    sym (lookup-malformed image reader strings entries path b (each-edition (λ e. isPath e path ≡ false) one two (editionBy reader)))
+    sym (lookup-malformed image reader strings entries path (reader-belongs b) (each-edition (λ e. isPath e path ≡ false) one two (editionBy reader)))
 
 -- What is no subkey is 14 as a child's name.
 no-child : (name : List ℕ) → isSubkey written name ≡ false → MakeIs name (refused (refusal 14))
 unfolding makeAnswer
 no-child name h room writer text tree parent b live there = rw (record-belongs b, live, le-ltb (writer .nodes) parent there, h)
+
+-- A check that finds nothing wrong changes no answer.
+pass-over : {A : Type 0} (before : List Check) (t : Told) (after : List Check) (a : A) → firstWrong (before ++ (check false t ∷ after)) a ≡ firstWrong (before ++ after) a
+pass-over [] t after a = refl
+pass-over (check true q ∷ before) t after a = refl
+pass-over (check false q ∷ before) t after a = pass-over before t after a
+
+-- So a call whose check for 14 finds nothing wrong never reports 14.
+never-14 : {A : Type 0} (before after : List Check) (a : A) → Others 14 before → Others 14 after → firstWrong (before ++ (check false (refusal 14) ∷ after)) a ≡ refused (refusal 14) → ⊥
+never-14 before after a o p h =
+    eqb-false 14 14 (others-told 14 (before ++ after) (others-both 14 before after o p) a (sym (pass-over before (refusal 14) after a) ∙ h)) refl
+
+-- What is a path of one subkey in both editions, and a subkey of the edition that is written, is never 14.
+taken : (name : List ℕ) → isPath One (47 ∷ name) ≡ true → isPath Two (47 ∷ name) ≡ true → isSubkey written name ≡ true → Taken name
+unfolding lookupAnswer makeAnswer
+taken name one two is =
+    record {
+      in-path = λ image reader strings entries h.
+          never-14 (check (not (belongs image reader strings entries)) (refusal 24) ∷ [])
+          (check (not (isAt (found image reader strings entries (47 ∷ name)))) (refusal 15) ∷ []) (lowestOr0 (found image reader strings entries (47 ∷ name)))
+          (refl, tt) (refl, tt) (rw (each-edition (λ e. isPath e (47 ∷ name) ≡ true) one two (editionBy reader)) at h);
+      as-child = λ room writer text tree parent h.
+          never-14 (writerChecks room writer text tree ++ (check (ltb (writer .nodes) parent) (refusal 15) ∷ [])) (namedChecks writer text tree parent name) (writer .nodes + 1)
+          (refl, (refl, (refl, tt))) (refl, (refl, (refl, tt))) (rw is at h);
+    }
 
 -- Whether a name is a subkey.
 named : (name : List ℕ) (is : Bool) → isSubkey One name ≡ is → isSubkey Two name ≡ is → (e : Edition) → isSubkey e name ≡ is
@@ -56,7 +87,7 @@ root-found image reader strings entries = rw (add-one (reader .nodes))
 root-looked : LookupIs (47 ∷ []) (accepted 0)
 root-looked image reader strings entries b =
     let path = path-complete (editionBy reader) (47 ∷ []) (root refl) in
-    sym (lookup-at image reader strings entries (47 ∷ []) b path 0 (root-found image reader strings entries))
+    sym (lookup-at image reader strings entries (47 ∷ []) (reader-belongs b) path 0 (root-found image reader strings entries))
 
 entry-takes : (kind : Kind) → EntryTakes kind (entrySize kind)
 entry-takes kind e is = length-entryBytes e ∙ ap entrySize is
@@ -66,5 +97,5 @@ unfolding betweenSlashes partsFrom pathGrammar narrowFirst restOfSubkey subkeyFr
 cases-hold =
     let digit : Holds (notSubkeyCase (57 ∷ 97 ∷ [])) = (named (57 ∷ 97 ∷ []) false refl refl, no-path (47 ∷ 57 ∷ 97 ∷ []) refl refl, no-child (57 ∷ 97 ∷ []) refl) in
     let entries : Holds (entryCase 13 25) = (entry-takes Void, entry-takes Int) in
-    let from-5 : EachHolds (drop 4 caseTable) = (digit, (named (95 ∷ []) true refl refl, (refl, (refl, (refl, (entries, tt)))))) in
+    let from-5 : EachHolds (drop 4 caseTable) = (digit, ((named (95 ∷ []) true refl refl, taken (95 ∷ []) refl refl refl), (refl, (refl, (refl, (entries, tt)))))) in
     (root-looked, (no-path [] refl refl, (no-path (47 ∷ 47 ∷ 97 ∷ []) refl refl, (no-path (47 ∷ 97 ∷ 47 ∷ []) refl refl, from-5))))

@@ -3,7 +3,7 @@
 -- the definitions behind them, and that record and areas of an opened file show its own tables. Assumes nothing.
 use mathlib.Core.Path.{_≡_, refl, sym, ap, subst, _∙_}
 use mathlib.Core.Bool.{Bool, true, false, cond, not, true≢false}
-use mathlib.Core.List.{List, [], _∷_}
+use mathlib.Core.List.{List, [], _∷_, _++_}
 use mathlib.Core.Logic.{_↔_}
 use Prim.Native.Nat.{ℕ, zero, suc, _+_, _*_, _≤_, _<_}
 use native.Mathlib.Numerals.{add-one}
@@ -13,23 +13,26 @@ use lib.ListN.{length, getD, take}
 use borrow.Author.Tests.{ne-eqb, le-ltb, lt-ltb, le-leb, lt-leb}
 use Rattle.aff_format.specs.Answer.{accepted, refused, check, refusal}
 use Rattle.aff_format.specs.Bytes.{part}
+use Rattle.aff_format.specs.Edition.{editionNumber}
 use Rattle.aff_format.specs.Element.{elementAt}
 use Rattle.aff_format.specs.Kind.{elementSize, isVoid}
 use Rattle.aff_format.specs.Lowest.{isAt}
 use Rattle.aff_format.specs.Path.{isPath, WellFormed}
-use Rattle.aff_format.specs.Tree.{frontBy}
+use Rattle.aff_format.specs.Tree.{reachesBy, frontBy}
 use Rattle.aff_format.specs.declared.edition.Edition.{Edition}
 use Rattle.aff_format.specs.declared.entry.Entry.{Entry}
+use Rattle.aff_format.specs.declared.section.Section.the-variants.{Data}
 use Rattle.aff_format.proofs.EditionLaws.{edition-of-number}
 use Rattle.aff_format.proofs.PathLaws.{path-sound, path-complete}
-use Rattle.aff_format.proofs.TreeLaws.{front-same}
+use Rattle.aff_format.proofs.ClimbLaws.{reaches-within}
+use Rattle.aff_format.proofs.TreeLaws.{front-root, front-step, path-other, front-same}
 use Rattle.aff_open.specs.Belongs.{Belongs, belongs}
 use Rattle.aff_open.specs.Nodes.{nodeEntry}
 use Rattle.aff_open.specs.Obeys.{Obeys}
 use Rattle.aff_open.specs.Opening.{opened, readerFor, stringsAfter, entriesAfter}
 use Rattle.aff_open.specs.Recorded.{recordedEntry}
 use Rattle.aff_open.specs.Reader.{noSpan}
-use Rattle.aff_open.specs.Sections.{orTwo, editionIn}
+use Rattle.aff_open.specs.Sections.{orTwo, editionIn, sectionRecords}
 use Rattle.aff_open.specs.Tables.{stringsIn, nodesIn}
 use Rattle.aff_open.specs.declared.reader.Reader.{Reader}
 use Rattle.aff_open.proofs.BelongsLaws.{belongs-record, record-belongs}
@@ -173,12 +176,13 @@ module _ (image form strings entries : List ℕ) {r : Reader} (h : opened image 
   entry-is zero l = refl
   entry-is (suc k) l = shape .entries-are (suc k) (omega arith) l ∙ ap (λ (x : List Entry). nodeEntry x (suc k)) entries-are
 
-  name-is : (node : ℕ) → 0 < node → node ≤ r .nodes → nameAt image r ss es node ≡ itsName file node
+  name-is : (node : ℕ) → node ≤ r .nodes → nameAt image r ss es node ≡ itsName file node
   unfolding nameAt
-  name-is node lo l =
-      rw (ne-eqb node 0 (λ q. omega arith), entry-is node l)
-      (shape .strings-are (itsEntry file node .string) (omega (arith, strings-count, file .string node lo (omega (arith, nodes-count))))
-      ∙ ap (λ (x : List (List ℕ)). getD x (itsEntry file node .string) []) strings-are)
+  name-is zero l = refl
+  name-is (suc k) l =
+      rw (ne-eqb (suc k) 0 (λ q. omega arith), entry-is (suc k) l)
+      (shape .strings-are (itsEntry file (suc k) .string) (omega (arith, strings-count, file .string (suc k) (omega arith) (omega (arith, nodes-count))))
+      ∙ ap (λ (x : List (List ℕ)). getD x (itsEntry file (suc k) .string) []) strings-are)
 
   parent-is : (node : ℕ) → node ≤ r .nodes → parentAt image es node ≡ itsParent file node
   parent-is node l = ap (λ (e : Entry). e .parent) (entry-is node l)
@@ -187,8 +191,34 @@ module _ (image form strings entries : List ℕ) {r : Reader} (h : opened image 
   path-is node l =
       ap (λ (f : List ℕ). cond (eqb node 0) (47 ∷ []) f)
       (front-same (parentAt image es) (itsParent file) (nameAt image r ss es) (itsName file) (r .nodes)
-      (λ k lo hi. parent-is k hi) name-is (shown .parent-exists) (r .nodes) node l
+      (λ k lo hi. parent-is k hi) (λ k lo hi. name-is k hi) (shown .parent-exists) (r .nodes) node l
       ∙ ap (λ (steps : ℕ). frontBy (itsParent file) (itsName file) steps node) nodes-count)
+
+  -- A node's path is its parent's front, a slash and its name.
+  climb-is : (node : ℕ) → 0 < node → node ≤ r .nodes → reachesBy (itsParent file) (length (file .entries)) node ≡ true
+  climb-is node lo l =
+      let here : node ≤ length (file .entries) = omega (arith, nodes-count) in
+      let (steps, reached) = file .climb node lo here in
+      reaches-within (itsParent file) (length (file .entries)) (file .parent) steps node here reached
+
+  front-is : (node : ℕ) → 0 < node → node ≤ r .nodes
+      → itsPath file node ≡ frontBy (itsParent file) (itsName file) (length (file .entries)) (itsParent file node) ++ (47 ∷ itsName file node)
+  front-is node lo l =
+      let f : node ≡ 0 → ⊥ = λ q. omega arith in
+      path-other (itsParent file) (itsName file) (length (file .entries)) node f
+      ∙ front-step (itsParent file) (itsName file) (length (file .entries)) node f (climb-is node lo l)
+
+  path-top : (node : ℕ) → 0 < node → node ≤ r .nodes → itsParent file node ≡ 0 → itsPath file node ≡ 47 ∷ itsName file node
+  path-top node lo l e =
+      front-is node lo l
+      ∙ ap (λ (p : ℕ). frontBy (itsParent file) (itsName file) (length (file .entries)) p ++ (47 ∷ itsName file node)) e
+      ∙ ap (λ (x : List ℕ). x ++ (47 ∷ itsName file node)) (front-root (itsParent file) (itsName file) (length (file .entries)))
+
+  path-below : (node : ℕ) → 0 < node → node ≤ r .nodes → 0 < itsParent file node → itsPath file node ≡ itsPath file (itsParent file node) ++ (47 ∷ itsName file node)
+  path-below node lo l up =
+      front-is node lo l
+      ∙ ap (λ (x : List ℕ). x ++ (47 ∷ itsName file node))
+      (sym (path-other (itsParent file) (itsName file) (length (file .entries)) (itsParent file node) (λ q. omega arith)))
 
   -- A node with a path, by the areas and by the file.
   its-node : (path : List ℕ) (n : ℕ) → OnlyWith image r ss es path n ↔ ItsNode file path n
@@ -240,9 +270,11 @@ module _ (image form strings entries : List ℕ) {r : Reader} (h : opened image 
   reads-file =
       let here = record-belongs shown in
       record {
+        edition = ap (λ (x : Reader). x .edition) (shape .reader) ∙ ap editionNumber (edition-found file);
+        string-count = strings-count;
         nodes = nodes-count;
-        root-name = name-read image r ss es shown 0 (omega arith);
-        name = λ node lo l. subst (PartIs image (nameAnswer image r ss es node)) (name-is node lo l) (name-read image r ss es shown node l);
+        records = ap (λ (x : Reader). x .records) (shape .reader) ∙ ap (λ (e : Edition). sectionRecords e Data image) (edition-found file);
+        name = λ node l. subst (PartIs image (nameAnswer image r ss es node)) (name-is node l) (name-read image r ss es shown node l);
         kind = λ node l. rw (here, le-ltb (r .nodes) node l) (ap (λ (e : Entry). accepted (e .kind)) (entry-is node l));
         count = λ node l. rw (here, le-ltb (r .nodes) node l) (ap (λ (e : Entry). accepted (e .count)) (entry-is node l));
         view = λ node l. subst (λ (e : Entry). PartIs image (viewAnswer image r ss es node) (dataNamed image e)) (entry-is node l) (view-read image r ss es shown node l);
@@ -251,6 +283,9 @@ module _ (image form strings entries : List ℕ) {r : Reader} (h : opened image 
             (λ (e : Entry). index < e .count → elementAnswer image r ss es node index ≡ accepted (elementAt (e .kind) (dataNamed image e) index))
             (entry-is node l) (element-read image r ss es shown node l index);
         path = path-is;
+        path-root = refl;
+        path-top = path-top;
+        path-below = path-below;
         others = reads-others;
         lookup-malformed = λ path. rw (← edition-is) (malformed image r ss es shown path);
         lookup = λ path w n. both (lookup-only image form strings entries h path (formed w) n) (its-node path n);

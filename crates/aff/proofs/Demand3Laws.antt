@@ -21,7 +21,7 @@ use Rattle.aff_write.specs.Begin.{beginAnswer}
 use Rattle.aff_write.specs.Stores.{Store, applyStores, storesFrom}
 use Rattle.aff_write.specs.Writer.{dataPlace}
 use Rattle.aff_write.proofs.StoreLaws.{apply-append, apply-length}
-use Rattle.aff_run.specs.Described.{notVoid, sizeOf}
+use Rattle.aff_run.specs.Described.{nonVoidCount, sizeOf}
 use Rattle.aff_run.specs.Run.{Call, State, next, begun, storesOf, answersOf, runAnswers, runStores, runState, afterBegin, described, closedBy}
 use Rattle.aff_run.specs.Shows.{Shows}
 use Rattle.aff_run.proofs.BeginGoodLaws.{begin-good, begin-form, begin-stores}
@@ -71,7 +71,7 @@ nothing-killed room form stores calls answers last k e z l le =
 
 -- Opening reports the number of nodes that are not Void.
 abbrev Counted : List ℕ → List ℕ → Tree → Type 0
-Counted image form tree = (r : Reader) → opened image form stringLimit nodeLimit ≡ accepted r → r .records ≡ notVoid tree
+Counted image form tree = (r : Reader) → opened image form stringLimit nodeLimit ≡ accepted r → r .records ≡ nonVoidCount tree
 
 module _ (room form text tree : List ℕ) (allowance : ℕ) (calls : List Call) {n : ℕ} (h : beginAnswer room form text tree allowance ≡ accepted n) where
   abbrev s : State

@@ -6,7 +6,7 @@ use Prim.Native.Nat.{ℕ, zero, suc, _+_, _≤_}
 use native.Mathlib.Omega.{arith}
 use lib.Dec.{eqb, ltb}
 use lib.ListN.{length, take, drop, set, length-append, length-drop}
-use lib.Seq.{take-append-seam, drop-append-seam}
+use lib.Seq.{take-append-seam, drop-append-seam, take-length}
 use borrow.Author.Tests.{eq-eqb, ne-eqb, not-false, ltb-false}
 use Rattle.aff_format.specs.Answer.{Answer, accepted, refused, Check, check, refusal, firstWrong}
 use Rattle.aff_format.specs.Lowest.{lowestFrom, checkLowest}
@@ -28,13 +28,15 @@ use Rattle.aff_read.specs.Calls.{frontWritten, pathAnswer, order, listingAnswer
 use Rattle.aff_read.specs.Recall.{pathAt}
 use Rattle.aff_read.proofs.OnceLaws.{order-length}
 use Rattle.aff_write.specs.Begin.{beginAnswer}
+use Rattle.aff_write.specs.Belongs.{writerChecks}
+use Rattle.aff_write.specs.Put.{dataChecks, putStores, putAnswer}
 use Rattle.aff_write.specs.Stores.{Store, applyStores}
 use Rattle.aff_write.specs.Writer.{stopped}
 use Rattle.aff_run.specs.Run.{Call, make, put, close, State, next, begun, makeTurn, putTurn, closeTurn, turn}
 use Rattle.aff_run.proofs.BeginGoodLaws.{begin-stores}
 use Rattle.aff_run.proofs.BeginRefusedLaws.{none-stored}
-use Rattle.aff_run.proofs.RunLaws.{next-unchanged}
-use Rattle.aff.specs.Leaves.{OpeningLeaves, Output, ReadingLeaves, BeginLeaves, needed, WritingLeaves}
+use Rattle.aff_run.proofs.RunLaws.{close-told, next-unchanged}
+use Rattle.aff.specs.Leaves.{OpeningLeaves, Output, ReadingLeaves, BeginLeaves, needed, completed, WritingLeaves}
 
 -- ---- Opening.
 
@@ -85,7 +87,7 @@ opening-leaves image form strings entries =
       by-1 = λ t h e. let w = first-alone image form n m h ∙ eq-eqb (t .number) 1 e in (rw w, rw w);
       by-others = λ t h e. let w = first-alone image form n m h ∙ ne-eqb (t .number) 1 e in (rw (w, h), rw (w, h));
       by-acceptance = λ r h. let w = passed-first image form n m h in (rw (w, h), rw (w, h));
-      no-record = λ t h. rw h;
+      zero-record = λ t h. rw h;
     }
 
 -- ---- Outputs.
@@ -161,6 +163,21 @@ take-none : (n : ℕ) → _≡_ {A = List Store} (take n []) []
 take-none zero = refl
 take-none (suc n) = refl
 
+put-told : (s : State) (node type : ℕ) (bytes : List ℕ) (allowance : ℕ) {n : ℕ} → putTurn s node type bytes allowance .answer ≡ accepted n
+    → putTurn s node type bytes allowance .stores ≡ putStores (s .writer) bytes
+unfolding putTurn putAnswer
+put-told s node type bytes allowance {n} h =
+    let all = putStores (s .writer) bytes in
+    let made : n ≡ length all =
+    sym (passed-value (writerChecks (length (s .room)) (s .writer) (s .text) (s .tree) ++ dataChecks (s .writer) (s .tree) node type bytes allowance) (length all) h) in
+    rw (h, made) (take-length all)
+
+done : (s : State) (c : Call) (n : ℕ) → turn s c .answer ≡ accepted n → next (turn s c) (s .room) ≡ completed s c
+unfolding makeTurn putTurn closeTurn applyStores
+done s (make parent name) n h = rw h
+done s (put node type bytes allowance) n h = rw (put-told s node type bytes allowance h) (rw h)
+done s (close allowance) n h = rw (close-told s allowance h) (rw h)
+
 spent : (s : State) (c : Call) (t : Told) → turn s c .answer ≡ refused t → eqb (t .number) 23 ≡ true
     → next (turn s c) (s .room)
     ≡ record { writer = stopped (s .writer); text = s .text; tree = s .tree; room = applyStores (s .room) (take (t .place) (needed s c)) }
@@ -172,6 +189,7 @@ spent s (close allowance) t h e = rw (h, e)
 pub writing-leaves : (s : State) (c : Call) → WritingLeaves s c
 writing-leaves s c =
     record {
+      by-acceptance = done s c;
       by-23 = λ t h e. spent s c t h (eq-eqb (t .number) 23 e);
       by-others = λ t h e. next-unchanged s c t (ne-eqb (t .number) 23 e) h;
     }

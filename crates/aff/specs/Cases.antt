@@ -1,5 +1,5 @@
--- The table of document 01, 'Cases on each side': (P1) to (P10), as data, and what it is that a row holds. The statements are of the definitions that
--- the contracts cite; the edition is any.
+-- Document 01's table 'Cases on each side', (P1) to (P10), as data, and what each row states, about the definitions that the contracts cite. Subkeys are of
+-- either edition, lookups of the record's, makes of edition 2.
 use mathlib.Core.Path.{_≡_}
 use mathlib.Core.Bool.{true, false}
 use mathlib.Core.List.{List, [], _∷_}
@@ -15,7 +15,7 @@ use Rattle.aff_format.specs.declared.element.Element.the-variants as element
 use Rattle.aff_format.specs.declared.entry.Entry.{Entry}
 use Rattle.aff_format.specs.declared.kind.Kind.{Kind}
 use Rattle.aff_format.specs.declared.kind.Kind.the-variants.{Void, Int}
-use Rattle.aff_open.specs.Belongs.{belongs}
+use Rattle.aff_open.specs.Belongs.{Belongs as ReaderBelongs}
 use Rattle.aff_open.specs.declared.reader.Reader.{Reader}
 use Rattle.aff_read.specs.Calls.{lookupAnswer}
 use Rattle.aff_write.specs.Belongs.{Belongs as WriterBelongs}
@@ -33,13 +33,13 @@ pub data Case : Type 0 where
   -- The bytes of a Void entry and of an Int entry.
   entryCase : ℕ → ℕ → Case
 
--- The lookup of a path, by any record that belongs to what is lent.
+-- The lookup of a path, by any record that belongs to the memory passed.
 abbrev pub LookupIs : List ℕ → Answer ℕ → Type 0
 LookupIs path answer =
-    (image : List ℕ) (reader : Reader) (strings entries : List ℕ) → belongs image reader strings entries ≡ true
+    (image : List ℕ) (reader : Reader) (strings entries : List ℕ) → ReaderBelongs image reader strings entries
     → lookupAnswer image reader strings entries path ≡ answer
 
--- A child of that name below any node, by any record of a live writer that belongs to what is lent.
+-- A child of that name below any node, by any record of a live writer that belongs to the memory passed.
 abbrev pub MakeIs : List ℕ → Answer ℕ → Type 0
 MakeIs name answer =
     (room : ℕ) (writer : Writer) (text tree : List ℕ) (parent : ℕ) → WriterBelongs room writer text tree → writer .live ≡ true → parent ≤ writer .nodes
@@ -49,10 +49,15 @@ MakeIs name answer =
 abbrev pub EntryTakes : Kind → ℕ → Type 0
 EntryTakes kind size = (e : Entry) → e .kind ≡ kind → length (entryBytes e) ≡ size
 
+-- A name that is a subkey is never 14, neither in a path nor as the name of a new child.
+pub record Taken (name : List ℕ) : Type 0 where
+  pub in-path : (image : List ℕ) (reader : Reader) (strings entries : List ℕ) → lookupAnswer image reader strings entries (47 ∷ name) ≡ refused (refusal 14) → ⊥
+  pub as-child : (room : ℕ) (writer : Writer) (text tree : List ℕ) (parent : ℕ) → makeAnswer room writer text tree parent name ≡ refused (refusal 14) → ⊥
+
 -- What a row says. A name that is no subkey is 14 in a path, and 14 as the name of a new child.
 abbrev pub Holds : Case → Type 0
 Holds (pathCase path answer) = LookupIs path answer
-Holds (subkeyCase name) = (e : Edition) → isSubkey e name ≡ true
+Holds (subkeyCase name) = ((e : Edition) → isSubkey e name ≡ true) × Taken name
 Holds (notSubkeyCase name) = ((e : Edition) → isSubkey e name ≡ false) × LookupIs (47 ∷ name) (refused (refusal 14)) × MakeIs name (refused (refusal 14))
 Holds (intCase bytes value) = decoded Int bytes 0 ≡ accepted (element.Int value)
 Holds (entryCase void int) = EntryTakes Void void × EntryTakes Int int

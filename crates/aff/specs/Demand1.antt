@@ -93,7 +93,7 @@ pub record Demand1 : Type 0 where
   pub reading-leaves : (image : List ℕ) (r : Reader) (strings entries : List ℕ) → ReadingLeaves image r strings entries
   pub begin-leaves : (room form text tree : List ℕ) (allowance : ℕ) → BeginLeaves room form text tree allowance
   pub writing-leaves : (s : State) (c : Call) → WritingLeaves s c
-  -- So 24 comes exactly when the record does not belong to what is lent.
+  -- By these rules, 24 is reported exactly when the record does not belong to the memory passed.
   pub reading-24 : (image : List ℕ) (r : Reader) (strings entries : List ℕ)
       → EachReading (λ A answer. Is24 A answer ↔ (ReaderBelongs image r strings entries → ⊥)) image r strings entries
   pub writing-24 : (room : List ℕ) (w : Writer) (text tree : List ℕ)
@@ -124,7 +124,7 @@ pub record Demand1 : Type 0 where
       → Exact room stopped tree calls answers → Numbered stopped calls answers
   -- No answer tells more stores than its call needs, and none are told but where a call is accepted or answers 23. (The stores of `begun` and `turn` are
   -- by definition the first so many as the answer tells of those needed. That an accepted call tells all of them and a 23 the allowance is in
-  -- `begin`, `writing` and `Exact`; that the room then holds these and no others is in the contracts, by `roomAfter`.)
+  -- `begin`, `writing` and `Exact`; that the room then holds these and no others is in `begin-leaves` and `writing-leaves`.)
   pub begin-tells : (room form text tree : List ℕ) (allowance : ℕ)
       → length (begun room form text tree allowance .stores) ≡ storesTold (begun room form text tree allowance .answer)
   pub tells : (s : State) (c : Call) → length (turn s c .stores) ≡ toldBy c (turn s c .answer)

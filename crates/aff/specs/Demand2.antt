@@ -5,12 +5,14 @@
 -- tables split from the front (`stringsIn`, `nodesIn`, `behindNodes`).
 use mathlib.Core.Path.{_≡_}
 use mathlib.Core.Bool.{cond}
-use mathlib.Core.List.{List, [], _∷_}
+use mathlib.Core.List.{List, [], _∷_, _++_}
 use mathlib.Core.Logic.{_↔_}
 use Prim.Native.Nat.{ℕ, _+_, _*_, _≤_, _<_}
+use lib.Dec.{eqb}
 use lib.ListN.{length, getD, take}
 use Rattle.aff_format.specs.Answer.{accepted, refused, refusal}
 use Rattle.aff_format.specs.Bytes.{Octets, part}
+use Rattle.aff_format.specs.Edition.{editionNumber}
 use Rattle.aff_format.specs.Element.{elementAt}
 use Rattle.aff_format.specs.Kind.{elementSize, isVoid}
 use Rattle.aff_format.specs.Limits.{stringLimit, nodeLimit}
@@ -18,12 +20,14 @@ use Rattle.aff_format.specs.Path.{WellFormed}
 use Rattle.aff_format.specs.Tree.{pathBy}
 use Rattle.aff_format.specs.declared.entry.Entry.{Entry}
 use Rattle.aff_format.specs.declared.refusal.Told.{Told}
+use Rattle.aff_format.specs.declared.section.Section.the-variants.{Data}
 use Rattle.aff_open.specs.Belongs.{Belongs}
 use Rattle.aff_open.specs.Faults.{FirstFails, rules}
 use Rattle.aff_open.specs.Nodes.{nodeEntry}
 use Rattle.aff_open.specs.Obeys.{Obeys}
 use Rattle.aff_open.specs.Opening.{opened, stringsAfter, entriesAfter}
 use Rattle.aff_open.specs.Recorded.{recordedEntry}
+use Rattle.aff_open.specs.Sections.{sectionRecords}
 use Rattle.aff_open.specs.declared.reader.Reader.{Reader}
 use Rattle.aff_read.specs.Answers.{nameAnswer, kindAnswer, countAnswer, viewAnswer, elementAnswer}
 use Rattle.aff_read.specs.Calls.{editionBy, lookupAnswer, preorder, order, listingAnswer}
@@ -62,12 +66,12 @@ pub record Reads (image : List ℕ) (r : Reader) (strings entries : List ℕ) : 
   pub order-length : length (order image r strings entries) ≡ r .nodes + 1
 
 module _ {image form : List ℕ} (file : Obeys image form) where
-  -- The entry, the name and the path of a node by the file's own tables. The root is 0.
+  -- The entry, the name, the parent and the path of a node by the file's own tables. Node 0 is the root, whose name is empty.
   abbrev pub itsEntry : ℕ → Entry
   itsEntry node = nodeEntry (file .entries) node
 
   abbrev pub itsName : ℕ → List ℕ
-  itsName node = getD (file .strings) (itsEntry node .string) []
+  itsName node = cond (eqb node 0) [] (getD (file .strings) (itsEntry node .string) [])
 
   abbrev pub itsParent : ℕ → ℕ
   itsParent node = itsEntry node .parent
@@ -75,26 +79,34 @@ module _ {image form : List ℕ} (file : Obeys image form) where
   abbrev pub itsPath : ℕ → List ℕ
   itsPath node = pathBy itsParent itsName (length (file .entries)) node
 
-  -- Node n, and no other, has the path; no node has it.
+  -- Node n has the path, and no other node has it.
   pub record ItsNode (path : List ℕ) (n : ℕ) : Type 0 where
     pub exists : n ≤ length (file .entries)
     pub has : itsPath n ≡ path
     pub only : (k : ℕ) → k ≤ length (file .entries) → itsPath k ≡ path → k ≡ n
 
+  -- No node has the path.
   abbrev pub NoNode : List ℕ → Type 0
   NoNode path = (k : ℕ) → k ≤ length (file .entries) → itsPath k ≡ path → ⊥
 
   -- What is read right after an accepted opening: the file's own strings and entries, as `Obeys` has them.
   pub record ReadsFile (r : Reader) (strings entries : List ℕ) : Type 0 where
+    -- The record: the file's edition, the sizes of its tables, and the data header's count as the header has it.
+    pub edition : r .edition ≡ editionNumber (file .edition)
+    pub string-count : r .strings ≡ length (file .strings)
     pub nodes : r .nodes ≡ length (file .entries)
-    pub root-name : PartIs image (nameAnswer image r strings entries 0) []
-    pub name : (node : ℕ) → 0 < node → node ≤ r .nodes → PartIs image (nameAnswer image r strings entries node) (itsName node)
+    pub records : r .records ≡ sectionRecords (file .edition) Data image
+    pub name : (node : ℕ) → node ≤ r .nodes → PartIs image (nameAnswer image r strings entries node) (itsName node)
     pub kind : (node : ℕ) → node ≤ r .nodes → kindAnswer image r strings entries node ≡ accepted (itsEntry node .kind)
     pub count : (node : ℕ) → node ≤ r .nodes → countAnswer image r strings entries node ≡ accepted (itsEntry node .count)
     pub view : (node : ℕ) → node ≤ r .nodes → PartIs image (viewAnswer image r strings entries node) (dataNamed image (itsEntry node))
     pub element : (node index : ℕ) → node ≤ r .nodes → index < itsEntry node .count
         → elementAnswer image r strings entries node index ≡ accepted (elementAt (itsEntry node .kind) (dataNamed image (itsEntry node)) index)
     pub path : (node : ℕ) → node ≤ r .nodes → pathAt image r strings entries node ≡ itsPath node
+    -- Root first: the root's path is `/`; that of a child of the root is `/` and its name; that of another node is its parent's path, `/` and its name.
+    pub path-root : itsPath 0 ≡ 47 ∷ []
+    pub path-top : (node : ℕ) → 0 < node → node ≤ r .nodes → itsParent node ≡ 0 → itsPath node ≡ 47 ∷ itsName node
+    pub path-below : (node : ℕ) → 0 < node → node ≤ r .nodes → 0 < itsParent node → itsPath node ≡ itsPath (itsParent node) ++ (47 ∷ itsName node)
     -- Every other number is 15.
     pub others : (n : ℕ) → r .nodes < n → Absent image r strings entries n
     -- Lookup answers 14 exactly when the path is malformed in the file's edition. For a well-formed one it answers n exactly when n is the one node with that
@@ -103,7 +115,7 @@ module _ {image form : List ℕ} (file : Obeys image form) where
     pub lookup : (path : List ℕ) → WellFormed (file .edition) path → (n : ℕ) → (lookupAnswer image r strings entries path ≡ accepted n) ↔ ItsNode path n
     pub lookup-absent : (path : List ℕ) → WellFormed (file .edition) path → (lookupAnswer image r strings entries path ≡ refused (refusal 15)) ↔ NoNode path
     pub lookup-path : (node : ℕ) → node ≤ r .nodes → lookupAnswer image r strings entries (itsPath node) ≡ accepted node
-    -- Listing order: the root, then its children in number order, each followed by its subtree, by the file's own parents.
+    -- An output for all nodes is accepted, and their number returned, the root included. Listing order: the root, then its children in number order, each followed by its subtree, by the file's own parents.
     pub listing : (room : ℕ) → length (file .entries) < room → listingAnswer image r strings entries room ≡ accepted (length (file .entries) + 1)
     pub listing-order : order image r strings entries ≡ preorder itsParent (length (file .entries) + 1) (length (file .entries) + 1) 0
 

@@ -13,7 +13,7 @@ use Rattle.aff_open.specs.Opening.{opened}
 use Rattle.aff_open.specs.declared.reader.Reader.{Reader}
 use Rattle.aff_write.specs.Stores.{Store, applyStores}
 use Rattle.aff_run.specs.Cut.{cutCalls, cutAnswers, cutStores}
-use Rattle.aff_run.specs.Described.{notVoid}
+use Rattle.aff_run.specs.Described.{nonVoidCount}
 use Rattle.aff_run.specs.Run.{Call, begun, runAnswers, runStores, runState, described, closedBy}
 use Rattle.aff_run.specs.Shows.{Shows}
 
@@ -63,10 +63,10 @@ pub record Cut (room form text tree : List ℕ) (allowance : ℕ) (calls : List 
 abbrev pub Demand3Cut : Type 0
 Demand3Cut = (room form text tree : List ℕ) (allowance : ℕ) (calls : List Call) (k : ℕ) → Cut room form text tree allowance calls k
 
--- The data header's record count of a closed file, as opening reports it, is the number of nodes that are not Void: document 01, 'Layout of a file'. It is said
--- of every run with an accepted close.
+-- The data header's record count of a closed file, as opening reports it, is the number of nodes that are not Void: document 01, 'Layout of a file'. This
+-- holds for every run with an accepted close.
 abbrev pub DataCounted : Type 0
 DataCounted = (room form text tree : List ℕ) (allowance : ℕ) (calls : List Call)
     → closedBy calls (runAnswers room form text tree allowance calls) ≡ true
     → (r : Reader) → opened (runState room form text tree allowance calls .room) form stringLimit nodeLimit ≡ accepted r
-    → r .records ≡ notVoid (described [] calls (runAnswers room form text tree allowance calls))
+    → r .records ≡ nonVoidCount (described [] calls (runAnswers room form text tree allowance calls))

@@ -39,7 +39,7 @@ use Rattle.aff_write.specs.Header.{sectionHeader, headerFront, withSum}
 use Rattle.aff_write.specs.Stores.{Store, applyStores, storesFrom}
 use Rattle.aff_write.specs.Writer.{dataPlace}
 use Rattle.aff_write.proofs.StoreLaws.{apply-append, apply-length, apply-spliced}
-use Rattle.aff_run.specs.Described.{namesOf, dataSize, entriesSize, notVoid, sizeOf}
+use Rattle.aff_run.specs.Described.{namesOf, dataSize, entriesSize, nonVoidCount, sizeOf}
 use Rattle.aff_run.specs.Run.{State}
 use Rattle.aff_run.proofs.SlotsLaws.{Storables, storables-at}
 use Rattle.aff_run.proofs.GoodLaws.{Stored, Good, used-text, names-in, entries-in, count-same, stored-in, storables, clean, sizes-in-bytes, not-void-few, data-nodes-in}
@@ -233,10 +233,10 @@ module _ (s : State) (tree : Tree) (g : Good s tree) where
       ∙ length-stored
 
   -- The data header counts the nodes that are not Void.
-  pub data-records : sectionRecords Two Data closed ≡ notVoid tree
+  pub data-records : sectionRecords Two Data closed ≡ nonVoidCount tree
   unfolding sectionRecords pieces
   data-records =
-      let few : notVoid tree ≤ length tree = not-void-few tree in
+      let few : nonVoidCount tree ≤ length tree = not-void-few tree in
       number 12 128 (dataNodes (s .tree) (length tree)) (simp (length-signatureText, length-beBytes, length-md5) (omega (arith, g .form-length))) refl
       (omega (arith, g .nodes-few, few, data-nodes-in s tree g))
       ∙ data-nodes-in s tree g

@@ -29,7 +29,7 @@ use Rattle.aff_open.specs.Tables.{treeBytes}
 use Rattle.aff_write.specs.Areas.{usedText, namesIn, foundSlot, slotEntry, nameOf, entrySizes, entriesOut, dataNodes, finishedSize}
 use Rattle.aff_write.specs.Belongs.{Belongs}
 use Rattle.aff_write.specs.Writer.{written, dataPlace}
-use Rattle.aff_run.specs.Described.{namesOf, dataSize, entriesSize, notVoid, sizeOf}
+use Rattle.aff_run.specs.Described.{namesOf, dataSize, entriesSize, nonVoidCount, sizeOf}
 use Rattle.aff_run.specs.Run.{State}
 use Rattle.aff_run.proofs.SlotsLaws.{slotsOf, Storables, length-slotsOf, slot-found, slot-entry, entries-out, sizes-are}
 
@@ -159,19 +159,19 @@ module _ (names : List (List ℕ)) (room : List ℕ) (size : ℕ) where
 
 -- ---- Nodes that are not Void.
 
-not-void-append : (a b : Tree) → notVoid (a ++ b) ≡ notVoid a + notVoid b
-unfolding notVoid
-not-void-append [] b = sym (zero-add (notVoid b))
+not-void-append : (a b : Tree) → nonVoidCount (a ++ b) ≡ nonVoidCount a + nonVoidCount b
+unfolding nonVoidCount
+not-void-append [] b = sym (zero-add (nonVoidCount b))
 not-void-append (t ∷ a) b = omega (arith, not-void-append a b)
 
 one-more : (b : Bool) (n m : ℕ) → n ≤ m → cond b 0 1 + n ≤ suc m
 one-more true n m h = omega arith
 one-more false n m h = omega arith
 
-pub not-void-few : (tree : Tree) → notVoid tree ≤ length tree
-unfolding notVoid
+pub not-void-few : (tree : Tree) → nonVoidCount tree ≤ length tree
+unfolding nonVoidCount
 not-void-few [] = omega arith
-not-void-few (t ∷ ts) = one-more (isVoid (t .kind)) (notVoid ts) (length ts) (not-void-few ts)
+not-void-few (t ∷ ts) = one-more (isVoid (t .kind)) (nonVoidCount ts) (length ts) (not-void-few ts)
 
 -- ---- What the writer reads in its areas.
 
@@ -217,15 +217,15 @@ module _ (s : State) (tree : Tree) (g : Good s tree) where
       let e : k + 1 ≡ suc k = omega arith in
       rw e (ap (λ (x : Entry). isVoid (x .kind)) (entry-in (suc k) (omega arith)) ∙ ap isVoid (stored-in (suc k) (omega arith) (omega arith) .kind-is))
 
-  data-nodes-to : (n : ℕ) → n ≤ length tree → dataNodes (s .tree) n ≡ notVoid (take n tree)
-  unfolding dataNodes notVoid
+  data-nodes-to : (n : ℕ) → n ≤ length tree → dataNodes (s .tree) n ≡ nonVoidCount (take n tree)
+  unfolding dataNodes nonVoidCount
   data-nodes-to zero h = refl
   data-nodes-to (suc n) h =
       rw (take-suc tree n root (omega arith), not-void-append (take n tree) (getD tree n root ∷ []), void-in n (omega arith))
       (omega (arith, data-nodes-to n (omega arith)))
 
-  pub data-nodes-in : dataNodes (s .tree) (length tree) ≡ notVoid tree
-  data-nodes-in = data-nodes-to (length tree) (omega arith) ∙ ap notVoid (take-length tree)
+  pub data-nodes-in : dataNodes (s .tree) (length tree) ≡ nonVoidCount tree
+  data-nodes-in = data-nodes-to (length tree) (omega arith) ∙ ap nonVoidCount (take-length tree)
 
   -- The bytes of the entries in a file.
   pub sizes-in-bytes : length (treeBytes (g .entries)) ≡ entriesSize tree

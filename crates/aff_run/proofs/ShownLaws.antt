@@ -42,7 +42,7 @@ use Rattle.aff_read.specs.Calls.{frontWritten, pathAnswer}
 use Rattle.aff_read.specs.Recall.{symbolsEnd, kindAt, nameAt, nameSpan, dataSpan, spanBytes, parentAt, pathAt}
 use Rattle.aff_write.specs.Writer.{dataPlace}
 use Rattle.aff_write.proofs.StoreLaws.{length-take-most}
-use Rattle.aff_run.specs.Described.{namesOf, dataSize, notVoid}
+use Rattle.aff_run.specs.Described.{namesOf, dataSize, nonVoidCount}
 use Rattle.aff_run.specs.Run.{State}
 use Rattle.aff_run.specs.Shows.{PartIs, NodeShown, Absent, Shows}
 use Rattle.aff_run.proofs.GoodLaws.{Stored, Good, count-same, stored-in}
@@ -225,7 +225,7 @@ module _ (s : State) (tree : Tree) (g : Good s tree) where
   closed-shows = record { reader = reader; opens = opens; nodes = node-shown; others = other-absent }
 
   -- Opening reports the number of nodes that are not Void.
-  pub closed-counts : (r : Reader) → opened image form stringLimit nodeLimit ≡ accepted r → r .records ≡ notVoid tree
+  pub closed-counts : (r : Reader) → opened image form stringLimit nodeLimit ≡ accepted r → r .records ≡ nonVoidCount tree
   unfolding reader
   closed-counts r h =
       let both : accepted reader ≡ accepted r = sym opens ∙ h in

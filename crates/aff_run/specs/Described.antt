@@ -41,9 +41,9 @@ entriesSize [] = 0
 entriesSize (t ∷ ts) = entrySize (t .kind) + entriesSize ts
 
 -- How many nodes are not Void.
-unfoldable pub notVoid : Tree → ℕ
-notVoid [] = 0
-notVoid (t ∷ ts) = cond (isVoid (t .kind)) 0 1 + notVoid ts
+unfoldable pub nonVoidCount : Tree → ℕ
+nonVoidCount [] = 0
+nonVoidCount (t ∷ ts) = cond (isVoid (t .kind)) 0 1 + nonVoidCount ts
 
 -- Finished size: header, data bytes, string bytes with their zeros, entries.
 unfoldable pub sizeOf : Tree → ℕ
