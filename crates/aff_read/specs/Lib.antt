@@ -4,6 +4,7 @@ pub mod Answers
 pub mod Calls
 pub mod Lookup
 pub mod Fit
+pub mod Climb
 pub mod Written
 pub mod Once
 pub mod Cases
