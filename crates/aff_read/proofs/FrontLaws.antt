@@ -20,14 +20,18 @@ use Rattle.aff_open.specs.declared.reader.Reader.{Reader}
 use Rattle.aff_open.specs.declared.reader.Span.{Span}
 use Rattle.aff_open.proofs.RecordedLaws.{name-part}
 use Rattle.aff_read.specs.Recall.{symbolsEnd, parentAt, nameAt, nameSpan, spanBytes, pathAt}
-use Rattle.aff_read.proofs.WriteLaws.{Parted}
+use Rattle.aff_read.proofs.WrittenLaws.{Parted}
 use Rattle.aff_read.proofs.SpanLaws.{part-between, name-from, name-within}
 
 module _ (parent : ℕ → ℕ) (name : ℕ → List ℕ) where
   -- In the code's terms.
-  pub front-left : (left n p : ℕ) → p ≡ parent n → (left ≡ 0 → ⊥) → (n ≡ 0 → ⊥) → frontBy parent name left n ≡ frontBy parent name (left - 1) p ++ (47 ∷ name n)
+  front-left : (left n p : ℕ) → p ≡ parent n → (left ≡ 0 → ⊥) → (n ≡ 0 → ⊥) → frontBy parent name left n ≡ frontBy parent name (left - 1) p ++ (47 ∷ name n)
   front-left zero n p up f g = absurd (f refl)
   front-left (suc left) n p up f g = let e : suc left - 1 ≡ left = omega arith in rw (e, up) (front-up parent name left n g)
+
+  pub front-parted : (left n p : ℕ) → p ≡ parent n → (left ≡ 0 → ⊥) → (n ≡ 0 → ⊥) → (o : List ℕ) → length (frontBy parent name left n) ≤ length o
+      → Parted (frontBy parent name (left - 1) p) (47 ∷ name n) (frontBy parent name left n) o
+  front-parted left n p up f g o h = record { is = front-left left n p up f g; fits = h }
 
   pub front-none : (left n : ℕ) → left ≡ 0 → frontBy parent name left n ≡ []
   unfolding frontBy
@@ -59,14 +63,6 @@ module _ (image : List ℕ) (reader : Reader) (strings entries : List ℕ) where
   pub span-size : (node : ℕ) (s : Span) → s ≡ nameSpan image reader strings entries node → s .size ≡ length (nameAt image reader strings entries node)
   span-size node s is = rw is (name-size node)
 
-  -- What is written of a front with some steps left.
-  pub front-parted : (left node p : ℕ) → p ≡ parentAt image entries node → (left ≡ 0 → ⊥) → (node ≡ 0 → ⊥) → (o : List ℕ)
-      → length (frontBy (parentAt image entries) (nameAt image reader strings entries) left node) ≤ length o
-      → Parted (frontBy (parentAt image entries) (nameAt image reader strings entries) (left - 1) p) (47 ∷ nameAt image reader strings entries node)
-      (frontBy (parentAt image entries) (nameAt image reader strings entries) left node) o
-  front-parted left node p up f g o h =
-      record { is = front-left (parentAt image entries) (nameAt image reader strings entries) left node p up f g; room = h }
-
   module _ (b : Belongs image reader strings entries) (node : ℕ) (there : node ≤ reader .nodes) where
     pub path-front : (p : ℕ) → p ≡ parentAt image entries node → pathAt image reader strings entries node ≡ frontAt p ++ (47 ∷ nameAt image reader strings entries node)
     path-front p up =
@@ -76,10 +72,6 @@ module _ (image : List ℕ) (reader : Reader) (strings entries : List ℕ) where
         let n : node ≡ 0 → ⊥ = λ q. omega arith in
         path-other node n ∙ front-step (parentAt image entries) (nameAt image reader strings entries) (reader .nodes) node n (b .climb-ends node h there))
         (at-zero (λ k. k) node))
-
-    pub path-parted : (p : ℕ) → p ≡ parentAt image entries node → (o : List ℕ) → length (pathAt image reader strings entries node) ≤ length o
-        → Parted (frontAt p) (47 ∷ nameAt image reader strings entries node) (pathAt image reader strings entries node) o
-    path-parted p up o h = record { is = path-front p up; room = h }
 
     -- Where its name begins, and what stands there.
     pub name-starts : nameSpan image reader strings entries node .offset ≤ symbolsEnd reader
@@ -98,22 +90,6 @@ module _ (image : List ℕ) (reader : Reader) (strings entries : List ℕ) where
         rw (ne-eqb node 0 (λ q. omega arith))
         (sym (part-between image from size) ∙ name-part image (symbolsEnd reader) from (from + size) (name-from b node there h) (b .symbols-inside) refl))
         (at-zero (λ k. k) node)
-
-    -- In the code's terms: by its place and one more than its length.
-    module _ (from size : ℕ) (at : from ≡ nameSpan image reader strings entries node .offset) (n : size ≡ length (nameAt image reader strings entries node) + 1) where
-      pub name-text : part from (size - 1) image ≡ nameAt image reader strings entries node
-      name-text = let m : size - 1 ≡ nameSpan image reader strings entries node .size = omega (arith, name-size node) in rw (m, at) name-bytes
-
-      pub name-inside : from + (size - 1) ≤ length image
-      name-inside = omega (arith, name-size node, name-within b node there)
-
-    -- Of a span that is the name's.
-    module _ (s : Span) (is : s ≡ nameSpan image reader strings entries node) where
-      pub span-within : s .offset + s .size ≤ length image
-      span-within = rw is (name-within b node there)
-
-      pub span-text : part (s .offset) (s .offset + s .size - s .offset) image ≡ nameAt image reader strings entries node
-      span-text = part-between image (s .offset) (s .size) ∙ rw is name-bytes
 
   -- A node that is not the root: where its name begins, and the name from there on.
   module _ (node : ℕ) (other : node ≡ 0 → ⊥) where

@@ -4,8 +4,9 @@ pub mod JudgeLaws
 pub mod ElementLaws
 pub mod CappedLaws
 pub mod FrontLaws
-pub mod WriteLaws
+pub mod ClimbLaws
 pub mod FitLaws
+pub mod ChainLaws
 pub mod StepLaws
 pub mod LookupLaws
 pub mod WrittenLaws

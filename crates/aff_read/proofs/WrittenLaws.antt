@@ -9,7 +9,7 @@ use native.Mathlib.Omega.{arith}
 use lib.Dec.{ltb}
 use lib.ListN.{length, getD, take, drop, set, length-append}
 use lib.Seq.{length-take-le, take-length, take-suc, take-at}
-use borrow.Author.Tests.{ltb-true, ltb-false}
+use borrow.Author.Tests.{le-ltb, ltb-true, ltb-false}
 use Rattle.aff_format.specs.Answer.{accepted, refused, check, refusal, unless}
 use Rattle.aff_format.specs.Bytes.{spliced}
 use Rattle.aff_format.specs.declared.refusal.Told.{Told}
@@ -39,6 +39,26 @@ module _ {at mid : ℕ} {x o p : List ℕ} (v : Written at x o p mid) (fits : at
         area = spliced-next at mid x y o p q (sym (v .ends)) (omega (arith, v .ends)) (v .area) (w .area);
       }
 
+-- A text of two parts, for an output that is long enough.
+pub record Parted (x y whole o : List ℕ) : Type 0 where
+  pub is : whole ≡ x ++ y
+  pub fits : length whole ≤ length o
+
+-- The first part is written at the front of the output, then the other after it.
+module _ {x y whole o : List ℕ} (t : Parted x y whole o) where
+  whole-length : length whole ≡ length x + length y
+  whole-length = ap length (t .is) ∙ length-append x y
+
+  pub first-fits : length x ≤ length o
+  first-fits = omega (arith, whole-length, t .fits)
+
+  module _ {mid : ℕ} {p : List ℕ} (w : Written 0 x o p mid) where
+    pub other-fits : length p ≡ length o → mid + length y ≤ length p
+    other-fits e = omega (arith, whole-length, t .fits, w .ends)
+
+    pub both-written : {end : ℕ} {q : List ℕ} → Written mid y p q end → Written 0 whole o q end
+    both-written v = written-same (sym (t .is)) (written-more w (omega (arith, first-fits)) v)
+
 -- At the front of an area.
 pub written-front : {end : ℕ} {x o p : List ℕ} → Written 0 x o p end → (end ≡ length x) × (p ≡ x ++ drop (length x) o)
 unfolding spliced
@@ -46,6 +66,11 @@ written-front w = (omega (arith, w .ends), w .area ∙ rw zero-add)
 
 pub written-taken : {end : ℕ} {x o p : List ℕ} → Written 0 x o p end → take end p ≡ x
 written-taken {end} {x} {o} w = let f = written-front w in rw (f .1) (take-at x (drop (length x) o) end (sym (f .0)))
+
+-- A text that fits, written at the front of an output: the answer, and the output after it.
+pub text-written : {end : ℕ} {text o p : List ℕ} → length text ≤ length o → Written 0 text o p end
+    → (accepted end ≡ textAnswer (length o) text) × (p ≡ text ++ drop (length text) o)
+text-written {end} {text} {o} h w = let f = written-front w in (rw (le-ltb (length o) (length text) h) (ap accepted (f .0)), f .1)
 
 -- What the answer of a text says of the room.
 pub text-accepted : (room : ℕ) (text : List ℕ) {n : ℕ} → textAnswer room text ≡ accepted n → (n ≡ length text) × (length text ≤ room)

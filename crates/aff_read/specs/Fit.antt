@@ -1,11 +1,13 @@
 -- How far the path of a node goes along a given path: what a lookup settles once for each node.
 use mathlib.Core.Path.{_≡_}
-use mathlib.Core.Bool.{cond}
+use mathlib.Core.Bool.{true, cond}
 use mathlib.Core.List.{List, [], _∷_}
 use Prim.Native.Nat.{ℕ, _+_, _≤_, _<_}
 use lib.Dec.{eqb}
 use lib.ListN.{length, getD}
-use Rattle.aff_format.specs.Tree.{frontBy}
+use Rattle.aff_format.specs.Limits.{nodeLimit}
+use Rattle.aff_format.specs.Tree.{frontBy, reachesBy}
+use Rattle.aff_open.specs.Recorded.{recordedEntry}
 use Rattle.aff_open.specs.declared.reader.Reader.{Reader}
 use Rattle.aff_read.specs.Recall.{parentAt, nameAt}
 
@@ -26,3 +28,19 @@ pub record Settled (image : List ℕ) (reader : Reader) (strings entries path fi
   pub wide : reader .nodes < length fits
   pub root : getD fits 0 0 ≡ 0 → ⊥
   pub told : (k : ℕ) → k ≤ reader .nodes → (getD fits k 0 ≡ 0 → ⊥) → getD fits k 0 ≡ fitAt image reader strings entries path k
+
+-- A node from which a climb by parents ends at the root, which is settled.
+pub record Climbable (image entries fits : List ℕ) (nodes node : ℕ) : Type 0 where
+  pub few : nodes ≤ nodeLimit
+  pub exists : node ≤ nodes
+  pub linked : (k : ℕ) → k ≤ nodes → parentAt image entries k ≤ nodes
+  pub reaches : reachesBy (parentAt image entries) nodes node ≡ true
+  pub root : getD fits 0 0 ≡ 0 → ⊥
+
+-- `count` nodes of a climb, none the root, each the child of the next, and their string numbers; after them the parent of the last.
+pub record Chain (image entries : List ℕ) (nodes : ℕ) (chain names : List ℕ) (count : ℕ) : Type 0 where
+  pub few : count ≤ nodes
+  pub exist : (j : ℕ) → j ≤ count → getD chain j 0 ≤ nodes
+  pub others : (j : ℕ) → j < count → 0 < getD chain j 0
+  pub parents : (j : ℕ) → j < count → getD chain (j + 1) 0 ≡ parentAt image entries (getD chain j 0)
+  pub strings : (j : ℕ) → j < count → getD names j 0 ≡ recordedEntry image entries (getD chain j 0) .string

@@ -4,5 +4,6 @@ pub mod Answers
 pub mod Calls
 pub mod Lookup
 pub mod Fit
+pub mod Climb
 pub mod Written
 pub mod Once

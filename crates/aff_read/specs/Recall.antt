@@ -1,12 +1,12 @@
 -- What the record and the two areas say of each node, whatever they hold: document 01, 'Reading keys'. Node 0 is the root.
 use mathlib.Core.Bool.{cond}
-use mathlib.Core.List.{List, [], _∷_}
-use Prim.Native.Nat.{ℕ, zero, suc, _+_, _*_}
+use mathlib.Core.List.{List, []}
+use Prim.Native.Nat.{ℕ, _+_, _*_}
 use lib.Dec.{eqb}
 use lib.ListN.{length, getD}
 use Rattle.aff_format.specs.Bytes.{part}
 use Rattle.aff_format.specs.Kind.{elementSize, isVoid}
-use Rattle.aff_format.specs.Tree.{Node, Tree, pathBy}
+use Rattle.aff_format.specs.Tree.{pathBy}
 use Rattle.aff_format.specs.declared.kind.Kind.{Kind}
 use Rattle.aff_open.specs.Reader.{noSpan}
 use Rattle.aff_open.specs.Recorded.{recordedEntry, recordedString}
@@ -53,21 +53,3 @@ bytesAt image entries k = spanBytes image (dataSpan image entries k)
 -- The path, root first, by parents and names.
 abbrev pub pathAt : List ℕ → Reader → List ℕ → List ℕ → ℕ → List ℕ
 pathAt image reader strings entries k = pathBy (parentAt image entries) (nameAt image reader strings entries) (reader .nodes) k
-
-abbrev pub nodeAt : List ℕ → Reader → List ℕ → List ℕ → ℕ → Node
-nodeAt image reader strings entries k =
-    record {
-      parent = parentAt image entries k;
-      name = nameAt image reader strings entries k;
-      kind = kindAt image entries k;
-      bytes = bytesAt image entries k;
-    }
-
--- f k, f (k + 1), .. , `left` of them.
-unfoldable pub listFrom : (ℕ → Node) → ℕ → ℕ → List Node
-listFrom f zero k = []
-listFrom f (suc left) k = f k ∷ listFrom f left (k + 1)
-
--- The tree that an opened image shows.
-abbrev pub treeAt : List ℕ → Reader → List ℕ → List ℕ → Tree
-treeAt image reader strings entries = listFrom (nodeAt image reader strings entries) (reader .nodes) 1

@@ -135,7 +135,7 @@ pub fn listing(
     ensures answer { λ r. ⌜ numberTold r ≡ listingAnswer (now (image .entry)) reader (now (strings .entry)) (now (entries .entry)) (length (now (out .entry))) ⌝ }
     ensures output { λ r. ⌜ now (out .exit) ≡ frontWritten (numberTold r) (order (now (image .entry)) reader (now (strings .entry)) (now (entries .entry))) (now (out .entry)) ⌝ }
 {
-    if belongs::belongs(image, reader, strings, entries) {} else {
+    if !belongs::belongs(image, reader, strings, entries) {
         return NumberAnswer::Refused(Refusal::WrongRecord);
     }
     if out.len() <= reader.nodes {

@@ -26,7 +26,7 @@ ghost use Rattle.aff_read.specs.Recall.{kindAt, countAt, nameSpan, dataS
 pub fn judge(image: &[u8], reader: Reader, strings: &[u32], entries: &[u32], node: usize) -> Verdict
     ensures { λ r. ⌜ verdictTold r ≡ firstWrong (nodeChecks (now (image .entry)) reader (now (strings .entry)) (now (entries .entry)) node) tt ⌝ }
 {
-    if belongs::belongs(image, reader, strings, entries) {} else {
+    if !belongs::belongs(image, reader, strings, entries) {
         return Verdict::Refused(Refusal::WrongRecord);
     }
     if reader.nodes < node {

@@ -12,21 +12,21 @@ use aff_open::Reader;
 use aff_open::belongs;
 use aff_open::recorded;
 ghost use mathlib.Core.Path.{_≡_};
-ghost use mathlib.Core.Bool.{true};
 ghost use mathlib.Core.List.{[], _∷_};
 ghost use Prim.Native.Nat.{_+_, _-_, _^_, _≤_, _<_};
-ghost use lib.ListN.{length, getD, drop, set};
+ghost use lib.ListN.{length, getD, drop};
 ghost use Rattle.aff_format.specs.Bytes.{spliced, sameBytes};
 ghost use Rattle.aff_format.specs.Edition.{editionOf};
 ghost use Rattle.aff_format.specs.Path.{isPath};
-ghost use Rattle.aff_format.specs.Tree.{frontBy, reachesBy};
+ghost use Rattle.aff_format.specs.Limits.{nodeLimit};
 ghost use Rattle.aff_open.specs.Belongs.{Belongs};
 ghost use Rattle.aff_open.specs.Recorded.{recordedEntry};
 ghost use Rattle.aff_open.specs.Sections.{orTwo};
 ghost use Rattle.aff_open.specs.Tables.{nameFrom};
 ghost use Rattle.aff_format.specs.Verdict.{numberTold};
 ghost use Rattle.aff_read.specs.Calls.{capped, pathAnswer, frontWritten, found, lookupAnswer};
-ghost use Rattle.aff_read.specs.Fit.{fitFrom, fitAt, Settled};
+ghost use Rattle.aff_read.specs.Climb.{tableParent, tableName, tableFront, TableInside, NotedMore, ClimbNoted};
+ghost use Rattle.aff_read.specs.Fit.{fitFrom, fitAt, Settled, Climbable, Chain};
 ghost use Rattle.aff_read.specs.Recall.{parentAt, nameAt, nameSpan, pathAt};
 ghost use Rattle.aff_read.specs.Written.{Written, textAnswer};
 
@@ -120,42 +120,77 @@ pub fn put(text: &[u8], at: usize, out: &mut [u8]) -> usize
     at + text.len()
 }
 
-// Stores a slash and a node's name from a place on. It answers where they end.
-fn put_own(
+// Stores a node other than the root in the table of a climb, for a record that belongs: its parent, and where its name begins and ends. Reads one
+// entry and one name. Returns the parent.
+fn note(
     image: &[u8],
     reader: Reader,
     strings: &[u32],
     entries: &[u32],
     node: usize,
-    at: usize,
-    out: &mut [u8],
+    table: &mut [u32; 6147],
 ) -> usize
-    requires { ⌜ Belongs (now image) reader (now strings) (now entries) × (node ≤ reader .nodes) ⌝ }
-    requires { ⌜ at + length (47 ∷ nameAt (now image) reader (now strings) (now entries) node) ≤ length (now out) ⌝ }
-    ensures size { λ r. ⌜ r ≡ at + length (47 ∷ nameAt (now (image .entry)) reader (now (strings .entry)) (now (entries .entry)) node) ⌝ }
-    ensures text { λ r. ⌜ now (out .exit) ≡ spliced at (47 ∷ nameAt (now (image .entry)) reader (now (strings .entry)) (now (entries .entry)) node) (now (out .entry)) ⌝ }
+    requires { ⌜ Belongs (now image) reader (now strings) (now entries) × (0 < node) × (node ≤ reader .nodes) ⌝ }
+    requires { ⌜ TableInside (now image) (now table) ⌝ }
+    ensures parent { λ r. ⌜ r ≡ parentAt (now (image .entry)) (now (entries .entry)) node ⌝ }
+    ensures table { λ _. ⌜ NotedMore (now (image .entry)) reader (now (strings .entry)) (now (entries .entry)) (now (table .entry)) (now (table .exit)) node ⌝ }
 {
-    let span = node::name_span(image, reader, strings, entries, node);
-    let from = span.offset;
-    let end = from + span.size;
+    let symbols = reader.symbols;
+    let entry = recorded::recorded_entry(image, entries, node);
+    let parent = entry.parent as usize;
+    let from = recorded::place(strings, entry.string as usize);
+    let end = recorded::name_end(image, from, symbols.offset + symbols.size);
+    let at = 3 * node;
+    table[at] = parent as u32;
+    table[at + 1] = from as u32;
+    table[at + 2] = end as u32;
+    parent
+}
+
+// Stores the climb from a node to the root in its table. Nothing is stored of other nodes.
+fn note_climb(
+    image: &[u8],
+    reader: Reader,
+    strings: &[u32],
+    entries: &[u32],
+    node: usize,
+    table: &mut [u32; 6147],
+)
+    requires { ⌜ Belongs (now image) reader (now strings) (now entries) × (node ≤ reader .nodes) ⌝ }
+    requires { ⌜ TableInside (now image) (now table) ⌝ }
+    ensures { λ _. ⌜ ClimbNoted (now (image .entry)) reader (now (strings .entry)) (now (entries .entry)) (now (table .exit)) node ⌝ }
+{
+    let mut at = node;
+    while at != 0 {
+        at = note(image, reader, strings, entries, at, table);
+    }
+}
+
+fn noted_parent(table: &[u32; 6147], node: usize) -> usize
+    requires { ⌜ node ≤ nodeLimit ⌝ }
+    ensures { λ r. ⌜ r ≡ tableParent (now (table .entry)) node ⌝ }
+{
+    recorded::place(table, 3 * node)
+}
+
+// Writes a slash and a node's name, by the table, from a place on. Returns where they end.
+fn put_own(image: &[u8], table: &[u32; 6147], node: usize, at: usize, out: &mut [u8]) -> usize
+    requires { ⌜ TableInside (now image) (now table) × (node ≤ nodeLimit) ⌝ }
+    requires { ⌜ at + length (47 ∷ tableName (now image) (now table) node) ≤ length (now out) ⌝ }
+    ensures { λ r. ⌜ Written at (47 ∷ tableName (now (image .entry)) (now (table .entry)) node) (now (out .entry)) (now (out .exit)) r ⌝ }
+{
+    let from = recorded::place(table, 3 * node + 1);
+    let end = recorded::place(table, 3 * node + 2);
     out[at] = b'/';
     put(&image[from..end], at + 1, out)
 }
 
-// Writes what stands before the slash of a node's children: first that of its parent, then the own slash and name. At most `left` steps up.
-fn write_front(
-    image: &[u8],
-    reader: Reader,
-    strings: &[u32],
-    entries: &[u32],
-    node: usize,
-    left: usize,
-    out: &mut [u8],
-) -> usize
-    requires { ⌜ Belongs (now image) reader (now strings) (now entries) × (node ≤ reader .nodes) ⌝ }
-    requires { ⌜ length (frontBy (parentAt (now image) (now entries)) (nameAt (now image) reader (now strings) (now entries)) left node) ≤ length (now out) ⌝ }
-    ensures size { λ r. ⌜ r ≡ length (frontBy (parentAt (now (image .entry)) (now (entries .entry))) (nameAt (now (image .entry)) reader (now (strings .entry)) (now (entries .entry))) left node) ⌝ }
-    ensures text { λ r. ⌜ now (out .exit) ≡ spliced 0 (frontBy (parentAt (now (image .entry)) (now (entries .entry))) (nameAt (now (image .entry)) reader (now (strings .entry)) (now (entries .entry))) left node) (now (out .entry)) ⌝ }
+// Writes the bytes before the slash of a node's children, by the table: those of its parent first, then a slash and the node's own name. At most
+// `left` steps up; returns where they end. It calls itself once for each node of the climb, so at most 2,048 calls deep.
+fn write_front(image: &[u8], table: &[u32; 6147], node: usize, left: usize, out: &mut [u8]) -> usize
+    requires { ⌜ TableInside (now image) (now table) × (node ≤ nodeLimit) ⌝ }
+    requires { ⌜ length (tableFront (now image) (now table) left node) ≤ length (now out) ⌝ }
+    ensures { λ r. ⌜ Written 0 (tableFront (now (image .entry)) (now (table .entry)) left node) (now (out .entry)) (now (out .exit)) r ⌝ }
 {
     if left == 0 {
         return 0;
@@ -163,13 +198,13 @@ fn write_front(
     if node == 0 {
         return 0;
     }
-    let parent = parent_of(image, entries, node);
-    let at = write_front(image, reader, strings, entries, parent, left - 1, out);
-    put_own(image, reader, strings, entries, node, at, out)
+    let parent = noted_parent(table, node);
+    let at = write_front(image, table, parent, left - 1, out);
+    put_own(image, table, node, at, out)
 }
 
-// Writes the path of a node, for a record that belongs: 21. It measures first, so that at most three times the output's length is read:
-// to measure, to find each name's end, to copy.
+// Writes the path of a node, for a record that belongs: 21. It measures first, so that at most three times the output's length is read: to measure,
+// to find each name's end, to copy. The table of the climb is 24,588 bytes of stack.
 pub fn path_of(
     image: &[u8],
     reader: Reader,
@@ -186,9 +221,12 @@ pub fn path_of(
     if room < path_length(image, reader, strings, entries, node, room) {
         return NumberAnswer::Refused(Refusal::NoRoom);
     }
-    let parent = parent_of(image, entries, node);
-    let at = write_front(image, reader, strings, entries, parent, reader.nodes, out);
-    NumberAnswer::Value(put_own(image, reader, strings, entries, node, at, out))
+    if node == 0 {
+        return NumberAnswer::Value(put(b"/", 0, out));
+    }
+    let mut table = [0u32; 6147];
+    note_climb(image, reader, strings, entries, node, &mut table);
+    NumberAnswer::Value(write_front(image, &table, node, reader.nodes, out))
 }
 
 // Writes the path of a node, root first, at the front of an output; the rest of it stays: 24, 15, 21. It answers the path's length.
@@ -276,37 +314,70 @@ fn fit_below(
     fit_from(image, from, symbols.offset + symbols.size, path, at + 1)
 }
 
-fn fit_of(fits: &[usize], node: usize) -> usize
-    requires { ⌜ node < length (now fits) ⌝ }
-    ensures { λ r. ⌜ r ≡ getD (now (fits .entry)) node 0 ⌝ }
+// Climbs from a node to the first one that is settled, itself or one above it. Stores the nodes on the way and that one in `chain`, and the string
+// numbers of those on the way in `names`. Returns how many are on the way.
+fn climb(
+    image: &[u8],
+    entries: &[u32],
+    nodes: usize,
+    node: usize,
+    fits: &[usize; 2049],
+    chain: &mut [u32],
+    names: &mut [u32],
+) -> usize
+    requires { ⌜ Climbable (now image) (now entries) (now fits) nodes node ⌝ }
+    requires { ⌜ (length (now chain) ≡ 2049) × (length (now names) ≡ 2049) ⌝ }
+    ensures chain { λ r. ⌜ Chain (now (image .entry)) (now (entries .entry)) nodes (now (chain .exit)) (now (names .exit)) r ⌝ }
+    ensures first { λ _. ⌜ getD (now (chain .exit)) 0 0 ≡ node ⌝ }
+    ensures settled { λ r. ⌜ (getD (now (fits .entry)) (getD (now (chain .exit)) r 0) 0 ≡ 0 → ⊥) ⌝ }
 {
-    fits[node]
+    let mut count: usize = 0;
+    let mut at = node;
+    chain[0] = node as u32;
+    while fits[at] == 0 {
+        let entry = recorded::recorded_entry(image, entries, at);
+        names[count] = entry.string;
+        at = entry.parent as usize;
+        count += 1;
+        chain[count] = at as u32;
+    }
+    count
 }
 
-// Settles a node whose parent is settled: its fit is stored, where 0 stood.
-fn settle_below(
+// Settles the nodes of a chain, from the one next to its settled end back to the first: each gets its fit, by that of its parent. Returns the fit of
+// the first.
+fn settle_chain(
     image: &[u8],
     reader: Reader,
     strings: &[u32],
     entries: &[u32],
     path: &[u8],
-    node: usize,
-    parent: usize,
-    string: usize,
-    fits: &mut [usize],
-)
-    requires { ⌜ Belongs (now image) reader (now strings) (now entries) × (node ≤ reader .nodes) × (0 < node) ⌝ }
-    requires { ⌜ string ≡ recordedEntry (now image) (now entries) node .string ⌝ }
-    requires { ⌜ (parent ≡ parentAt (now image) (now entries) node) × (node < length (now fits)) × (parent < length (now fits)) ⌝ }
-    requires { ⌜ getD (now fits) parent 0 ≡ fitAt (now image) reader (now strings) (now entries) (now path) parent ⌝ }
-    ensures { λ _. ⌜ now (fits .exit) ≡ set (now (fits .entry)) node (fitAt (now (image .entry)) reader (now (strings .entry)) (now (entries .entry)) (now (path .entry)) node) ⌝ }
+    chain: &[u32],
+    names: &[u32],
+    count: usize,
+    fits: &mut [usize; 2049],
+) -> usize
+    requires { ⌜ Belongs (now image) reader (now strings) (now entries) ⌝ }
+    requires { ⌜ Settled (now image) reader (now strings) (now entries) (now path) (now fits) ⌝ }
+    requires { ⌜ Chain (now image) (now entries) (reader .nodes) (now chain) (now names) count ⌝ }
+    requires { ⌜ (getD (now fits) (getD (now chain) count 0) 0 ≡ 0 → ⊥) ⌝ }
+    ensures settled { λ _. ⌜ Settled (now (image .entry)) reader (now (strings .entry)) (now (entries .entry)) (now (path .entry)) (now (fits .exit)) ⌝ }
+    ensures fit { λ r. ⌜ r ≡ fitAt (now (image .entry)) reader (now (strings .entry)) (now (entries .entry)) (now (path .entry)) (getD (now (chain .entry)) 0 0) ⌝ }
 {
-    let above = fits[parent];
-    let fit = fit_below(image, reader, strings, entries, path, node, string, above);
-    fits[node] = fit;
+    let top = recorded::place(chain, count);
+    let mut k = count;
+    let mut fit = fits[top];
+    while 0 < k {
+        k -= 1;
+        let node = recorded::place(chain, k);
+        let string = recorded::place(names, k);
+        fit = fit_below(image, reader, strings, entries, path, node, string, fit);
+        fits[node] = fit;
+    }
+    fit
 }
 
-// Settles a node: first its parent, at most `left` steps up. Nothing is done where it is settled. So 2,048 calls at most are open at once.
+// Settles a node other than the root, after those above it that are not settled yet. Returns its fit.
 fn settle(
     image: &[u8],
     reader: Reader,
@@ -314,41 +385,28 @@ fn settle(
     entries: &[u32],
     path: &[u8],
     node: usize,
-    left: usize,
-    fits: &mut [usize],
-)
-    requires { ⌜ Belongs (now image) reader (now strings) (now entries) × (node ≤ reader .nodes) ⌝ }
-    requires { ⌜ reachesBy (parentAt (now image) (now entries)) left node ≡ true ⌝ }
+    chain: &mut [u32],
+    names: &mut [u32],
+    fits: &mut [usize; 2049],
+) -> usize
+    requires { ⌜ Belongs (now image) reader (now strings) (now entries) × (0 < node) × (node ≤ reader .nodes) ⌝ }
     requires { ⌜ Settled (now image) reader (now strings) (now entries) (now path) (now fits) ⌝ }
+    requires { ⌜ (length (now chain) ≡ 2049) × (length (now names) ≡ 2049) ⌝ }
     ensures settled { λ _. ⌜ Settled (now (image .entry)) reader (now (strings .entry)) (now (entries .entry)) (now (path .entry)) (now (fits .exit)) ⌝ }
-    ensures told { λ _. ⌜ getD (now (fits .exit)) node 0 ≡ fitAt (now (image .entry)) reader (now (strings .entry)) (now (entries .entry)) (now (path .entry)) node ⌝ }
+    ensures fit { λ r. ⌜ r ≡ fitAt (now (image .entry)) reader (now (strings .entry)) (now (entries .entry)) (now (path .entry)) node ⌝ }
 {
-    if fit_of(fits, node) != 0 {
-        return;
-    }
-    let entry = recorded::recorded_entry(image, entries, node);
-    let parent = entry.parent as usize;
-    settle(
+    let count = climb(image, entries, reader.nodes, node, fits, chain, names);
+    settle_chain(
         image,
         reader,
         strings,
         entries,
         path,
-        parent,
-        left - 1,
+        chain,
+        names,
+        count,
         fits,
-    );
-    settle_below(
-        image,
-        reader,
-        strings,
-        entries,
-        path,
-        node,
-        parent,
-        entry.string as usize,
-        fits,
-    );
+    )
 }
 
 // Whether the path of a node is the given one.
@@ -359,10 +417,13 @@ fn has_path(
     entries: &[u32],
     path: &[u8],
     node: usize,
-    fits: &mut [usize],
+    chain: &mut [u32],
+    names: &mut [u32],
+    fits: &mut [usize; 2049],
 ) -> bool
     requires { ⌜ Belongs (now image) reader (now strings) (now entries) × (node ≤ reader .nodes) ⌝ }
     requires { ⌜ Settled (now image) reader (now strings) (now entries) (now path) (now fits) ⌝ }
+    requires { ⌜ (length (now chain) ≡ 2049) × (length (now names) ≡ 2049) ⌝ }
     ensures settled { λ r. ⌜ Settled (now (image .entry)) reader (now (strings .entry)) (now (entries .entry)) (now (path .entry)) (now (fits .exit)) ⌝ }
     ensures answer { λ r. ⌜ r ≡ sameBytes (pathAt (now (image .entry)) reader (now (strings .entry)) (now (entries .entry)) node) (now (path .entry)) ⌝ }
 {
@@ -376,10 +437,11 @@ fn has_path(
         entries,
         path,
         node,
-        reader.nodes,
+        chain,
+        names,
         fits,
-    );
-    fit_of(fits, node) == path.len() + 2
+    )
+        == path.len() + 2
 }
 
 // The lowest node whose path is the given one, for a record that belongs. Each node is settled once at most: its entry is read once, and its
@@ -394,11 +456,23 @@ pub fn lowest_match(
     requires { ⌜ Belongs (now image) reader (now strings) (now entries) ⌝ }
     ensures { λ r. ⌜ r ≡ found (now (image .entry)) reader (now (strings .entry)) (now (entries .entry)) (now (path .entry)) ⌝ }
 {
+    let mut chain = [0u32; 2049];
+    let mut names = [0u32; 2049];
     let mut fits = [0usize; 2049];
     fits[0] = 2;
     let mut k: usize = 0;
     while k <= reader.nodes {
-        if has_path(image, reader, strings, entries, path, k, &mut fits) {
+        if has_path(
+            image,
+            reader,
+            strings,
+            entries,
+            path,
+            k,
+            &mut chain,
+            &mut names,
+            &mut fits,
+        ) {
             return Lowest::At(k);
         }
         k += 1;
@@ -435,10 +509,10 @@ pub fn lookup(
 ) -> NumberAnswer
     ensures { λ r. ⌜ numberTold r ≡ lookupAnswer (now (image .entry)) reader (now (strings .entry)) (now (entries .entry)) (now (path .entry)) ⌝ }
 {
-    if belongs::belongs(image, reader, strings, entries) {} else {
+    if !belongs::belongs(image, reader, strings, entries) {
         return NumberAnswer::Refused(Refusal::WrongRecord);
     }
-    if is_path(edition_of(reader.edition), path) {} else {
+    if !is_path(edition_of(reader.edition), path) {
         return NumberAnswer::Refused(Refusal::Malformed(0));
     }
     match lowest_match(image, reader, strings, entries, path) {
