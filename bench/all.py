@@ -2,7 +2,8 @@
 """Measures all that docs/SPEED.md reports, in one run, prints it, and writes it there.
 
 Each table stands in docs/SPEED.md between a line `<!-- NAME: written by bench/all.py -->` and `<!-- end -->`, and so does the sentence on the machine
-and the run. The run fails, and writes nothing, where an answer of the library, of md5sum or of the second reader is another than expected.
+and the run. The run fails, and writes nothing, where an answer of the library, of md5sum or of the second reader is another than expected, or where a call needs more
+stack than include/aff.h allows.
 
 Use, from anywhere: bench/all.py [ROUNDS].
 It needs rt, cargo, a C compiler as cc, md5sum, Linux on x86-64, 600 MB of memory, and 70 MB of disk below target/. Where the library has not been proved
@@ -19,12 +20,13 @@ import md5
 import open as opening
 import read
 import second
+import stack
 import tools
 import write
 
 SPEED = os.path.join(tools.ROOT, "docs", "SPEED.md")
 PLACE = re.compile(r"<!-- ([a-z0-9 ]+): written by bench/all\.py -->\n.*?<!-- end -->", re.DOTALL)
-STEPS = [("MD5", md5), ("Opening", opening), ("Reading", read), ("Writing", write), ("Second reader", second)]
+STEPS = [("MD5", md5), ("Opening", opening), ("Reading", read), ("Writing", write), ("Stack", stack), ("Second reader", second)]
 
 
 def step(name, work):
@@ -39,6 +41,7 @@ def step(name, work):
 def build():
     for name in ("md5", "open", "read", "write"):
         tools.program(name)
+    stack.program()
     tools.lister()
     tools.second_reader()
 

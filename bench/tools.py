@@ -3,6 +3,7 @@
 A sample is a batch of calls that takes 10 ms at least. In a round two things that are compared take turns, with the median of seven samples each
 (three, where a sample takes long); a time is the median of the rounds' medians, and a ratio the median of the rounds' ratios.
 """
+import argparse
 import functools
 import os
 import statistics
@@ -119,6 +120,11 @@ class Table:
 
 def rounds():
     """The number of rounds: the script's one argument, if any."""
-    if len(sys.argv) > 2 or not all(word.isdecimal() and int(word) for word in sys.argv[1:]):
-        sys.exit(f"usage: {os.path.basename(sys.argv[0])} [ROUNDS]")
-    return int(sys.argv[1]) if len(sys.argv) > 1 else ROUNDS
+    def number(word):
+        if not word.isdecimal() or not int(word):
+            raise argparse.ArgumentTypeError(f"{word} is no number from 1 on")
+        return int(word)
+
+    parser = argparse.ArgumentParser(description=sys.modules["__main__"].__doc__, formatter_class=argparse.RawDescriptionHelpFormatter)
+    parser.add_argument("rounds", metavar="ROUNDS", nargs="?", type=number, default=ROUNDS)
+    return parser.parse_args().rounds

@@ -5,6 +5,7 @@
 
 The file's parts are read off its own header, the outcomes are the lines of `cut_drill`. Nothing of the library is used.
 """
+import argparse
 import struct
 import sys
 from xml.sax.saxutils import escape
@@ -113,7 +114,9 @@ def stops(where, stores, outcomes, y):
 
 
 def main():
-    file = open(sys.argv[1], "rb").read()
+    parser = argparse.ArgumentParser(description=__doc__, formatter_class=argparse.RawDescriptionHelpFormatter)
+    parser.add_argument("file", metavar="FILE", type=argparse.FileType("rb"))
+    file = parser.parse_args().file.read()
     where = parts_of(file)
     stores = stores_of(file, where)
     outcomes = outcomes_of(sys.stdin, len(stores))

@@ -1,24 +1,19 @@
-// The AFF library for C and C++: what `rt staticlib aff_c` builds, target/staticlib/libaff_c.a. The functions are those of crates/aff_c, each proved to
-// meet its contract there; what a call answers is said in crates/aff_read/specs and crates/aff_write/specs.
+// aff.h - AFF files in C and C++: opening, reading, writing.
 //
-// Memory is the caller's. The library allocates nothing and keeps nothing between calls. Each pointer must be valid for the length that follows it, or for
-// the number of items that is named, and what a call writes may overlap nothing else that it is lent: the proofs begin there.
+// Link with target/staticlib/libaff_c.a, which `rt staticlib aff_c` builds (x86-64). samples/read.c is a complete program.
 //
-// Every function but `aff_form_for` returns 0 where the call is accepted, else the number of the refusal. A reading call then leaves its outputs as they
-// were; what opening and the writer leave is said with them. The numbers:
-//    1 a lent length is wrong, or the image is above 2,147,483,647 bytes   14 the path or the name is malformed
-//    2 the image is too short                                              15 no such node, or no node with that path
-//    3 no signature text of an edition, or an unfinished file              16 no such element
-//    4 the 12 bytes of form differ                                         17 the child exists already
-//    5 the header's sum differs                                            18 the node is the root, or has data
-//    6 a section lies outside the image                                    19 a wrong type, or bytes that are no whole elements
-//    7 a section's sum differs                                             20 too many nodes or strings, or too much text
-//    8 the symbol table is wrong                                           21 too little room
-//    9 the tree table is wrong                                             22 the writer is closed or stopped
-//   10 a node's parent, string or name is wrong                            23 the allowance gave out; the number of stores made is told
-//   11 a node does not reach the root                                      24 record, areas and image do not belong together
-//   12 a sibling has the same name
-//   13 a node's data lie outside the data section
+// All memory is the caller's: the library allocates nothing, keeps nothing between calls, and does no input or output. Calls from several threads
+// need no lock unless one of them writes memory that another one uses.
+//
+// Each function is proved to meet its contract (crates/aff_c/src) for all bytes and numbers that it can be passed. The caller's duties:
+//   - A pointer is aligned and valid for the length that follows it, or for the number of items that the comment names. It may be null if that length
+//     is 0.
+//   - Memory that a call writes overlaps nothing else that is passed to it.
+//   - While a call runs, nobody else changes or removes the memory: no other thread, no other process that has the file mapped, and nobody truncates a
+//     mapped file. All bounds are proved for the lengths at the call.
+//   - 256 KiB of stack are left. No call needs more; docs/SPEED.md has the measured figures.
+//
+// Every function but aff_form_for returns AFF_OK or one of the numbers below.
 #ifndef AFF_H
 #define AFF_H
 
@@ -30,65 +25,140 @@
 extern "C" {
 #endif
 
-// Lengths: the two work areas of an opening, the record of an opening, the writer's areas and record, the form.
+// Refusals. Some also report a place, aff_open_image in record[0] and the writer in numbers[0]; the place of the others is 0.
+enum {
+    AFF_OK = 0,
+    AFF_ERR_LENGTH = 1,       // A work area or the form has a wrong length, or the image has more than 2,147,483,647 bytes.
+    AFF_ERR_SHORT = 2,        // The image is shorter than its header: 144 bytes, 168 in edition 2.
+    AFF_ERR_SIGNATURE = 3,    // The image does not begin with the text of an edition: it is no AFF file, or one that was never closed.
+    AFF_ERR_FORM = 4,         // The 12 bytes after that text differ from the form that was passed.
+    AFF_ERR_HEADER_SUM = 5,   // The header's MD5 sum is wrong.
+    AFF_ERR_SECTION = 6,      // A section ends past the image. Place: 1 symbols, 2 tree, 3 data.
+    AFF_ERR_SECTION_SUM = 7,  // A section's MD5 sum is wrong. Place: 1 symbols, 2 tree, 3 data.
+    AFF_ERR_SYMBOLS = 8,      // The symbol table lacks its last zero, has over 2,048 strings, another number than the header says, or a string twice.
+    AFF_ERR_TREE = 9,         // A tree entry is cut short, of no type, or the 2,049th. Place: the entry; 0 if their number is not the header's.
+    AFF_ERR_NODE = 10,        // A node's parent or string does not exist, or its name is malformed. Place: the lowest such node.
+    AFF_ERR_CYCLE = 11,       // A node's parents do not lead to the root. Place: the lowest such node.
+    AFF_ERR_SIBLING = 12,     // A node has the name of a sibling with a lower number. Place: the lowest such node.
+    AFF_ERR_DATA = 13,        // A node's data is not inside the data section. Place: the lowest such node.
+    AFF_ERR_NAME = 14,        // The path or the name is malformed.
+    AFF_ERR_NOT_FOUND = 15,   // No node has that path or number.
+    AFF_ERR_INDEX = 16,       // The index is not below the number of elements.
+    AFF_ERR_EXISTS = 17,      // The parent has a child of that name already.
+    AFF_ERR_HAS_DATA = 18,    // The node is the root, or it has data already.
+    AFF_ERR_TYPE = 19,        // The type is not 2 to 5, or the bytes are no whole number of elements.
+    AFF_ERR_FULL = 20,        // There would be over 2,048 nodes, over 2,048 strings, or over 32,768 bytes of text.
+    AFF_ERR_SPACE = 21,       // The buffer is too short for the file, or the output for the path or the listing.
+    AFF_ERR_CLOSED = 22,      // The file is closed or stopped.
+    AFF_ERR_ALLOWANCE = 23,   // The allowance is smaller than the number of bytes to store. Place: how many were stored.
+    AFF_ERR_MISMATCH = 24,    // Record, work areas and buffer do not belong together.
+    AFF_ERR_ARGUMENT = 255    // aff_open_image: the record is too short. aff_decode: there is no such type.
+};
+
+// Lengths: the two work areas and the record of an opening, the writer's two work areas and its numbers, and the form.
 enum { AFF_STRINGS = 2048, AFF_ENTRIES = 2048, AFF_RECORD = 12, AFF_TEXT = 32768, AFF_TREE = 51200, AFF_NUMBERS = 7, AFF_FORM = 12 };
 
-// The types of a node's data.
+// The types of a node. A Void node has no data; a node of another type may have 0 elements.
 enum { AFF_VOID = 1, AFF_CHAR = 2, AFF_INT = 3, AFF_DOUBLE = 4, AFF_COMPLEX = 5 };
 
-// ---- Opening.
+// ---- Opening
 
-// The 12 bytes of form that files with our number form have, by the edition of the image; false where the output is shorter than 12.
+// Stores the 12 signature bytes that a file with IEEE 754 doubles has, in the edition that the image's text names (else edition 2), at the front of
+// the output. Returns false and stores nothing if the output has fewer than 12 bytes.
 bool aff_form_for(const uint8_t *image, size_t image_length, uint8_t *output, size_t output_length);
 
-// Opens an image: judges it whole, sums included, and fills the areas. The record gets 12 numbers, what reading calls are to be handed: the place that a
-// refusal tells (0 else), the image's length, the edition, offset and size of the symbol, tree and data section, and the numbers of strings,
-// nodes and, as the header has it, data records. A node is a number: 0 is the root, the others go from 1 to the number of nodes, record[10].
-// Refused by 1 it leaves the areas, by another number it clears them; the record is zeros but for the place. A record of fewer than 12 numbers: 255.
+// Checks a complete file in memory against all rules of the format, MD5 sums included, and fills both work areas and the record, which the reading
+// calls take. record[0] is the place of a refusal (else 0), [1] the image's length, [2] the edition, [3] and [4] offset and size of the symbol
+// section, [5] and [6] of the tree section, [7] and [8] of the data section, [9] the number of strings, [10] of nodes without the root, [11] of data
+// records as the header has it.
+// After a refusal with 1 the work areas are unchanged, after 2 to 13 they are all zero; record[1] to record[11] are 0 after both. Returns 255 and changes
+// nothing if the record has fewer than 12 numbers.
 uint32_t aff_open_image(const uint8_t *image, size_t image_length, const uint8_t *form, size_t form_length, uint32_t *strings,
     size_t strings_length, uint32_t *entries, size_t entries_length, uint64_t *record, size_t record_length);
 
-// ---- Reading: the image, the record and the areas as the opening left them, then the call's own arguments.
+// ---- Reading
 
+// What every reading call takes first: the image, the record (12 numbers) and the work areas, as the opening left them. A node is a number: 0 is the
+// root, the others go from 1 to record[10]. Each call first validates all of that, in time proportional to the file's tables, and returns 24 if it
+// does not belong together. A refused call leaves its outputs unchanged.
 #define AFF_OPENED                                                                                                                     \
     const uint8_t *image, size_t image_length, const uint64_t *record, const uint32_t *strings, size_t strings_length,                \
         const uint32_t *entries, size_t entries_length
 
-// The node with a path such as "/a/n"; the root's is "/".
+// Finds the node with a path such as "/a/n"; the root's path is "/". Returns 14 for a malformed path, 15 if no node has it.
 uint32_t aff_lookup(AFF_OPENED, const uint8_t *path, size_t path_length, uint64_t *node);
-// All nodes, each before its children, those in number order; how many numbers were written.
+
+// Stores the numbers of all nodes, the root first, each node followed by its children in number order and each child by its whole subtree. count is how
+// many: record[10] + 1, so at most 2,049. Returns 21 if the output is shorter.
 uint32_t aff_listing(AFF_OPENED, uint32_t *output, size_t output_length, uint64_t *count);
-// Where a node's name and its data stand in the image.
+
+// Finds a node's name: the size bytes at image + offset, not counting the zero byte that ends it there. The root's name is empty. Returns 15 for a
+// number of no node.
 uint32_t aff_name(AFF_OPENED, uint64_t node, uint64_t *offset, uint64_t *size);
+
+// Finds a node's data: the size bytes at image + offset, big-endian as the file has them; size is 0 for a Void node. Returns 15 for a number of no
+// node.
 uint32_t aff_view(AFF_OPENED, uint64_t node, uint64_t *offset, uint64_t *size);
-// The type of a node, and how many elements it has.
+
+// Reports a node's type (AFF_VOID to AFF_COMPLEX). Returns 15 for a number of no node.
 uint32_t aff_kind(AFF_OPENED, uint64_t node, uint64_t *kind);
+
+// Reports how many elements a node has; 0 for a Void node. Returns 15 for a number of no node.
 uint32_t aff_count(AFF_OPENED, uint64_t node, uint64_t *count);
-// The path of a node at the front of an output, and its length; no zero is put behind it.
+
+// Stores a node's path at the front of the output, with no zero after it, and its length in size. Returns 15 for a number of no node, 21 if the
+// output is too short; no call reports the length needed, so double the output and call again.
+// A path has at most record[10] * record[4] bytes (1 for the root): at most 2,048 components, each a '/' and one string of the symbol table. A file
+// of this library's writer has paths of at most 2,048 * 32,768 bytes, 64 MiB. A file from elsewhere may come near 2,048 * 2,147,483,647 bytes, 4 TiB,
+// as a long string can name every node of a chain; so set a limit of your own.
 uint32_t aff_path(AFF_OPENED, uint64_t node, uint8_t *output, size_t output_length, uint64_t *size);
-// One element as a number: a Char, an Int and a Double as a double, exactly, with imaginary part 0; a Complex as two.
+
+// Reads one element as a number. A Char (0 to 255) and an Int are exact. A Double has the stored value and sign: signed zeros, subnormal numbers and
+// infinities too. Every NaN pattern is returned as one NaN: its sign and payload are lost (aff_view finds the stored bytes). imaginary is 0 except for
+// a Complex, whose two parts are read as two Doubles. Returns 15 for a number of no node, 16 for an index not below the node's count.
 uint32_t aff_element(AFF_OPENED, uint64_t node, uint64_t index, double *value, double *imaginary);
-// The same of data whose place the caller holds (`aff_view`), without judging the record again; 255 where no type has that number.
+
+// Reads one element of bytes that aff_view found, as aff_element does, without validating the record again: use it to read a whole node. kind is the
+// node's type. Returns 16 if the bytes hold no whole element of that index, and always for AFF_VOID; 255 if kind is not 1 to 5.
 uint32_t aff_decode(uint64_t kind, const uint8_t *bytes, size_t bytes_length, uint64_t index, double *value, double *imaginary);
 
-// ---- Writing a file of edition 2 into a room.
+// ---- Writing a file of edition 2 into a buffer
 
-// The record is 7 numbers and the 12 bytes of form that it keeps. The numbers: what the last call told (stores made, the new node's number, or the
-// place of a refusal), the room's length, strings, bytes of text, nodes, bytes of data, and 1 while the file is neither closed nor stopped.
-// An allowance is how many byte stores a call may make; UINT64_MAX for no limit. A call refused by 23 has made that many and stops the writer; one refused
-// otherwise changes nothing but numbers[0], and a begin refused by 1 or 21 leaves a record of zeros. Until close has made its last store, opening the
-// room answers 3.
+// The writer's record is 7 numbers and 12 bytes of form, kept. numbers[0] is what the last call reported; [1] is the buffer's length, [2] the number
+// of strings, [3] of bytes of text, [4] of nodes without the root, [5] of bytes of data; [6] is 1 while the file is open, and any other number means
+// closed or stopped. Pass record, work areas and buffer to each call as the last one left them. aff_make, aff_put and aff_close return 24 if they do not
+// belong together, and then 22 if the file is not open.
+//
+// An allowance is the largest number of bytes that a call may store in the buffer; UINT64_MAX is no limit. After a refusal with 23 exactly that many
+// are stored, numbers[0] is their number, numbers[6] is 0, and the work areas are unchanged; the file cannot be continued. After any other refusal only
+// numbers[0] has changed, to 0; but aff_begin refused with 1 or 21 sets numbers and kept to zero.
+//
+// From an accepted aff_begin on, until aff_close has stored its last byte, opening the buffer returns 3: a file that a killed process leaves behind is
+// never taken for a finished one. After a refused aff_begin the buffer is as it was. (The order of the stores is proved; that the compiled code makes the
+// last store last is tested, see docs/EVIDENCE.md.) Loss of power is not covered, as the system writes the pages of a file in any order. To survive it,
+// write the file back after aff_close (msync, fsync), and only then give it the name that others open (rename).
 #define AFF_WRITER uint64_t *numbers, const uint8_t *kept
 
-uint32_t aff_begin(uint8_t *room, size_t room_length, const uint8_t *form, size_t form_length, uint8_t *text, size_t text_length,
+// Begins a file in a buffer of at least 168 bytes: stores a 0 at its front, clears both work areas, and sets numbers and kept (12 bytes). numbers[0] is
+// the number of bytes stored, 1. Returns 1 for a wrong length of form, text or tree or a buffer above 2,147,483,647 bytes, 21 for a buffer below 168.
+uint32_t aff_begin(uint8_t *buffer, size_t buffer_length, const uint8_t *form, size_t form_length, uint8_t *text, size_t text_length,
     uint8_t *tree, size_t tree_length, uint64_t allowance, uint64_t *numbers, uint8_t *kept);
-// A new Void node below a parent; numbers[0] is its number.
-uint32_t aff_make(const uint8_t *room, size_t room_length, AFF_WRITER, uint8_t *text, size_t text_length, uint8_t *tree, size_t tree_length,
+
+// Adds a Void node below a parent; numbers[0] is its number. A name begins with a letter, '_' or ':'; letters, digits and any of . - _ : may follow.
+// Nothing is stored in the buffer. Returns 15 if there is no such parent, 14 for a malformed name, 17 if the parent has a child of that name, 20 if a
+// limit is passed, 21 if the finished file would not fit the buffer.
+uint32_t aff_make(const uint8_t *buffer, size_t buffer_length, AFF_WRITER, uint8_t *text, size_t text_length, uint8_t *tree, size_t tree_length,
     uint64_t parent, const uint8_t *name, size_t name_length);
-// The data of a node, once: bytes as the file is to have them, big-endian.
-uint32_t aff_put(uint8_t *room, size_t room_length, AFF_WRITER, const uint8_t *text, size_t text_length, uint8_t *tree, size_t tree_length,
+
+// Gives a Void node its type and its data, once; the bytes are stored as they are, so pass them big-endian. 0 bytes are an empty array. numbers[0] is
+// the number of bytes stored. Returns 15 if there is no such node, 18 for the root or a node with data, 19 for a type other than 2 to 5 or for bytes
+// that are no whole number of elements, 21 if the finished file would not fit the buffer.
+uint32_t aff_put(uint8_t *buffer, size_t buffer_length, AFF_WRITER, const uint8_t *text, size_t text_length, uint8_t *tree, size_t tree_length,
     uint64_t node, uint64_t kind, const uint8_t *bytes, size_t bytes_length, uint64_t allowance);
-uint32_t aff_close(uint8_t *room, size_t room_length, AFF_WRITER, const uint8_t *text, size_t text_length, const uint8_t *tree,
+
+// Finishes the file: stores strings, entries, the header from byte 1 on, and last the first byte. numbers[0] is the number of bytes stored, numbers[6]
+// is 0. The file is then the first numbers[0] + numbers[5] bytes of the buffer, and the whole buffer opens too. An open file always fits its buffer.
+uint32_t aff_close(uint8_t *buffer, size_t buffer_length, AFF_WRITER, const uint8_t *text, size_t text_length, const uint8_t *tree,
     size_t tree_length, uint64_t allowance);
 
 #ifdef __cplusplus

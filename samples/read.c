@@ -1,4 +1,4 @@
-// Reads one correlator of an AFF file: `read FILE PATH` prints a line for each element of the node with that path.
+// Reads one key of an AFF file: `read FILE PATH` prints a line for each element of the node with that path.
 //     rt staticlib aff_c && cc -I include samples/read.c target/staticlib/libaff_c.a -o target/read
 //     target/read samples/worked.aff /a/n
 #include "aff.h"
@@ -10,38 +10,68 @@
 static uint32_t strings[AFF_STRINGS], entries[AFF_ENTRIES];
 static uint64_t record[AFF_RECORD];
 
-// The bytes of a whole file.
-static uint8_t *loaded(const char *path, size_t *length) {
-    FILE *file = fopen(path, "rb");
-    uint8_t *bytes = NULL;
-    size_t room = 0, got = 0;
-    while (file != NULL) {
-        if (got == room) {
-            room = room == 0 ? 65536 : 2 * room;
-            uint8_t *more = realloc(bytes, room);
-            if (more == NULL) {
-                break;
-            }
-            bytes = more;
-        }
-        size_t now = fread(bytes + got, 1, room - got, file);
-        if (now == 0 && !ferror(file)) {
-            fclose(file);
-            *length = got;
-            return bytes;
-        }
-        if (now == 0) {
-            break;
-        }
-        got += now;
-    }
-    perror(path);
-    exit(1);
+// What a number that a call returned means, in a sentence.
+static const char *meaning(uint32_t number) {
+    static const char *const meanings[] = {
+        "accepted",
+        "a length is wrong, or the file has more than 2,147,483,647 bytes",
+        "the file is shorter than its header",
+        "this is no AFF file, or one that was never finished",
+        "the signature is not that of a file with IEEE 754 doubles",
+        "the header is damaged: its MD5 sum is wrong",
+        "a section ends past the file (1 symbols, 2 tree, 3 data)",
+        "a section is damaged: its MD5 sum is wrong (1 symbols, 2 tree, 3 data)",
+        "the symbol table is malformed",
+        "the tree table is malformed at this entry (0: the number of entries)",
+        "the parent or the name of this node does not exist, or the name is malformed",
+        "the parents of this node do not lead to the root",
+        "this node has the name of a sibling",
+        "the data of this node are not inside the data section",
+        "the path or name is malformed; a path is / or /name/name",
+        "no node has this path or number",
+        "the node has no element of this index",
+        "the parent has a child of this name already",
+        "the node is the root, or has data already",
+        "the type is none, or the bytes are no whole number of elements",
+        "there are too many nodes, strings or bytes of names",
+        "the buffer is too short",
+        "the file is closed or stopped",
+        "the allowance of stores is spent",
+        "record, work areas and image do not belong together",
+    };
+    return number < sizeof meanings / sizeof *meanings ? meanings[number] : "an argument is wrong";
 }
 
-static void refused(const char *what, uint32_t number, uint64_t place) {
-    fprintf(stderr, "%s: refused %" PRIu32 " %" PRIu64 "\n", what, number, place);
-    exit(1);
+static void check(const char *what, uint32_t number, uint64_t place) {
+    if (number != AFF_OK) {
+        fprintf(stderr, "%s: refused %" PRIu32 " %" PRIu64 ": %s\n", what, number, place, meaning(number));
+        exit(1);
+    }
+}
+
+// The bytes of a whole file.
+static uint8_t *load(const char *path, size_t *length) {
+    FILE *file = fopen(path, "rb");
+    uint8_t *bytes = NULL;
+    size_t space = 0, got = 0, now = 1;
+    while (file != NULL && now != 0) {
+        if (got == space) {
+            space = space == 0 ? 65536 : 2 * space;
+            bytes = (uint8_t *)realloc(bytes, space);
+            if (bytes == NULL) {
+                break;
+            }
+        }
+        now = fread(bytes + got, 1, space - got, file);
+        got += now;
+    }
+    if (file == NULL || bytes == NULL || ferror(file)) {
+        perror(path);
+        exit(1);
+    }
+    fclose(file);
+    *length = got;
+    return bytes;
 }
 
 int main(int argc, char **argv) {
@@ -50,28 +80,21 @@ int main(int argc, char **argv) {
         return 2;
     }
     size_t length;
-    uint8_t *image = loaded(argv[1], &length), form[AFF_FORM];
+    uint8_t *image = load(argv[1], &length), form[AFF_FORM];
     aff_form_for(image, length, form, sizeof form);
     uint32_t number = aff_open_image(image, length, form, sizeof form, strings, AFF_STRINGS, entries, AFF_ENTRIES, record, AFF_RECORD);
-    if (number != 0) {
-        refused(argv[1], number, record[0]);
-    }
+    check(argv[1], number, record[0]);
 #define OPENED image, length, record, strings, AFF_STRINGS, entries, AFF_ENTRIES
     uint64_t node, kind, offset, size;
-    number = aff_lookup(OPENED, (const uint8_t *)argv[2], strlen(argv[2]), &node);
-    if (number != 0) {
-        refused(argv[2], number, 0);
-    }
-    // The type and the place of the data are asked once; each element is then decoded from there.
-    number = aff_kind(OPENED, node, &kind);
-    if (number == 0) {
-        number = aff_view(OPENED, node, &offset, &size);
-    }
-    if (number != 0) {
-        refused(argv[2], number, 0);
+    check(argv[2], aff_lookup(OPENED, (const uint8_t *)argv[2], strlen(argv[2]), &node), 0);
+    // Type and place of the data are asked for once; each element is then decoded from there.
+    check(argv[2], aff_kind(OPENED, node, &kind), 0);
+    check(argv[2], aff_view(OPENED, node, &offset, &size), 0);
+    if (size == 0) {
+        fprintf(stderr, "%s: %s\n", argv[2], kind == AFF_VOID ? "a Void node, which has no data" : "an empty array");
     }
     double value, imaginary;
-    for (uint64_t k = 0; aff_decode(kind, image + offset, size, k, &value, &imaginary) == 0; k++) {
+    for (uint64_t k = 0; aff_decode(kind, image + offset, size, k, &value, &imaginary) == AFF_OK; k++) {
         if (kind == AFF_COMPLEX) {
             printf("%.17g %.17g\n", value, imaginary);
         } else {

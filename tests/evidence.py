@@ -1,34 +1,45 @@
 #!/usr/bin/env python3
-"""All the evidence from outside the proofs in one run: the library beside the second reader, the program `list`, runs of the writer, real kills.
+"""All the evidence from outside the proofs in one run: the library in C and C++, its stack, the library beside the second reader, the program
+`list`, runs of the writer, real kills.
 
     tests/evidence.py [SEED [PART]]
 
 SEED is 6000 where none is given; every image and run of a seed is the same each time, only the moments of the kills are not. PART divides the
-numbers of images, runs and kills, for a short try. The exit status is 1 where anything differs. docs/EVIDENCE.md says what is compared.
+numbers of images, runs and kills, for a short try. The last line is 'nothing differs', or names the parts that differ, and the exit status is then
+1. docs/EVIDENCE.md says what is compared.
 
-It needs rt, cargo and Linux on x86-64, and works below target/. The lister and the library are proved again where their proofs are not up to date.
+It needs rt, cargo, a C compiler as cc, a C++ compiler as c++, and Linux on x86-64, and works below target/. The lister and the library are proved
+again where their proofs are not up to date.
 """
+import argparse
 import os
 import subprocess
 import sys
 import time
 
+import make_chains
+from make_images import DOUBLE
+from make_listings import WORKED, make
+
 ROOT = os.path.dirname(os.path.dirname(os.path.abspath(__file__)))
 TARGET = os.path.join(ROOT, "target")
 FOLDER = os.path.join(TARGET, "evidence")
 SECOND = os.path.join(TARGET, "second_reader", "release", "second_reader")
+LIBRARY = os.path.join(TARGET, "staticlib", "libaff_c.a")
+WORKED_FILE = os.path.join(ROOT, "samples", "worked.aff")
+WARNINGS = ["-Wall", "-Wextra", "-pedantic", "-Werror", "-Wconversion", "-Wshadow", "-I", os.path.join(ROOT, "include")]
 
-# What is compared, the command, how many, and what follows these on the command line.
-PARTS = [
+# What is compared by the second reader, the command, how many, and what follows these on the command line.
+COMPARED = [
     ("images in memory: opening, every reading call, altered memory", "agree", 20_000, []),
     ("images through the program `list`", "lists", 500, [os.path.join(TARGET, "bin", "list")]),
-    ("runs of the writer, whole and cut", "writes", 5_000, []),
+    ("runs of the writer, whole and cut, altered memory", "writes", 5_000, []),
     ("processes killed while they write into a mapped file", "kills", 2_000, [FOLDER]),
     ("runs stopped after each instruction", "steps", 20, [FOLDER]),
 ]
 
 
-def made(command, **more):
+def built(command, **more):
     """Runs a command that builds something; what it printed is shown where it fails."""
     done = subprocess.run(command, cwd=ROOT, stdout=subprocess.PIPE, stderr=subprocess.STDOUT, text=True, **more)
     if done.returncode:
@@ -37,31 +48,116 @@ def made(command, **more):
 
 def build():
     """The lister, the static library, and the second reader with it."""
-    made(["rt", "check", "list"])
-    made(["rt", "staticlib", "aff_c"])
+    built(["rt", "check", "list"])
+    built(["rt", "staticlib", "aff_c"])
     manifest = os.path.join(ROOT, "tests", "second_reader", "Cargo.toml")
     folders = {"CARGO_TARGET_DIR": os.path.join(TARGET, "second_reader"), "AFF_LIBRARY": os.path.join(TARGET, "staticlib")}
     cargo = ["cargo", "build", "--release", "--offline", "--features", "library", "--manifest-path", manifest]
-    made(cargo, env={**os.environ, **folders})
+    built(cargo, env={**os.environ, **folders})
+
+
+def program(name, *more, language="c", standard="c99"):
+    """The command that compiles a program of the repository with the library, and the program's path."""
+    path = os.path.join(FOLDER, os.path.basename(name) + "." + standard)
+    compiler = {"c": "cc", "c++": "c++"}[language]
+    source = ["-x", language, os.path.join(ROOT, name), "-x", "none", LIBRARY]
+    return [compiler, f"-std={standard}", "-O2", *WARNINGS, *source, *more, "-o", path], path
+
+
+def ends(command, status=0, out="", err=""):
+    """Whether a command ends with a status, prints exactly `out`, and on standard error something with `err` in it (nothing where that is empty)."""
+    done = subprocess.run(command, stdout=subprocess.PIPE, stderr=subprocess.PIPE, text=True)
+    right = done.returncode == status and done.stdout == out and (err in done.stderr if err else not done.stderr)
+    if not right:
+        print(f"{' '.join(command)}: status {done.returncode}\n{done.stdout}{done.stderr}")
+    return right
+
+
+def image_file(name, image):
+    path = os.path.join(FOLDER, name)
+    with open(path, "wb") as file:
+        file.write(image)
+    return path
+
+
+def sources():
+    """The header alone in C and C++, and the sample program in both, whose output is compared."""
+    header = os.path.join(ROOT, "include", "aff.h")
+    right = []
+    for compiler, language, standards in (("cc", "c", ("c99", "c11")), ("c++", "c++", ("c++98", "c++11", "c++17"))):
+        for standard in standards:
+            right.append(ends([compiler, f"-std={standard}", *WARNINGS, "-fsyntax-only", "-x", language, header]))
+    print(f"   include/aff.h: {sum(right)} of {len(right)} compilations without a warning")
+    worked = make(2, WORKED)
+    unfinished = image_file("unfinished.aff", b"\0" + worked[1:])
+    empty = image_file("empty.aff", make(2, [(0, b"e", DOUBLE, 0)]))
+    runs = []
+    for language, standard in (("c", "c99"), ("c++", "c++11")):
+        compile_it, read = program("samples/read.c", language=language, standard=standard)
+        runs += [
+            ends(compile_it),
+            ends([read, WORKED_FILE, "/a/n"], out="-70\n"),
+            ends([read, WORKED_FILE, "/a"], err="a Void node, which has no data"),
+            ends([read, empty, "/e"], err="an empty array"),
+            ends([read, WORKED_FILE, "/b"], 1, err="refused 15 0"),
+            ends([read, unfinished, "/a"], 1, err="refused 3 0"),
+            ends([read], 2, err="usage"),
+        ]
+    print(f"   samples/read.c: {sum(runs)} of {len(runs)} compilations and runs as expected")
+    return all(right + runs)
+
+
+def calls():
+    """tests/c_calls.c prints its own counts."""
+    compile_it, path = program("tests/c_calls.c")
+    return ends(compile_it) and subprocess.run([path, WORKED_FILE]).returncode == 0
+
+
+def stack():
+    """tests/stack.c prints the bytes of stack that each call needs."""
+    compile_it, path = program("tests/stack.c", "-pthread", "-Wl,-z,now")
+    return ends(compile_it) and subprocess.run([path, *make_chains.write(os.path.join(FOLDER, "chains"))]).returncode == 0
+
+
+def second_reader(words):
+    return subprocess.run([SECOND, *words], cwd=FOLDER).returncode == 0
+
+
+def parts(seed, part):
+    """Each part: its name, what is compared, what runs, and the function that does it."""
+    yield "sources", "the header and the sample program in C and C++", "include/aff.h, samples/read.c", sources
+    yield "calls", "every call through the header: allowances, refusals, null pointers, numbers", "tests/c_calls.c", calls
+    yield "stack", "the stack of every call on chains of 2,048 nodes, at most 262,144 bytes", "tests/stack.c", stack
+    for what, command, count, more in COMPARED:
+        words = [command, str(seed), str(max(1, count // part)), *more]
+        shown = [os.path.relpath(word, ROOT) if os.path.isabs(word) else word for word in words]
+        yield command, what, f"second_reader {' '.join(shown)}", lambda words=words: second_reader(words)
+
+
+def number(word):
+    if not word.isdecimal() or not int(word):
+        raise argparse.ArgumentTypeError(f"{word} is no number from 1 on")
+    return int(word)
 
 
 def main():
-    seed = int(sys.argv[1]) if len(sys.argv) > 1 else 6000
-    part = int(sys.argv[2]) if len(sys.argv) > 2 else 1
+    parser = argparse.ArgumentParser(description=__doc__, formatter_class=argparse.RawDescriptionHelpFormatter)
+    parser.add_argument("seed", metavar="SEED", nargs="?", type=number, default=6000)
+    parser.add_argument("part", metavar="PART", nargs="?", type=number, default=1)
+    given = parser.parse_args()
     build()
     os.makedirs(FOLDER, exist_ok=True)
     different = []
-    for what, command, count, more in PARTS:
-        words = [command, str(seed), str(max(1, count // part)), *more]
-        shown = [os.path.relpath(word, ROOT) if os.path.isabs(word) else word for word in words]
-        print(f"== {what}: second_reader {' '.join(shown)}", flush=True)
+    for name, what, shown, run in parts(given.seed, given.part):
+        print(f"== {what}: {shown}", flush=True)
         begin = time.monotonic()
-        status = subprocess.run([SECOND, *words], cwd=FOLDER).returncode
+        right = run()
         print(f"   {time.monotonic() - begin:.0f} s", flush=True)
-        if status:
-            different.append(command)
+        if not right:
+            different.append(name)
     print(f"something differs: {', '.join(different)}" if different else "nothing differs")
     sys.exit(1 if different else 0)
 
 
-main()
+if __name__ == "__main__":
+    main()

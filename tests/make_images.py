@@ -4,16 +4,26 @@
 It shares no code with the library: it is written from source document 003 and document 01, and what each image must be
 answered with is said here by hand. It writes crates/open_cases/stdin (each
 image behind its length in 4 bytes), crates/open_cases/stdout and tests/open_cases.txt.
+
+    tests/make_images.py [FOLDER]      FOLDER: where these are written, the repository where none is given
 """
+import argparse
 import hashlib
 import os
 import struct
-import sys
 
+ROOT = os.path.dirname(os.path.dirname(os.path.abspath(__file__)))
 VOID, CHAR, INT, DOUBLE, COMPLEX = 1, 2, 3, 4, 5
 TEXT = {1: b"LHPC AFF version 1.0", 2: b"LHPC AFF version 2.0"}
 HEADER = {1: 144, 2: 168}
 FORM = bytes([0, 64, 2, 53, 4, 0, 3, 253])
+
+
+def destination(doc):
+    """The folder that a script writes to: its one argument, or the repository."""
+    parser = argparse.ArgumentParser(description=doc, formatter_class=argparse.RawDescriptionHelpFormatter)
+    parser.add_argument("folder", metavar="FOLDER", nargs="?", default=ROOT)
+    return parser.parse_args().folder
 
 
 def md5(b):
@@ -321,7 +331,7 @@ def expected(image, expect, source):
 
 
 def main():
-    top = sys.argv[1] if len(sys.argv) > 1 else os.path.join(os.path.dirname(os.path.abspath(__file__)), "..")
+    top = destination(__doc__)
     lawful()
     header_faults()
     section_faults()

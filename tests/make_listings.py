@@ -1,14 +1,15 @@
 #!/usr/bin/env python3
 """Makes the images of the test program list_cases, the input of list and the sample of the README, with what must be printed.
 
-What is printed is worked out here from the description of each tree, with no code of the library. Run without arguments it writes
+What is printed is worked out here from the description of each tree, with no code of the library. It writes
 crates/list_cases/stdin (each image behind its length in 4 bytes) and stdout, crates/list/stdin and stdout, samples/worked.aff and tests/list_cases.txt.
+
+    tests/make_listings.py [FOLDER]      FOLDER: where these are written, the repository where none is given
 """
 import os
 import struct
-import sys
 
-from make_images import CHAR, COMPLEX, DOUBLE, HEADER, INT, VOID, Image, entry, md5
+from make_images import CHAR, COMPLEX, DOUBLE, HEADER, INT, VOID, Image, destination, entry, md5
 
 WORD = {VOID: "void", CHAR: "char", INT: "int", DOUBLE: "double", COMPLEX: "complex"}
 SIZE = {CHAR: 1, INT: 4, DOUBLE: 8, COMPLEX: 16}
@@ -101,7 +102,7 @@ def write(top, path, content):
 
 
 def main():
-    top = sys.argv[1] if len(sys.argv) > 1 else os.path.join(os.path.dirname(os.path.abspath(__file__)), "..")
+    top = destination(__doc__)
     stdin, out, index = b"", b"", "The images of crates/list_cases/stdin, made by tests/make_listings.py.\n\n"
     for k, (name, image, rows) in enumerate(cases()):
         stdin += struct.pack(">I", len(image)) + image

@@ -5,13 +5,13 @@ A script is a run of steps: the writer's calls, and between them what is printed
 out here from document 01, with no code of the library: `Writer` answers the calls by its tables, and a finished file is laid out a second time by
 make_images. The refusal that a case is about is said by hand besides. It writes crates/write_cases/stdin (each step behind its length in 4 bytes)
 and stdout.
+
+    tests/make_writes.py [FOLDER]      FOLDER: where these are written, the repository where none is given
 """
-import os
 import re
 import struct
-import sys
 
-from make_images import CHAR, COMPLEX, DOUBLE, INT, VOID, Image, entry, form, md5
+from make_images import CHAR, COMPLEX, DOUBLE, INT, VOID, Image, destination, entry, form, md5
 from make_listings import SIZE, brief, lines, write
 
 ROOM, TEXT, TREE, LIMIT = 65536, 32768, 51200, 2048
@@ -641,7 +641,7 @@ def altered(s):
 
 
 def main():
-    top = sys.argv[1] if len(sys.argv) > 1 else os.path.join(os.path.dirname(os.path.abspath(__file__)), "..")
+    top = destination(__doc__)
     s = Script()
     for part in (whole_files, every_kind, no_bytes, limits, begin_refusals, make_refusals, put_refusals, close_refusals, altered):
         part(s)

@@ -1,24 +1,31 @@
 #!/usr/bin/env python3
 """Runs target/bin/list over a folder of NAME.aff and NAME.out, and compares what it prints with NAME.out, byte for byte.
 
-    tests/run_vectors.py [FOLDER]      FOLDER: ../shared/vectors, beside the repository, where none is given
+    tests/run_vectors.py FOLDER
 
-`rt check list` builds the program. The last line is 'N agree, M differ'; the exit status is 0 only if none differs.
+`rt check list` builds the program. The last line is 'N agree, M differ'; the exit status is 0 only if there is an image and none differs.
 """
+import argparse
 import os
 import subprocess
 import sys
 
-TOP = os.path.join(os.path.dirname(os.path.abspath(__file__)), "..")
+LIST = os.path.join(os.path.dirname(os.path.abspath(__file__)), "..", "target", "bin", "list")
 
 
 def main():
-    folder = sys.argv[1] if len(sys.argv) > 1 else os.path.join(TOP, "..", "shared", "vectors")
+    parser = argparse.ArgumentParser(description=__doc__, formatter_class=argparse.RawDescriptionHelpFormatter)
+    parser.add_argument("folder", metavar="FOLDER")
+    folder = parser.parse_args().folder
+    if not os.path.isdir(folder):
+        parser.error(f"{folder} is no folder")
+    if not os.path.exists(LIST):
+        parser.error("there is no target/bin/list: run `rt check list`")
     names = sorted(f[:-4] for f in os.listdir(folder) if f.endswith(".aff"))
     agree = 0
     for name in names:
         with open(os.path.join(folder, name + ".aff"), "rb") as image, open(os.path.join(folder, name + ".out"), "rb") as out:
-            run = subprocess.run([os.path.join(TOP, "target", "bin", "list")], stdin=image, stdout=subprocess.PIPE)
+            run = subprocess.run([LIST], stdin=image, stdout=subprocess.PIPE)
             if run.returncode == 0 and run.stdout == out.read():
                 agree += 1
             else:
@@ -27,4 +34,5 @@ def main():
     return 0 if names and agree == len(names) else 1
 
 
-sys.exit(main())
+if __name__ == "__main__":
+    sys.exit(main())

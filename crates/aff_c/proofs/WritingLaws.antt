@@ -1,9 +1,14 @@
 -- What the exported writing functions leave, from what the calls promise of the record that numbers and form stand for. Assumes nothing.
-use mathlib.Core.Path.{_≡_, subst}
+use mathlib.Core.Path.{_≡_, refl, sym, subst, _∙_}
+use mathlib.Core.Bool.{Bool, true, false, cond}
 use mathlib.Core.List.{List}
 use Prim.Native.Nat.{ℕ}
-use lib.ListN.{length}
+use lib.Dec.{eqb}
+use lib.ListN.{length, set}
+use borrow.Author.Tests.{ne-eqb}
+use Rattle.aff_format.specs.Answer.{Answer, accepted, refused}
 use Rattle.aff_format.specs.Verdict.{numberTold}
+use Rattle.aff_format.specs.declared.refusal.Told.{Told}
 use Rattle.aff_write.specs.Begin.{beginStores, beginAnswer, beginWriter, beginArea}
 use Rattle.aff_write.specs.Close.{closeStores, closeAnswer}
 use Rattle.aff_write.specs.Make.{madeWriter, madeText, madeTree, makeAnswer}
@@ -13,7 +18,26 @@ use Rattle.aff_write.specs.Writer.{stopped, writerAfter, areaAfter}
 use Rattle.aff_write.specs.declared.writer.Writer.{Writer}
 use Rattle.aff_write.specs.declared.writer.Writing.{Writing}
 use Rattle.aff_c.specs.Reading.{numberBy}
-use Rattle.aff_c.specs.Writing.{writerIn, numbersBy, toldNumber, begunBy, begunRecord, madeBy, numbersMade, textMade, treeMade, putBy, numbersPut, roomPut, treePut, closedBy, numbersClosed, roomClosed}
+use Rattle.aff_c.specs.Writing.{writerIn, numbersBy, toldNumber, numbersRefused, numbersLeft, begunBy, begunRecord, madeBy, numbersMade, textMade, treeMade, putBy, numbersPut, roomPut, treePut, closedBy, numbersClosed, roomClosed}
+
+either : (b : Bool) (place : ℕ) (halted given : Writer) (kept : List ℕ)
+    → cond b (numbersBy place (cond b halted given)) kept ≡ cond b (numbersBy place halted) kept
+either true place halted given kept = refl
+either false place halted given kept = refl
+
+-- Of the record that a call leaves, an accepted call stores the next one, and a 23 the caller's, stopped.
+pub next-or-stopped : (numbers : List ℕ) (a : Answer ℕ) (next given : Writer)
+    → numbersLeft numbers a (writerAfter a next given) (writerAfter a next given) ≡ numbersLeft numbers a next (stopped given)
+next-or-stopped numbers (accepted n) next given = refl
+next-or-stopped numbers (refused t) next given = either (eqb (t .number) 23) (t .place) (stopped given) given (set numbers 0 (t .place))
+
+-- What a refusal leaves, by its number: 23 or another.
+module _ (numbers : List ℕ) (t : Told) (w : Writer) (n p : ℕ) (number : n ≡ t .number) (place : p ≡ t .place) where
+  pub spent : n ≡ 23 → (l : List ℕ) → l ≡ numbersBy p w → (n ≡ t .number) × (l ≡ numbersRefused numbers t w)
+  spent h l left = let z : t .number ≡ 23 = sym number ∙ h in (number, rw (left, place, z))
+
+  pub not-spent : (n ≡ 23 → ⊥) → (n ≡ t .number) × (set numbers 0 p ≡ numbersRefused numbers t w)
+  not-spent h = let z : eqb (t .number) 23 ≡ false = rw (← number) (ne-eqb n 23 h) in (number, rw (place, z))
 
 module _ (room form text tree : List ℕ) (allowance : ℕ) (done : Writing) (r : ℕ) (l : List ℕ)
     (number : r ≡ numberBy (numberTold (done .answer))) (numbers : l ≡ numbersBy (toldNumber (numberTold (done .answer))) (done .writer)) where
@@ -36,7 +60,7 @@ module _ (room form text tree : List ℕ) (allowance : ℕ) (done : Writing) (r 
   )
 
 module _ (room numbers kept text tree : List ℕ) (w : Writer) (e : w ≡ writerIn numbers kept) (done : Writing) (r : ℕ) (l : List ℕ)
-    (number : r ≡ numberBy (numberTold (done .answer))) (left : l ≡ numbersBy (toldNumber (numberTold (done .answer))) (done .writer)) where
+    (number : r ≡ numberBy (numberTold (done .answer))) (left : l ≡ numbersLeft numbers (numberTold (done .answer)) (done .writer) (done .writer)) where
   module _ (parent : ℕ) (name x y : List ℕ) where
     abbrev Made : Writer → Type 0
     Made v =
@@ -51,8 +75,9 @@ module _ (room numbers kept text tree : List ℕ) (w : Writer) (e : w ≡ writer
         × ((x ≡ textMade room numbers kept text tree parent name) × (y ≡ treeMade room numbers kept text tree parent name)))
     unfolding numbersMade textMade treeMade
     made-left p =
+        let g = writerIn numbers kept in
         let h = subst Made e p in
-        (rw (number, h .0), (rw (left, h .1 .0, h .0), (rw (h .1 .1 .0, h .0), rw (h .1 .1 .1, h .0))))
+        (rw (number, h .0), (rw (left, h .1 .0, h .0) (next-or-stopped numbers (makeAnswer (length room) g text tree parent name) (madeWriter g text name) g), (rw (h .1 .1 .0, h .0), rw (h .1 .1 .1, h .0))))
 
   module _ (node kind : ℕ) (bytes : List ℕ) (allowance : ℕ) (o y : List ℕ) where
     abbrev Put : Writer → Type 0
@@ -68,8 +93,9 @@ module _ (room numbers kept text tree : List ℕ) (w : Writer) (e : w ≡ writer
         × ((o ≡ roomPut room numbers kept text tree node kind bytes allowance) × (y ≡ treePut room numbers kept text tree node kind bytes allowance)))
     unfolding numbersPut roomPut treePut
     put-left p =
+        let g = writerIn numbers kept in
         let h = subst Put e p in
-        (rw (number, h .0), (rw (left, h .1 .0, h .0), (rw (h .1 .1 .0, h .0), rw (h .1 .1 .1, h .0))))
+        (rw (number, h .0), (rw (left, h .1 .0, h .0) (next-or-stopped numbers (putAnswer (length room) g text tree node kind bytes allowance) (putWriter g bytes) g), (rw (h .1 .1 .0, h .0), rw (h .1 .1 .1, h .0))))
 
   module _ (allowance : ℕ) (o : List ℕ) where
     abbrev Closed : Writer → Type 0
@@ -83,5 +109,6 @@ module _ (room numbers kept text tree : List ℕ) (w : Writer) (e : w ≡ writer
         × ((l ≡ numbersClosed room numbers kept text tree allowance) × (o ≡ roomClosed room numbers kept text tree allowance))
     unfolding numbersClosed roomClosed
     closed-left p =
+        let g = writerIn numbers kept in
         let h = subst Closed e p in
-        (rw (number, h .0), (rw (left, h .1 .0, h .0), rw (h .1 .1, h .0)))
+        (rw (number, h .0), (rw (left, h .1 .0, h .0) (next-or-stopped numbers (closeAnswer room g text tree allowance) (stopped g) g), rw (h .1 .1, h .0)))

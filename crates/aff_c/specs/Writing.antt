@@ -3,14 +3,15 @@ use mathlib.Core.Bool.{cond}
 use mathlib.Core.List.{List, [], _∷_}
 use Prim.Native.Nat.{ℕ}
 use lib.Dec.{eqb}
-use lib.ListN.{length, getD}
+use lib.ListN.{length, getD, set}
 use Rattle.aff_format.specs.Answer.{Answer, accepted, refused}
+use Rattle.aff_format.specs.declared.refusal.Told.{Told}
 use Rattle.aff_write.specs.Begin.{beginAnswer, beginWriter}
 use Rattle.aff_write.specs.Close.{closeStores, closeAnswer}
 use Rattle.aff_write.specs.Make.{madeWriter, madeText, madeTree, makeAnswer}
 use Rattle.aff_write.specs.Put.{putStores, putWriter, putTree, putAnswer}
 use Rattle.aff_write.specs.Stores.{roomAfter}
-use Rattle.aff_write.specs.Writer.{stopped, writerAfter, areaAfter}
+use Rattle.aff_write.specs.Writer.{stopped, areaAfter}
 use Rattle.aff_write.specs.declared.writer.Writer.{Writer}
 
 -- The record of 7 numbers and 12 bytes of form; the first number, what the last call told, is no part of it.
@@ -35,6 +36,16 @@ abbrev pub toldNumber : Answer ℕ → ℕ
 toldNumber (accepted n) = n
 toldNumber (refused t) = t .place
 
+module _ (numbers : List ℕ) where
+  -- The numbers after a refusal: after 23 the place and a stopped record; after any other the caller's numbers, with the place in numbers[0].
+  abbrev pub numbersRefused : Told → Writer → List ℕ
+  numbersRefused t halted = cond (eqb (t .number) 23) (numbersBy (t .place) halted) (set numbers 0 (t .place))
+
+  -- The numbers after an answer: the value and the next record where it is accepted.
+  abbrev pub numbersLeft : Answer ℕ → Writer → Writer → List ℕ
+  numbersLeft (accepted n) next halted = numbersBy n next
+  numbersLeft (refused t) next halted = numbersRefused t halted
+
 module _ (room form text tree : List ℕ) (allowance : ℕ) where
   abbrev pub begunBy : Answer ℕ
   begunBy = beginAnswer room form text tree allowance
@@ -46,9 +57,9 @@ module _ (room numbers kept text tree : List ℕ) where
   abbrev pub given : Writer
   given = writerIn numbers kept
 
-  -- The numbers behind a call that leaves a record where it is accepted.
+  -- The numbers after a call that leaves `next` where it is accepted; after 23 the record is the caller's, but stopped.
   abbrev pub numbersAfter : Answer ℕ → Writer → List ℕ
-  numbersAfter answer next = numbersBy (toldNumber answer) (writerAfter answer next given)
+  numbersAfter answer next = numbersLeft numbers answer next (stopped given)
 
   module _ (parent : ℕ) (name : List ℕ) where
     abbrev pub madeBy : Answer ℕ

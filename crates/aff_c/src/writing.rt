@@ -11,15 +11,17 @@
 // refusal tells), the room's length, strings, bytes of text, nodes, bytes of data, and 1 while the file is neither closed nor stopped. Each
 // function returns 0 where the call is accepted, else the refusal's number.
 use aff_format::NumberAnswer;
+use aff_format::Refusal;
 use aff_write::Writer;
 use aff_write::Writing;
 ghost use mathlib.Core.Path.{_≡_};
 ghost use mathlib.Core.Bool.{cond};
+ghost use Rattle.aff_format.specs.Refusal.{toldRefusal};
 ghost use Rattle.aff_format.specs.Verdict.{numberTold};
 ghost use Rattle.aff_write.specs.Begin.{beginStores, beginArea};
 ghost use Rattle.aff_write.specs.Stores.{roomAfter};
 ghost use Rattle.aff_c.specs.Reading.{numberBy};
-ghost use Rattle.aff_c.specs.Writing.{writerIn, numbersBy, toldNumber, begunBy, begunRecord, madeBy, numbersMade, textMade, treeMade, putBy, numbersPut, roomPut, treePut, closedBy, numbersClosed, roomClosed};
+ghost use Rattle.aff_c.specs.Writing.{writerIn, numbersBy, toldNumber, numbersRefused, numbersLeft, begunBy, begunRecord, madeBy, numbersMade, textMade, treeMade, putBy, numbersPut, roomPut, treePut, closedBy, numbersClosed, roomClosed};
 
 fn writer_of(numbers: &[u64; 7], kept: &[u8; 12]) -> Writer
     ensures { λ r. ⌜ r ≡ writerIn (now (numbers .entry)) (now (kept .entry)) ⌝ }
@@ -74,7 +76,7 @@ fn told_number(answer: NumberAnswer) -> usize
     }
 }
 
-// Leaves what a call told and the record behind it.
+// Stores what begin returned and its record: all zero after 1 and 21, stopped after 23.
 fn leave(done: Writing, numbers: &mut [u64; 7]) -> u32
     ensures number { λ r. ⌜ r ≡ numberBy (numberTold (done .answer)) ⌝ }
     ensures numbers { λ _. ⌜ now (numbers .exit) ≡ numbersBy (toldNumber (numberTold (done .answer))) (done .writer) ⌝ }
@@ -83,6 +85,37 @@ fn leave(done: Writing, numbers: &mut [u64; 7]) -> u32
     let writer = done.writer;
     *numbers = numbers_by(told_number(answer), writer);
     number_by(answer)
+}
+
+// Stores what a refusal leaves: after 23 the record, which is stopped; after any other refusal only its place, in numbers[0].
+fn leave_refused(refusal: Refusal, writer: Writer, numbers: &mut [u64; 7]) -> u32
+    ensures number { λ r. ⌜ r ≡ toldRefusal refusal .number ⌝ }
+    ensures numbers { λ _. ⌜ now (numbers .exit) ≡ numbersRefused (now (numbers .entry)) (toldRefusal refusal) writer ⌝ }
+{
+    let number = refusal.number();
+    let place = refusal.place();
+    if number == 23 {
+        *numbers = numbers_by(place, writer);
+        return number;
+    }
+    numbers[0] = place as u64;
+    number
+}
+
+// Stores what a make, put or close leaves: what it returned and its record where it is accepted, else what the refusal leaves.
+fn leave_next(done: Writing, numbers: &mut [u64; 7]) -> u32
+    ensures number { λ r. ⌜ r ≡ numberBy (numberTold (done .answer)) ⌝ }
+    ensures numbers { λ _. ⌜ now (numbers .exit) ≡ numbersLeft (now (numbers .entry)) (numberTold (done .answer)) (done .writer) (done .writer) ⌝ }
+{
+    let answer = done.answer;
+    let writer = done.writer;
+    match answer {
+        NumberAnswer::Value(n) => {
+            *numbers = numbers_by(n, writer);
+            0
+        }
+        NumberAnswer::Refused(refusal) => leave_refused(refusal, writer, numbers),
+    }
 }
 
 // Begins a file in a room, as `aff_write::begin` does, and leaves the record's numbers and form.
@@ -128,7 +161,7 @@ pub extern "C" fn aff_make(
 {
     let writer = writer_of(numbers, kept);
     let done = aff_write::make(room, writer, text, tree, parent as usize, name);
-    leave(done, numbers)
+    leave_next(done, numbers)
 }
 
 // Puts data into a node, as `aff_write::put` does.
@@ -160,7 +193,7 @@ pub extern "C" fn aff_put(
         bytes,
         allowance as usize,
     );
-    leave(done, numbers)
+    leave_next(done, numbers)
 }
 
 // Closes the file, as `aff_write::close` does.
@@ -179,5 +212,5 @@ pub extern "C" fn aff_close(
 {
     let writer = writer_of(numbers, kept);
     let done = aff_write::close(room, writer, text, tree, allowance as usize);
-    leave(done, numbers)
+    leave_next(done, numbers)
 }

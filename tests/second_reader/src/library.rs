@@ -429,6 +429,7 @@ impl<Room: AsRef<[u8]> + AsMut<[u8]>> Writer<Room> {
             Alteration::Text(number) => self.numbers[3] = number,
             Alteration::Nodes(number) => self.numbers[4] = number,
             Alteration::Data(number) => self.numbers[5] = number,
+            Alteration::Flag(number) => self.numbers[6] = number,
             Alteration::Byte(area, place, byte) => {
                 let areas = [self.room.as_mut(), &mut self.text, &mut self.tree];
                 if let Some(old) = areas
@@ -466,7 +467,6 @@ impl<Room: AsRef<[u8]> + AsMut<[u8]>> Desk for Writer<Room> {
     }
 
     fn numbers(&self) -> Numbers {
-        let [_, length, strings, text, nodes, data, open] = self.numbers;
-        ([length, strings, text, nodes, data, open], self.kept)
+        (self.numbers, self.kept)
     }
 }

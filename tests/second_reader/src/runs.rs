@@ -7,7 +7,7 @@ use crate::images::subkey;
 use crate::open::open;
 use crate::random::Random;
 use crate::report::Report;
-use crate::writer::{Numbers, Record, State, Told, Writer, TEXT_AREA, TREE_AREA};
+use crate::writer::{Numbers, Record, Told, Writer, TEXT_AREA, TREE_AREA};
 
 /// One call with its arguments; allowances come from a total that is handed down.
 #[derive(Clone, Debug)]
@@ -28,6 +28,7 @@ pub enum Alteration {
     Text(u64),
     Nodes(u64),
     Data(u64),
+    Flag(u64),
     Byte(usize, usize, u8),
 }
 
@@ -36,19 +37,21 @@ pub trait Desk {
     fn call(&mut self, call: &Call, allowance: u64) -> Told;
     /// Room, text area, tree area.
     fn memory(&self) -> [&[u8]; 3];
-    /// The record.
+    /// The 7 numbers and the form, as the caller of the C side sees them.
     fn numbers(&self) -> Numbers;
 }
 
 impl Desk for Writer {
     fn call(&mut self, call: &Call, allowance: u64) -> Told {
-        match call {
+        let answer = match call {
             Call::Begin(form) => self.begin(form, allowance),
             Call::Make(parent, name) => self.make(*parent, name),
             Call::Put(node, code, bytes) => self.put(*node, *code, bytes, allowance),
             Call::Close => self.close(allowance),
-            Call::Alter(alteration) => self.alter(alteration),
-        }
+            Call::Alter(alteration) => return self.alter(alteration),
+        };
+        self.last = answer.unwrap_or_else(|(_, place)| place);
+        answer
     }
 
     fn memory(&self) -> [&[u8]; 3] {
@@ -56,7 +59,17 @@ impl Desk for Writer {
     }
 
     fn numbers(&self) -> Numbers {
-        self.record.numbers()
+        let record = &self.record;
+        let numbers = [
+            self.last,
+            record.length,
+            record.strings,
+            record.text,
+            record.nodes,
+            record.data,
+            record.flag,
+        ];
+        (numbers, record.form)
     }
 }
 
@@ -68,6 +81,7 @@ impl Writer {
             Alteration::Text(number) => self.record.text = number,
             Alteration::Nodes(number) => self.record.nodes = number,
             Alteration::Data(number) => self.record.data = number,
+            Alteration::Flag(number) => self.record.flag = number,
             Alteration::Byte(area, place, byte) => {
                 let area =
                     [&mut self.room, &mut self.text, &mut self.tree][area % 3].get_mut(place);
@@ -287,12 +301,12 @@ pub fn random_run(random: &Random) -> Run {
         let call = middle(random, &model, style);
         add(&mut run, &mut model, call);
     }
-    add(&mut run, &mut model, Call::Close);
+    let closed = add(&mut run, &mut model, Call::Close);
     for _ in 0..random.below(3) {
         let more = [Call::Close, middle(random, &model, style)];
         add(&mut run, &mut model, random.pick(&more));
     }
-    if style == Style::Usual && model.record.state == State::Closed && random.one_in(3) {
+    if style == Style::Usual && closed && random.one_in(3) {
         // The finished size, or one byte around it: the last calls that need room are refused or just fit.
         run.room
             .resize(model.finished() as usize - 1 + random.below(3), 5);
@@ -304,10 +318,11 @@ pub fn random_run(random: &Random) -> Run {
     run
 }
 
-/// Adds a call, and plays it on the model, so that the next one can be drawn to suit.
-fn add(run: &mut Run, model: &mut Writer, call: Call) {
-    model.call(&call, u64::MAX).ok();
+/// Adds a call, and plays it on the model, so that the next one can be drawn to suit. True where the model accepts it.
+fn add(run: &mut Run, model: &mut Writer, call: Call) -> bool {
+    let accepted = model.call(&call, u64::MAX).is_ok();
     run.calls.push(call);
+    accepted
 }
 
 /// A room: of zeros, of anything, or one that holds a finished file; of any length about the least, or long enough.
@@ -413,14 +428,15 @@ fn alteration(random: &Random, now: &Writer) -> Alteration {
         ];
         random.pick(&near)
     };
-    match random.below(14) {
+    match random.below(16) {
         0 => Alteration::Length(other(record.length)),
         1 => Alteration::Strings(other(record.strings)),
         2 => Alteration::Text(other(record.text)),
         3 => Alteration::Nodes(other(record.nodes)),
         4 => Alteration::Data(other(record.data)),
-        5..=6 => Alteration::Byte(0, random.below(now.room.len()), random.byte()),
-        7..=9 => {
+        5..=6 => Alteration::Flag(random.pick(&[0, 1, 2, 7, 256, 1 << 32 | 1, u64::MAX, any])),
+        7..=8 => Alteration::Byte(0, random.below(now.room.len()), random.byte()),
+        9..=11 => {
             let place = random.below(record.text.min(TEXT_AREA as u64) as usize + 1);
             Alteration::Byte(1, place, random.pick(b"ab/9aabb\0"))
         }
@@ -455,6 +471,7 @@ fn undone(alteration: &Alteration, now: &Writer) -> Alteration {
         Alteration::Text(_) => Alteration::Text(record.text),
         Alteration::Nodes(_) => Alteration::Nodes(record.nodes),
         Alteration::Data(_) => Alteration::Data(record.data),
+        Alteration::Flag(_) => Alteration::Flag(record.flag),
         Alteration::Byte(area, place, byte) => {
             let old = [&now.room, &now.text, &now.tree][area % 3].get(place);
             Alteration::Byte(area, place, *old.unwrap_or(&byte))

@@ -11,20 +11,11 @@ const HEADER: u64 = 168;
 /// "the tree area holds node n's entry at place 25(n − 1), 25 bytes".
 const SLOT: usize = 25;
 
-#[derive(Clone, Copy, PartialEq, Eq, Debug, Default)]
-pub enum State {
-    /// The all-zero record: no begin was accepted.
-    #[default]
-    None,
-    Open,
-    Closed,
-    Stopped,
-}
-
 /// What the writer records.
 #[derive(Clone, Copy, PartialEq, Eq, Debug, Default)]
 pub struct Record {
-    pub state: State,
+    /// 1 while the file is neither closed nor stopped; every other number is "writer closed or stopped".
+    pub flag: u64,
     pub length: u64,
     pub strings: u64,
     pub text: u64,
@@ -36,29 +27,16 @@ pub struct Record {
 /// A writer with all that it is lent.
 #[derive(Clone, PartialEq, Eq)]
 pub struct Writer {
+    /// What the last call returned: its value, or the place of its refusal.
+    pub last: u64,
     pub record: Record,
     pub room: Vec<u8>,
     pub text: Vec<u8>,
     pub tree: Vec<u8>,
 }
 
-/// The record as numbers: length, strings, bytes of text, nodes, bytes of data, 1 while open; and the form.
-pub type Numbers = ([u64; 6], [u8; 12]);
-
-impl Record {
-    pub fn numbers(&self) -> Numbers {
-        let open = u64::from(self.state == State::Open);
-        let numbers = [
-            self.length,
-            self.strings,
-            self.text,
-            self.nodes,
-            self.data,
-            open,
-        ];
-        (numbers, self.form)
-    }
-}
+/// The 7 numbers of include/aff.h: what the last call returned, length, strings, bytes of text, nodes, bytes of data, flag; and the form.
+pub type Numbers = ([u64; 7], [u8; 12]);
 
 /// One store of a byte at a place.
 pub type Store = (usize, u8);
@@ -70,6 +48,7 @@ impl Writer {
     /// A writer that has not begun, with areas and room as they are lent.
     pub fn lent(room: Vec<u8>, text: Vec<u8>, tree: Vec<u8>) -> Writer {
         Writer {
+            last: 0,
             record: Record::default(),
             room,
             text,
@@ -84,7 +63,7 @@ impl Writer {
             self.room[*place] = *byte;
         }
         if made < stores.len() as u64 {
-            self.record.state = State::Stopped;
+            self.record.flag = 0;
             return Err((23, made));
         }
         Ok(made)
@@ -102,7 +81,7 @@ impl Writer {
             return Err((21, 0));
         }
         self.record = Record {
-            state: State::Open,
+            flag: 1,
             length,
             form: form.try_into().expect("12 bytes"),
             ..Record::default()
@@ -202,7 +181,7 @@ impl Writer {
     pub fn close(&mut self, allowance: u64) -> Told {
         self.judge()?;
         let made = self.store(&self.closing(), allowance)?;
-        self.record.state = State::Closed;
+        self.record.flag = 0;
         Ok(made)
     }
 
@@ -320,8 +299,8 @@ impl Writer {
         if !self.belongs() {
             return Err((24, 0));
         }
-        match self.record.state {
-            State::Open => Ok(()),
+        match self.record.flag {
+            1 => Ok(()),
             _ => Err((22, 0)),
         }
     }

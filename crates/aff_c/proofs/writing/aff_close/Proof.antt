@@ -10,7 +10,7 @@ returns c =
     let w = d .before .before in
     let a = w .before .before .before .before .before .args in
     closed-left (a .room .now) (a .numbers .now) (a .kept .now) (a .text .now) (a .tree .now) (w .writer-of .result) (w .writer-of .ensures)
-    (d .close .result) (c .leave .result) (c .leave .last .1 .0) (c .leave .ensures .0) (c .leave .ensures .1)
+    (d .close .result) (c .leave-next .result) (c .leave-next .last .1 .0) (c .leave-next .ensures .0) (c .leave-next .ensures .1)
     (a .allowance) (d .close .last .0) (d .close .ensures)
 
 pub aff-close-spec : {M : Type 1} → statement M

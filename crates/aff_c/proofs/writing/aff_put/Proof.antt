@@ -10,7 +10,7 @@ returns c =
     let w = d .before .before .before in
     let a = w .before .before .before .before .before .before .args in
     put-left (a .room .now) (a .numbers .now) (a .kept .now) (a .text .now) (a .tree .now) (w .writer-of .result) (w .writer-of .ensures)
-    (d .put .result) (c .leave .result) (c .leave .last .1 .0) (c .leave .ensures .0) (c .leave .ensures .1)
+    (d .put .result) (c .leave-next .result) (c .leave-next .last .1 .0) (c .leave-next .ensures .0) (c .leave-next .ensures .1)
     (a .node) (a .kind) (a .bytes .now) (a .allowance) (d .put .last .0) (d .put .last .1 .1 .1 .0) (d .put .ensures)
 
 pub aff-put-spec : {M : Type 1} → statement M

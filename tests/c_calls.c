@@ -1,0 +1,311 @@
+// Calls the library through include/aff.h and compares what it returns and leaves with what the header says: `c_calls samples/worked.aff`.
+// It makes document 01's worked file with every total allowance from 0 to 216, tries each refusal of the writer with every other value of the record
+// unchanged, passes null pointers with length 0, and reads special numbers. It prints counts; the exit status is 1 where anything differs.
+#include "aff.h"
+#include <stdio.h>
+#include <stdlib.h>
+#include <string.h>
+
+enum { WORKED = 214, STORES = 215, BUFFER = 400 };
+
+static const uint8_t form[AFF_FORM] = {0, 64, 2, 53, 4, 0, 3, 253, 0, 0, 0, 168};
+static const uint8_t seventy[4] = {0xff, 0xff, 0xff, 0xba};
+static unsigned long checks, failures;
+
+#define CHECK(right) check((right), __LINE__, #right)
+
+static void check(bool right, int line, const char *what) {
+    checks++;
+    if (!right && failures++ < 20) {
+        fprintf(stderr, "tests/c_calls.c:%d: %s\n", line, what);
+    }
+}
+
+// Everything that a writer uses.
+struct writer {
+    uint8_t buffer[BUFFER], text[AFF_TEXT], tree[AFF_TREE], kept[AFF_FORM];
+    uint64_t numbers[AFF_NUMBERS];
+    size_t length;
+};
+
+#define WRITER(w) (w)->buffer, (w)->length, (w)->numbers, (w)->kept, (w)->text, AFF_TEXT, (w)->tree, AFF_TREE
+
+static uint32_t begin(struct writer *w, uint64_t allowance) {
+    return aff_begin(w->buffer, w->length, form, AFF_FORM, w->text, AFF_TEXT, w->tree, AFF_TREE, allowance, w->numbers, w->kept);
+}
+
+static uint32_t make(struct writer *w, uint64_t parent, const char *name) {
+    return aff_make(WRITER(w), parent, (const uint8_t *)name, strlen(name));
+}
+
+static uint32_t put(struct writer *w, uint64_t node, uint64_t kind, size_t length, uint64_t allowance) {
+    return aff_put(WRITER(w), node, kind, seventy, length, allowance);
+}
+
+static uint32_t finish(struct writer *w, uint64_t allowance) {
+    return aff_close(WRITER(w), allowance);
+}
+
+// A buffer of some length, everything in it and in the work areas with one value.
+static void reset(struct writer *w, size_t length, uint8_t value) {
+    memset(w, value, sizeof *w);
+    w->length = length;
+}
+
+// Everything that an opening leaves.
+static uint32_t strings[AFF_STRINGS], entries[AFF_ENTRIES];
+static uint64_t record[AFF_RECORD];
+
+static uint32_t open_image(const uint8_t *image, size_t length) {
+    return aff_open_image(image, length, form, AFF_FORM, strings, AFF_STRINGS, entries, AFF_ENTRIES, record, AFF_RECORD);
+}
+
+// ---- The worked file with every total allowance
+
+static uint32_t worked_call(struct writer *w, int call, uint64_t allowance) {
+    switch (call) {
+    case 0:
+        return begin(w, allowance);
+    case 1:
+        return make(w, 0, "a");
+    case 2:
+        return make(w, 1, "n");
+    case 3:
+        return put(w, 2, AFF_INT, 4, allowance);
+    default:
+        return finish(w, allowance);
+    }
+}
+
+static void drill(const uint8_t *worked) {
+    static struct writer w;
+    unsigned refused = 0, opened = 0;
+    for (uint64_t total = 0; total <= STORES + 1; total++) {
+        uint64_t left = total;
+        reset(&w, WORKED, 0);
+        for (int call = 0; call < 5; call++) {
+            uint32_t number = worked_call(&w, call, left);
+            bool stores = call == 0 || 2 < call;
+            CHECK(number == AFF_OK || number == AFF_ERR_ALLOWANCE || number == AFF_ERR_CLOSED);
+            if (stores && number != AFF_ERR_CLOSED) {
+                CHECK(w.numbers[0] <= left);
+                left -= w.numbers[0];
+            }
+        }
+        CHECK(total - left == (total < STORES ? total : STORES));
+        uint32_t number = open_image(w.buffer, WORKED);
+        if (total < STORES) {
+            CHECK(number == AFF_ERR_SIGNATURE && record[0] == 0);
+            refused += number == AFF_ERR_SIGNATURE;
+        } else {
+            CHECK(number == AFF_OK && memcmp(w.buffer, worked, WORKED) == 0);
+            opened += number == AFF_OK;
+        }
+    }
+    printf("the worked file, total allowances 0 to %d: %u refused with 3, %u opened and samples/worked.aff byte for byte\n", STORES + 1, refused, opened);
+}
+
+// ---- What a refusal of the writer leaves
+
+static const uint64_t FLAGS[] = {0, 1, 2, 7, 256, (uint64_t)1 << 32 | 1, UINT64_MAX};
+enum { ALL_FLAGS = sizeof FLAGS / sizeof *FLAGS };
+
+// The refusal that is expected, numbers[0] is 0, and nothing else has changed.
+#define REFUSED(w, expected, call)                                                                                                    \
+    do {                                                                                                                              \
+        static struct writer before;                                                                                                  \
+        memcpy(&before, (w), sizeof before);                                                                                          \
+        CHECK((call) == (expected));                                                                                                  \
+        CHECK((w)->numbers[0] == 0);                                                                                                  \
+        before.numbers[0] = 0;                                                                                                        \
+        CHECK(memcmp(&before, (w), sizeof before) == 0);                                                                              \
+        (w)->numbers[0] = 77;                                                                                                         \
+        refusals++;                                                                                                                   \
+    } while (0)
+
+// A file with the nodes /a, Void, and /b, an Int, in a buffer of some length.
+static void two_nodes(struct writer *w, size_t length) {
+    reset(w, length, 0x33);
+    CHECK(begin(w, UINT64_MAX) == AFF_OK && make(w, 0, "a") == AFF_OK && make(w, 0, "b") == AFF_OK && put(w, 2, AFF_INT, 4, UINT64_MAX) == AFF_OK);
+}
+
+static void refusals_of_writer(void) {
+    static struct writer w;
+    static char name[AFF_TEXT + 1];
+    unsigned refusals = 0;
+    memset(name, 'x', AFF_TEXT);
+    two_nodes(&w, BUFFER);
+    for (int k = 0; k < ALL_FLAGS; k++) {
+        w.numbers[6] = FLAGS[k];
+        if (FLAGS[k] != 1) {
+            REFUSED(&w, AFF_ERR_CLOSED, make(&w, 0, "c"));
+            REFUSED(&w, AFF_ERR_CLOSED, put(&w, 1, AFF_INT, 4, UINT64_MAX));
+            REFUSED(&w, AFF_ERR_CLOSED, finish(&w, UINT64_MAX));
+        }
+        w.numbers[4] = 3000;
+        REFUSED(&w, AFF_ERR_MISMATCH, make(&w, 0, "c"));
+        REFUSED(&w, AFF_ERR_MISMATCH, put(&w, 1, AFF_INT, 4, 0));
+        REFUSED(&w, AFF_ERR_MISMATCH, finish(&w, 0));
+        w.numbers[4] = 2;
+    }
+    w.numbers[6] = 1;
+    REFUSED(&w, AFF_ERR_NOT_FOUND, make(&w, 3, "c"));
+    REFUSED(&w, AFF_ERR_NAME, make(&w, 0, "9a"));
+    REFUSED(&w, AFF_ERR_EXISTS, make(&w, 0, "a"));
+    REFUSED(&w, AFF_ERR_FULL, make(&w, 0, name));
+    REFUSED(&w, AFF_ERR_SPACE, aff_make(WRITER(&w), 0, (const uint8_t *)name, 300));
+    REFUSED(&w, AFF_ERR_NOT_FOUND, put(&w, 3, AFF_INT, 4, 0));
+    REFUSED(&w, AFF_ERR_HAS_DATA, put(&w, 0, AFF_INT, 4, 0));
+    REFUSED(&w, AFF_ERR_HAS_DATA, put(&w, 2, AFF_INT, 4, 0));
+    REFUSED(&w, AFF_ERR_TYPE, put(&w, 1, AFF_VOID, 0, 0));
+    REFUSED(&w, AFF_ERR_TYPE, put(&w, 1, 6, 4, 0));
+    REFUSED(&w, AFF_ERR_TYPE, put(&w, 1, AFF_INT, 3, 0));
+    REFUSED(&w, AFF_ERR_SPACE, aff_put(WRITER(&w), 1, AFF_CHAR, w.text + AFF_TEXT - 300, 300, 0));
+    printf("refused calls of the writer that change numbers[0] and nothing else: %u\n", refusals);
+}
+
+// 23 stores what the allowance permits, and clears the flag; a refused begin leaves a record of zeros, or after 23 a stopped one.
+static void stops_of_writer(void) {
+    static struct writer w, before;
+    static const uint64_t zeros[AFF_NUMBERS], stopped[AFF_NUMBERS] = {0, BUFFER, 0, 0, 0, 0, 0};
+    two_nodes(&w, BUFFER);
+    memcpy(&before, &w, sizeof before);
+    CHECK(put(&w, 1, AFF_INT, 4, 2) == AFF_ERR_ALLOWANCE);
+    memcpy(before.buffer + 172, seventy, 2);
+    before.numbers[0] = 2;
+    before.numbers[6] = 0;
+    CHECK(memcmp(&before, &w, sizeof w) == 0);
+    for (int call = 0; call < 3; call++) {
+        reset(&w, call == 1 ? 167 : BUFFER, 0x44);
+        memcpy(&before, &w, sizeof before);
+        uint32_t number = call == 0 ? aff_begin(w.buffer, w.length, form, 11, w.text, AFF_TEXT, w.tree, AFF_TREE, 9, w.numbers, w.kept) : begin(&w, 0);
+        CHECK(number == (uint32_t)(call == 0 ? AFF_ERR_LENGTH : call == 1 ? AFF_ERR_SPACE : AFF_ERR_ALLOWANCE));
+        memcpy(before.numbers, call < 2 ? zeros : stopped, sizeof zeros);
+        memcpy(before.kept, call < 2 ? (const uint8_t *)zeros : form, AFF_FORM);
+        CHECK(memcmp(&before, &w, sizeof w) == 0);
+    }
+}
+
+// After an accepted close the file is numbers[0] + numbers[5] bytes long; the whole buffer opens too.
+static void finished_size(const uint8_t *worked) {
+    static struct writer w;
+    reset(&w, BUFFER, 0x55);
+    CHECK(begin(&w, 1) == AFF_OK && w.numbers[0] == 1 && open_image(w.buffer, BUFFER) == AFF_ERR_SIGNATURE);
+    CHECK(make(&w, 0, "a") == AFF_OK && make(&w, 1, "n") == AFF_OK && w.numbers[0] == 2);
+    CHECK(put(&w, 2, AFF_INT, 4, 4) == AFF_OK && finish(&w, 210) == AFF_OK && w.numbers[6] == 0);
+    CHECK(w.numbers[0] + w.numbers[5] == WORKED && memcmp(w.buffer, worked, WORKED) == 0 && w.buffer[WORKED] == 0x55);
+    CHECK(open_image(w.buffer, WORKED) == AFF_OK && open_image(w.buffer, BUFFER) == AFF_OK && record[1] == BUFFER);
+}
+
+// ---- Null pointers with length 0, and other lengths
+
+#define OPENED(image, length) image, length, record, strings, AFF_STRINGS, entries, AFF_ENTRIES
+
+static void null_reading(const uint8_t *worked) {
+    uint8_t bytes[AFF_FORM + 1] = {0};
+    uint64_t n = 77, size = 77, numbers[AFF_RECORD + 1];
+    double value = 77, imaginary = 77;
+    CHECK(aff_form_for(NULL, 0, bytes, AFF_FORM) && memcmp(bytes, form, AFF_FORM) == 0 && !aff_form_for(worked, WORKED, NULL, 0));
+    CHECK(!aff_form_for(worked, WORKED, bytes + 1, 11) && memcmp(bytes, form, AFF_FORM) == 0);
+    memset(numbers, 0x66, sizeof numbers);
+    CHECK(aff_open_image(NULL, 0, NULL, 0, NULL, 0, NULL, 0, NULL, 0) == AFF_ERR_ARGUMENT);
+    CHECK(aff_open_image(worked, WORKED, form, AFF_FORM, strings, AFF_STRINGS, entries, AFF_ENTRIES, numbers, 11) == AFF_ERR_ARGUMENT);
+    CHECK(numbers[0] == 0x6666666666666666 && numbers[10] == numbers[0]);
+    CHECK(aff_open_image(worked, WORKED, form, AFF_FORM, strings, AFF_STRINGS, entries, AFF_ENTRIES, numbers, AFF_RECORD + 1) == AFF_OK);
+    CHECK(numbers[1] == WORKED && numbers[10] == 2 && numbers[12] == 0x6666666666666666);
+    CHECK(aff_open_image(NULL, 0, NULL, 0, NULL, 0, NULL, 0, numbers, AFF_RECORD) == AFF_ERR_LENGTH && numbers[1] == 0);
+    CHECK(open_image(NULL, 0) == AFF_ERR_SHORT && strings[0] == 0 && entries[0] == 0);
+    CHECK(open_image(worked, WORKED) == AFF_OK && strings[1] == 174 && entries[1] == 189 && strings[2] == 0);
+    CHECK(aff_lookup(OPENED(worked, WORKED), NULL, 0, &n) == AFF_ERR_NAME && n == 77);
+    CHECK(aff_lookup(OPENED(NULL, 0), (const uint8_t *)"/", 1, &n) == AFF_ERR_MISMATCH && n == 77);
+    CHECK(aff_lookup(worked, WORKED, record, NULL, 0, entries, AFF_ENTRIES, (const uint8_t *)"/", 1, &n) == AFF_ERR_MISMATCH && n == 77);
+    CHECK(aff_count(worked, WORKED, record, strings, AFF_STRINGS, NULL, 0, 2, &n) == AFF_ERR_MISMATCH && n == 77);
+    CHECK(aff_name(OPENED(NULL, 0), 0, &n, &size) == AFF_ERR_MISMATCH && aff_view(OPENED(NULL, 0), 0, &n, &size) == AFF_ERR_MISMATCH);
+    CHECK(aff_kind(OPENED(NULL, 0), 0, &n) == AFF_ERR_MISMATCH && aff_element(OPENED(NULL, 0), 2, 0, &value, &imaginary) == AFF_ERR_MISMATCH);
+    CHECK(aff_listing(OPENED(worked, WORKED), NULL, 0, &n) == AFF_ERR_SPACE && aff_path(OPENED(worked, WORKED), 2, NULL, 0, &n) == AFF_ERR_SPACE);
+    CHECK(aff_decode(AFF_INT, NULL, 0, 0, &value, &imaginary) == AFF_ERR_INDEX && value == 77 && imaginary == 77 && n == 77 && size == 77);
+    CHECK(aff_lookup(OPENED(worked, WORKED), (const uint8_t *)"/a/n", 4, &n) == AFF_OK && n == 2);
+}
+
+static void null_writing(void) {
+    static struct writer w;
+    reset(&w, BUFFER, 0);
+    CHECK(aff_begin(NULL, 0, form, AFF_FORM, w.text, AFF_TEXT, w.tree, AFF_TREE, 1, w.numbers, w.kept) == AFF_ERR_SPACE);
+    CHECK(aff_begin(w.buffer, BUFFER, NULL, 0, w.text, AFF_TEXT, w.tree, AFF_TREE, 1, w.numbers, w.kept) == AFF_ERR_LENGTH);
+    CHECK(aff_begin(w.buffer, BUFFER, form, AFF_FORM, NULL, 0, NULL, 0, 1, w.numbers, w.kept) == AFF_ERR_LENGTH);
+    CHECK(begin(&w, 1) == AFF_OK && aff_make(WRITER(&w), 0, NULL, 0) == AFF_ERR_NAME && make(&w, 0, "a") == AFF_OK);
+    CHECK(aff_make(NULL, 0, w.numbers, w.kept, w.text, AFF_TEXT, w.tree, AFF_TREE, 0, form, 1) == AFF_ERR_MISMATCH);
+    CHECK(aff_make(w.buffer, BUFFER, w.numbers, w.kept, NULL, 0, NULL, 0, 0, form, 1) == AFF_ERR_MISMATCH);
+    CHECK(aff_put(NULL, 0, w.numbers, w.kept, w.text, AFF_TEXT, w.tree, AFF_TREE, 1, AFF_INT, NULL, 0, 0) == AFF_ERR_MISMATCH);
+    CHECK(aff_put(WRITER(&w), 1, AFF_INT, NULL, 0, 0) == AFF_OK && w.numbers[0] == 0);
+    CHECK(aff_close(NULL, 0, w.numbers, w.kept, w.text, AFF_TEXT, w.tree, AFF_TREE, 0) == AFF_ERR_MISMATCH);
+    CHECK(aff_close(w.buffer, BUFFER, w.numbers, w.kept, NULL, 0, NULL, 0, 0) == AFF_ERR_MISMATCH && finish(&w, UINT64_MAX) == AFF_OK);
+    uint64_t kind = 0, count = 1;
+    CHECK(open_image(w.buffer, BUFFER) == AFF_OK && aff_kind(OPENED(w.buffer, BUFFER), 1, &kind) == AFF_OK && kind == AFF_INT);
+    CHECK(aff_count(OPENED(w.buffer, BUFFER), 1, &count) == AFF_OK && count == 0);
+}
+
+// ---- Outputs of exactly the length needed, and special numbers
+
+static void outputs(const uint8_t *worked) {
+    uint32_t order[4] = {9, 9, 9, 9};
+    uint8_t path[5] = "xxxx";
+    uint64_t n = 77;
+    CHECK(open_image(worked, WORKED) == AFF_OK);
+    CHECK(aff_listing(OPENED(worked, WORKED), order, 2, &n) == AFF_ERR_SPACE && n == 77 && order[0] == 9);
+    CHECK(aff_listing(OPENED(worked, WORKED), order, 3, &n) == AFF_OK && n == 3 && order[0] == 0 && order[2] == 2 && order[3] == 9);
+    CHECK(aff_path(OPENED(worked, WORKED), 2, path, 3, &n) == AFF_ERR_SPACE && n == 3 && path[0] == 'x');
+    CHECK(aff_path(OPENED(worked, WORKED), 2, path, 5, &n) == AFF_OK && n == 4 && memcmp(path, "/a/n", 5) == 0);
+    CHECK(aff_path(OPENED(worked, WORKED), 3, path, 5, &n) == AFF_ERR_NOT_FOUND && n == 4);
+}
+
+static void special_numbers(void) {
+    static const uint64_t exact[] = {
+        0, (uint64_t)1 << 63, 1, 0x000fffffffffffff, 0x8000000000000001, 0x7ff0000000000000, 0xfff0000000000000, 0x3ff0000000000000, 0xffefffffffffffff};
+    static const uint64_t nans[] = {0x7ff0000000000001, 0x7ff8000000000000, 0xfff8000000000001, 0xffffffffffffffff};
+    for (size_t k = 0; k < sizeof exact / 8 + sizeof nans / 8; k++) {
+        bool nan = sizeof exact / 8 <= k;
+        uint64_t bits = nan ? nans[k - sizeof exact / 8] : exact[k], found;
+        uint8_t bytes[16] = {0};
+        double value = 77, imaginary = 77;
+        for (int i = 0; i < 8; i++) {
+            bytes[i] = (uint8_t)(bits >> (56 - 8 * i));
+        }
+        CHECK(aff_decode(AFF_DOUBLE, bytes, 15, 0, &value, &imaginary) == AFF_OK && imaginary == 0);
+        memcpy(&found, &value, 8);
+        CHECK(nan ? value != value : found == bits);
+        CHECK(aff_decode(AFF_COMPLEX, bytes, 16, 0, &value, &imaginary) == AFF_OK && imaginary == 0);
+        memcpy(&found, &value, 8);
+        CHECK(nan ? value != value : found == bits);
+    }
+    double value = 77, imaginary = 77;
+    static const uint64_t kinds[] = {0, 6, 255, (uint64_t)1 << 32 | 3, UINT64_MAX};
+    for (size_t k = 0; k < sizeof kinds / 8; k++) {
+        CHECK(aff_decode(kinds[k], seventy, 4, 0, &value, &imaginary) == AFF_ERR_ARGUMENT);
+    }
+    CHECK(aff_decode(AFF_VOID, seventy, 4, 0, &value, &imaginary) == AFF_ERR_INDEX && aff_decode(AFF_INT, seventy, 4, 1, &value, &imaginary) == AFF_ERR_INDEX);
+    CHECK(aff_decode(AFF_DOUBLE, seventy, 4, 0, &value, &imaginary) == AFF_ERR_INDEX && value == 77 && imaginary == 77);
+    CHECK(aff_decode(AFF_INT, seventy, 4, 0, &value, &imaginary) == AFF_OK && value == -70 && imaginary == 0);
+    CHECK(aff_decode(AFF_CHAR, seventy, 4, 3, &value, &imaginary) == AFF_OK && value == 186 && imaginary == 0);
+}
+
+int main(int argc, char **argv) {
+    static uint8_t worked[WORKED + 1];
+    FILE *file = argc == 2 ? fopen(argv[1], "rb") : NULL;
+    if (file == NULL) {
+        fputs("usage: c_calls samples/worked.aff\n", stderr);
+        return 2;
+    }
+    CHECK(fread(worked, 1, sizeof worked, file) == WORKED);
+    fclose(file);
+    drill(worked);
+    refusals_of_writer();
+    stops_of_writer();
+    finished_size(worked);
+    null_reading(worked);
+    null_writing();
+    outputs(worked);
+    special_numbers();
+    printf("%lu checks, %lu failed\n", checks, failures);
+    return failures != 0;
+}
