@@ -1,13 +1,13 @@
 -- The table of a climb: a node stored in it, the whole climb stored, and the front that is written from it. Assumes nothing.
 use mathlib.Core.Path.{_≡_, refl, sym, ap, _∙_}
 use mathlib.Core.Bool.{Bool, true, false}
-use mathlib.Core.List.{List, [], _∷_, _++_}
+use mathlib.Core.List.{List, _∷_}
 use mathlib.Core.Logic.{⊎-elim}
 use Prim.Native.Nat.{ℕ, zero, suc, _+_, _-_, _*_, _≤_, _<_}
 use native.Mathlib.Nat.{eq-or-lt-of-le, le-of-suc-le-suc}
 use native.Mathlib.Omega.{arith}
 use lib.Dec.{eqb}
-use lib.ListN.{length, getD, set, replicate, length-set, length-replicate, length-append, getD-replicate}
+use lib.ListN.{length, getD, set, replicate, length-set, length-replicate, length-append}
 use lib.Seq.{getD-set-same, getD-set-other}
 use borrow.Author.Tests.{eqb-true, eqb-false}
 use Rattle.aff_format.specs.Bytes.{part}
@@ -17,8 +17,8 @@ use Rattle.aff_format.proofs.TreeLaws.{front-step}
 use Rattle.aff_open.specs.Belongs.{Belongs}
 use Rattle.aff_open.specs.declared.reader.Reader.{Reader}
 use Rattle.aff_open.proofs.BelongsLaws.{parent-within}
-use Rattle.aff_read.specs.Climb.{above, tableParent, tableFrom, tableEnd, tableName, tableFront, TableInside, Noted, NotedMore, ClimbNoted}
-use Rattle.aff_read.specs.Recall.{parentAt, nameAt, nameSpan, spanBytes}
+use Rattle.aff_read.specs.Climb.{above, tableParent, tableFrom, tableEnd, tableFront, TableInside, Noted, NotedMore, ClimbNoted}
+use Rattle.aff_read.specs.Recall.{parentAt, nameAt, nameSpan}
 use Rattle.aff_read.proofs.FrontLaws.{frontAt, name-size, name-bytes}
 use Rattle.aff_read.proofs.SpanLaws.{name-within}
 

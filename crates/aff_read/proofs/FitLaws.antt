@@ -222,11 +222,8 @@ climb-left parent (suc left) node p h up e =
     (omega arith, rw (s, up) (sym (reaches-up parent left node (λ q. omega arith)) ∙ e))
 
 module _ {image : List ℕ} {reader : Reader} {strings entries path fits : List ℕ} (s : Settled image reader strings entries path fits) (node : ℕ) where
-  pub not-root : getD fits node 0 ≡ 0 → 0 < node
-  not-root e = ⊎-elim (λ (z : node ≡ 0). absurd (s .root (ap (λ (j : ℕ). getD fits j 0) (sym z) ∙ e))) (λ (l : 0 < node). l) (at-zero (λ j. j) node)
-
   module _ (there : node ≤ reader .nodes) (after : List ℕ) (other-node : 0 < node) (is : after ≡ set fits node (fitAt image reader strings entries path node)) where
-    pub told-next : getD after node 0 ≡ fitAt image reader strings entries path node
+    told-next : getD after node 0 ≡ fitAt image reader strings entries path node
     told-next = rw is (getD-set-same fits node (fitAt image reader strings entries path node) 0 (omega (arith, s .wide)))
 
     kept-next : (k : ℕ) → (k ≡ node → ⊥) → getD after k 0 ≡ getD fits k 0

@@ -2,7 +2,7 @@
 -- image. Assumes nothing.
 use mathlib.Core.Path.{_≡_, refl, sym, _∙_}
 use mathlib.Core.List.{List, [], _∷_, _++_}
-use mathlib.Core.Logic.{_⊎_, ⊎-elim}
+use mathlib.Core.Logic.{⊎-elim}
 use Prim.Native.Nat.{ℕ, zero, suc, _+_, _-_, _≤_, _<_}
 use native.Mathlib.Omega.{arith}
 use lib.ListN.{length, getD}
@@ -21,7 +21,7 @@ use Rattle.aff_open.specs.declared.reader.Span.{Span}
 use Rattle.aff_open.proofs.RecordedLaws.{name-part}
 use Rattle.aff_read.specs.Recall.{symbolsEnd, parentAt, nameAt, nameSpan, spanBytes, pathAt}
 use Rattle.aff_read.proofs.WrittenLaws.{Parted}
-use Rattle.aff_read.proofs.SpanLaws.{part-between, name-from, name-within}
+use Rattle.aff_read.proofs.SpanLaws.{part-between, name-from}
 
 module _ (parent : ℕ → ℕ) (name : ℕ → List ℕ) where
   -- In the code's terms.

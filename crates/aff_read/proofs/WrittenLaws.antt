@@ -4,11 +4,10 @@ use mathlib.Core.Bool.{Bool, true, false}
 use mathlib.Core.List.{List, [], _∷_, _++_}
 use Prim.Native.Nat.{ℕ, _+_, _≤_, _<_}
 use native.Mathlib.Nat.{add-zero, zero-add}
-use native.Mathlib.Numerals.{add-one}
 use native.Mathlib.Omega.{arith}
 use lib.Dec.{ltb}
-use lib.ListN.{length, getD, take, drop, set, length-append}
-use lib.Seq.{length-take-le, take-length, take-suc, take-at}
+use lib.ListN.{length, take, drop, set, length-append}
+use lib.Seq.{take-at}
 use borrow.Author.Tests.{le-ltb, ltb-true, ltb-false}
 use Rattle.aff_format.specs.Answer.{accepted, refused, check, refusal, unless}
 use Rattle.aff_format.specs.Bytes.{spliced}

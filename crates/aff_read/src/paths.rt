@@ -15,7 +15,7 @@ ghost use mathlib.Core.Path.{_≡_};
 ghost use mathlib.Core.List.{[], _∷_};
 ghost use Prim.Native.Nat.{_+_, _-_, _^_, _≤_, _<_};
 ghost use lib.ListN.{length, getD, drop};
-ghost use Rattle.aff_format.specs.Bytes.{spliced, sameBytes};
+ghost use Rattle.aff_format.specs.Bytes.{sameBytes};
 ghost use Rattle.aff_format.specs.Edition.{editionOf};
 ghost use Rattle.aff_format.specs.Path.{isPath};
 ghost use Rattle.aff_format.specs.Limits.{nodeLimit};
@@ -120,8 +120,8 @@ pub fn put(text: &[u8], at: usize, out: &mut [u8]) -> usize
     at + text.len()
 }
 
-// Stores a node other than the root in the table of a climb, for a record that belongs: its parent, and where its name begins and ends. Reads one
-// entry and one name. Returns the parent.
+// Stores a node other than the root in the table of a climb, for a record that belongs: its parent, and where its name begins and ends in the
+// image. Reads one entry and one name. Returns the parent.
 fn note(
     image: &[u8],
     reader: Reader,
@@ -147,7 +147,7 @@ fn note(
     parent
 }
 
-// Stores the climb from a node to the root in its table. Nothing is stored of other nodes.
+// Stores the nodes of the climb from a node to the root, and no others, in the table of the climb.
 fn note_climb(
     image: &[u8],
     reader: Reader,
@@ -173,7 +173,7 @@ fn noted_parent(table: &[u32; 6147], node: usize) -> usize
     recorded::place(table, 3 * node)
 }
 
-// Writes a slash and a node's name, by the table, from a place on. Returns where they end.
+// Writes a slash and a node's name from a place on, by the table of a climb. Returns where the name ends.
 fn put_own(image: &[u8], table: &[u32; 6147], node: usize, at: usize, out: &mut [u8]) -> usize
     requires { ⌜ TableInside (now image) (now table) × (node ≤ nodeLimit) ⌝ }
     requires { ⌜ at + length (47 ∷ tableName (now image) (now table) node) ≤ length (now out) ⌝ }
@@ -185,8 +185,9 @@ fn put_own(image: &[u8], table: &[u32; 6147], node: usize, at: usize, out: &mut 
     put(&image[from..end], at + 1, out)
 }
 
-// Writes the bytes before the slash of a node's children, by the table: those of its parent first, then a slash and the node's own name. At most
-// `left` steps up; returns where they end. It calls itself once for each node of the climb, so at most 2,048 calls deep.
+// Writes what precedes the slash of a node's children, by the table of a climb: first that of its parent, then a slash and the node's own name. At
+// most `left` steps up. Returns where it ends. Recursion depth is at most 2,048, and a frame is 64 bytes as compiled for x86-64: a level keeps no
+// record, only what the table is read with.
 fn write_front(image: &[u8], table: &[u32; 6147], node: usize, left: usize, out: &mut [u8]) -> usize
     requires { ⌜ TableInside (now image) (now table) × (node ≤ nodeLimit) ⌝ }
     requires { ⌜ length (tableFront (now image) (now table) left node) ≤ length (now out) ⌝ }
@@ -204,7 +205,8 @@ fn write_front(image: &[u8], table: &[u32; 6147], node: usize, left: usize, out:
 }
 
 // Writes the path of a node, for a record that belongs: 21. It measures first, so that at most three times the output's length is read: to measure,
-// to find each name's end, to copy. The table of the climb is 24,588 bytes of stack.
+// to find each name's end, to copy. The stack holds the table of the climb, 24,588 bytes, and the frames of `write_front`: about 156,000 bytes for
+// a climb of 2,048 nodes.
 pub fn path_of(
     image: &[u8],
     reader: Reader,
@@ -217,8 +219,8 @@ pub fn path_of(
     ensures answer { λ r. ⌜ numberTold r ≡ textAnswer (length (now (out .entry))) (pathAt (now (image .entry)) reader (now (strings .entry)) (now (entries .entry)) node) ⌝ }
     ensures output { λ r. ⌜ now (out .exit) ≡ frontWritten (numberTold r) (pathAt (now (image .entry)) reader (now (strings .entry)) (now (entries .entry)) node) (now (out .entry)) ⌝ }
 {
-    let room = out.len();
-    if room < path_length(image, reader, strings, entries, node, room) {
+    let limit = out.len();
+    if limit < path_length(image, reader, strings, entries, node, limit) {
         return NumberAnswer::Refused(Refusal::NoRoom);
     }
     if node == 0 {
@@ -314,8 +316,8 @@ fn fit_below(
     fit_from(image, from, symbols.offset + symbols.size, path, at + 1)
 }
 
-// Climbs from a node to the first one that is settled, itself or one above it. Stores the nodes on the way and that one in `chain`, and the string
-// numbers of those on the way in `names`. Returns how many are on the way.
+// Climbs from a node to the first one whose fit is stored, itself or an ancestor. Stores the nodes on the way and then that one in `chain`, and the
+// string numbers of those on the way in `names`. Returns how many are on the way.
 fn climb(
     image: &[u8],
     entries: &[u32],
@@ -344,8 +346,7 @@ fn climb(
     count
 }
 
-// Settles the nodes of a chain, from the one next to its settled end back to the first: each gets its fit, by that of its parent. Returns the fit of
-// the first.
+// Computes and stores the fits of the nodes of a chain, parents first. Returns the fit of the chain's first node.
 fn settle_chain(
     image: &[u8],
     reader: Reader,
@@ -377,7 +378,7 @@ fn settle_chain(
     fit
 }
 
-// Settles a node other than the root, after those above it that are not settled yet. Returns its fit.
+// Returns the fit of a node other than the root. Computes and stores it, and before it those of its ancestors, unless they are stored already.
 fn settle(
     image: &[u8],
     reader: Reader,
@@ -444,8 +445,9 @@ fn has_path(
         == path.len() + 2
 }
 
-// The lowest node whose path is the given one, for a record that belongs. Each node is settled once at most: its entry is read once, and its
-// name compared only where its parent fits, up to the first byte that differs and no further than the path goes.
+// The lowest node whose path is the given one, for a record that belongs. The fit of a node is computed once at most: its entry is read once, and its
+// name compared only where its parent fits, up to the first byte that differs and no further than the path goes. No recursion: the stack holds three
+// arrays, 32,784 bytes.
 pub fn lowest_match(
     image: &[u8],
     reader: Reader,

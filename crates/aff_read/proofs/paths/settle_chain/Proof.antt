@@ -1,12 +1,10 @@
 -- `settle_chain` meets its contract: what is settled stays so, and the fit at hand is that of the last node that was settled.
 use borrow.Author.Needs.{needs}
-use mathlib.Core.Path.{_≡_, sym, ap, _∙_}
+use mathlib.Core.Path.{_≡_, ap, _∙_}
 use Prim.Native.Nat.{ℕ, _-_, _≤_, _<_}
 use native.Mathlib.Omega.{arith}
 use lib.ListN.{getD, set}
-use Rattle.aff_open.specs.Recorded.{recordedEntry}
 use Rattle.aff_read.specs.Fit.{fitAt, Settled}
-use Rattle.aff_read.specs.Recall.{parentAt}
 use Rattle.aff_read.proofs.ChainLaws.{top-fit, parent-fit}
 use Rattle.aff_read.proofs.FitLaws.{settled-next}
 use Rattle.aff_read.proofs.paths.settle_chain.Statement.{statement}
