@@ -48,7 +48,7 @@ fn put_number(node: usize, at: usize, out: &mut [u32]) -> usize
 // Stores a node and its subtree from a place on, at most `depth` levels, and answers where they end. A node calls the loop over its
 // children, which calls a node: remaining depth and children fall.
 fn list_node(
-    parents: &[u32],
+    parents: &[u32; 2049],
     nodes: usize,
     node: usize,
     depth: usize,
@@ -67,7 +67,7 @@ fn list_node(
 
 // The subtrees of a node's children, in number order. One comparison a node, besides the subtrees.
 fn list_children(
-    parents: &[u32],
+    parents: &[u32; 2049],
     nodes: usize,
     node: usize,
     depth: usize,
@@ -88,7 +88,7 @@ fn list_children(
 
 // The subtree of k where k is a child of the node, else nothing.
 fn list_child(
-    parents: &[u32],
+    parents: &[u32; 2049],
     nodes: usize,
     node: usize,
     k: usize,
@@ -106,7 +106,8 @@ fn list_child(
 }
 
 // Listing order at the front of an area with room for it, for a record that belongs. Each node is listed once: at most (nodes + 1)²
-// comparisons of parents, and as many levels of calls as the tree has.
+// comparisons of parents. Recursion depth is the number of levels of the tree, at most 2,049, and a frame is 96 bytes as compiled for x86-64: with the
+// parents, 8,196 bytes, about 205,000 bytes of stack.
 pub fn listing_of(
     image: &[u8],
     reader: Reader,

@@ -126,7 +126,7 @@ list-children-loop-holds : (t : ℕ) → list-children-lts.Need-loop-holds (
   list-child.Post,
 ) (list-children-at t) list-children.Post list-children-Inv-loop list-children-μ-loop
 list-children-loop-holds t c =
-    let a = c .before .before .args in
+    let a = c .before .args in
     (omega arith, omega arith, written-none _ _ _ (children-none (below (a .parents .now) (a .nodes) (a .depth)) (parentIn (a .parents .now)) (a .node)), refl)
 
 list-children-list-child-requires : (t : ℕ) → list-children-lts.Need-list-child-requires (
@@ -134,7 +134,7 @@ list-children-list-child-requires : (t : ℕ) → list-children-lts.Need-list-ch
   list-child.Post,
 ) (list-children-at t) list-children.Post list-children-Inv-loop list-children-μ-loop
 list-children-list-child-requires t c κs =
-    let z = c .before .before .before .before .before in
+    let z = c .before .before .before .before in
     let a = z .args in
     let l = c .before .before .loop in (
       omega (arith, z .pre .0),
@@ -151,7 +151,7 @@ list-children-loop-again : (t : ℕ) → list-children-lts.Need-loop-again (
   list-child.Post,
 ) (list-children-at t) list-children.Post list-children-Inv-loop list-children-μ-loop
 list-children-loop-again t c =
-    let z = c .before .before .before .before .before .before .before .before in
+    let z = c .before .before .before .before .before .before .before in
     let a = z .args in
     let l = c .before .before .before .before .before .loop in
     let w = c .before .before .list-child in (
@@ -166,7 +166,7 @@ list-children-returns : (t : ℕ) → list-children-lts.Need-returns (
   list-child.Post,
 ) (list-children-at t) list-children.Post list-children-Inv-loop list-children-μ-loop
 list-children-returns t c =
-    let a = c .before .before .before .before .args in
+    let a = c .before .before .before .args in
     let l = c .before .loop in
     let e : l .k ≡ a .nodes + 1 = omega arith in
     written-same (ap (childrenTo (below (a .parents .now) (a .nodes) (a .depth)) (parentIn (a .parents .now)) (a .node)) e) (l .inv .2)
@@ -178,7 +178,7 @@ list-node-returns : (t : ℕ) → list-node-lts.Need-returns (
   list-children.Post,
 ) (list-node-at t) list-node.Post
 list-node-returns t c =
-    let a = c .before .before .before .args in
+    let a = c .before .before .args in
     written-none _ _ _ (preorder-ended (parentIn (a .parents .now)) (a .nodes + 1) (a .depth) (a .node) (c .if1 .taken))
 
 list-node-put-number-requires : (t : ℕ) → list-node-lts.Need-put-number-requires (
@@ -188,7 +188,7 @@ list-node-put-number-requires : (t : ℕ) → list-node-lts.Need-put-number-requ
   list-children.Post,
 ) (list-node-at t) list-node.Post
 list-node-put-number-requires t c κs =
-    let z = c .before .before .before .before in
+    let z = c .before .before .before in
     let a = z .args in
     (omega arith, omega (arith, node-fits (parentIn (a .parents .now)) (a .nodes + 1) (a .depth) (a .node) (a .at) (a .out .now) (c .before .if1 .left) (z .pre .1 .2)))
 
@@ -199,7 +199,7 @@ list-node-list-children-requires : (t : ℕ) → list-node-lts.Need-list-childre
   list-children.Post,
 ) (list-node-at t) list-node.Post
 list-node-list-children-requires t c κs =
-    let z = c .before .before .before .before .before .before .before .before in
+    let z = c .before .before .before .before .before .before .before in
     let a = z .args in (
       omega (arith, z .pre .0, c .before .before .before .before .before .if1 .left),
       (z .pre .1 .0, children-room (parentIn (a .parents .now)) (a .nodes + 1) (a .depth) (a .node) (a .at) (a .out .now) (c .before .before .before .before .before .if1 .left) (z .pre .1 .2) (c .before .before .before .put-number .ensures)),
@@ -221,7 +221,7 @@ list-node-returns-2 : (t : ℕ) → list-node-lts.Need-returns-2 (
   list-children.Post,
 ) (list-node-at t) list-node.Post
 list-node-returns-2 t c =
-    let z = c .before .before .before .before .before .before .before .before .before .before .before in
+    let z = c .before .before .before .before .before .before .before .before .before .before in
     let a = z .args in
     node-next (parentIn (a .parents .now)) (a .nodes + 1) (a .depth) (a .node) (a .at) (a .out .now) (c .before .before .before .before .before .before .before .before .if1 .left) (z .pre .1 .2) (c .before .before .before .before .before .before .put-number .ensures) (c .before .before .list-children .ensures)
 

@@ -24,4 +24,4 @@ returns c =
 pub listing-of-spec : {M : Type 1} → statement M
 listing-of-spec =
     tie.close
-    (tie.spec (λ c. search needs) copy-parents-requires (λ c. search needs) (λ c. search needs) list-node-requires (λ c. search needs) returns)
+    (tie.spec (λ c. search needs) copy-parents-requires (λ c. search needs) list-node-requires (λ c. search needs) returns)
