@@ -1,4 +1,4 @@
-// The program `list` again, which the gate runs here on one byte above its limit: a lawful image, then zeros up to 65,537 bytes.
+// The program `list` again, run here on one byte above its limit.
 fn main() {
     aff_list::run();
 }
