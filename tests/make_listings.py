@@ -1,8 +1,9 @@
 #!/usr/bin/env python3
-"""Makes the images of the test program list_cases, the input of list and the sample of the README, with what must be printed.
+"""Makes the images of the test program list_cases, the inputs of list and list_limit, and the sample of the README, with what must be printed.
 
 What is printed is worked out here from the description of each tree, with no code of the library. It writes
-crates/list_cases/stdin (each image behind its length in 4 bytes) and stdout, crates/list/stdin and stdout, samples/worked.aff and tests/list_cases.txt.
+crates/list_cases/stdin (each image behind its length in 4 bytes) and stdout, stdin and stdout of crates/list (65,536 bytes) and of crates/list_limit
+(65,537 bytes), samples/worked.aff and tests/list_cases.txt.
 
     tests/make_listings.py [FOLDER]      FOLDER: where these are written, the repository where none is given
 """
@@ -13,6 +14,7 @@ from make_images import CHAR, COMPLEX, DOUBLE, HEADER, INT, VOID, Image, destina
 
 WORD = {VOID: "void", CHAR: "char", INT: "int", DOUBLE: "double", COMPLEX: "complex"}
 SIZE = {CHAR: 1, INT: 4, DOUBLE: 8, COMPLEX: 16}
+LIMIT = 65536
 BLOCK = 131072
 BRIEF = 1024
 
@@ -62,6 +64,11 @@ def chain(n, name, last=None):
     return [(k, s, VOID, 0) for k, s in enumerate(names)]
 
 
+def padded(image, size):
+    """An image with zeros after its last section: bytes of no section are ignored."""
+    return image + bytes(size - len(image))
+
+
 WORKED = [(0, b"a", VOID, 0), (1, b"n", INT, 1)]
 # Parents above their children, every type, count 0, siblings in number order.
 MIXED = [(3, b"x", CHAR, 3), (3, b"y", DOUBLE, 2), (0, b"b", VOID, 0), (0, b"a", COMPLEX, 1), (4, b"x", INT, 0), (1, b"deep.er", VOID, 0), (0, b"_:", CHAR, 10)]
@@ -89,9 +96,9 @@ def cases():
     yield "a wrong header sum", worked[:40] + b"\1" + worked[41:], [b"refused 5 0\n"]
     yield "a wrong sum of the tree table", worked[:-1] + b"\1", [b"refused 7 2\n"]
     yield "its own parent", make(2, [(1, b"a", VOID, 0)]), [b"refused 11 1\n"]
-    yield "65,536 bytes", worked + bytes(65536 - len(worked)), lines(WORKED)
-    yield "65,537 bytes", worked + bytes(65537 - len(worked)), [b"too long\n"]
-    yield "65,537 bytes of no text", bytes(65537), [b"too long\n"]
+    yield "65,536 bytes", padded(worked, LIMIT), lines(WORKED)
+    yield "65,537 bytes", padded(worked, LIMIT + 1), [b"too long\n"]
+    yield "65,537 bytes of no text", bytes(LIMIT + 1), [b"too long\n"]
 
 
 def write(top, path, content):
@@ -111,8 +118,10 @@ def main():
     write(top, "crates/list_cases/stdin", stdin)
     write(top, "crates/list_cases/stdout", out)
     write(top, "tests/list_cases.txt", index.encode())
-    write(top, "crates/list/stdin", make(2, WORKED))
+    write(top, "crates/list/stdin", padded(make(2, WORKED), LIMIT))
     write(top, "crates/list/stdout", b"".join(lines(WORKED)))
+    write(top, "crates/list_limit/stdin", padded(make(2, WORKED), LIMIT + 1))
+    write(top, "crates/list_limit/stdout", b"too long\n")
     write(top, "samples/worked.aff", make(2, WORKED))
     print(k + 1, "images")
 

@@ -39,7 +39,7 @@ module _ (image : List ℕ) (reader : Reader) (strings entries : List ℕ) where
       })
 
 -- What is handed back and left before the first line: the answer and the record, the two areas, and listing order.
-abbrev Begun : List ℕ → List ℕ → List ℕ → List ℕ → Answer Reader → Reader → List ℕ → List ℕ → List ℕ → Type 0
+abbrev pub Begun : List ℕ → List ℕ → List ℕ → List ℕ → Answer Reader → Reader → List ℕ → List ℕ → List ℕ → Type 0
 Begun image strings entries numbers told reader ss es ns =
     (told ≡ judged image strings entries) × ((reader ≡ readerAfter (judged image strings entries)) × ((ss ≡ stringsAfter image (formFor image) strings entries)
     × ((es ≡ entriesAfter image (formFor image) strings entries) × (ns ≡ orderAfter image strings entries numbers))))

@@ -4,7 +4,7 @@ use mathlib.Core.Bool.{Bool, cond}
 use mathlib.Core.List.{List, [], _∷_, _++_}
 use Prim.Native.Nat.{ℕ, _+_, _≤_, _<_}
 use lib.Dec.{ltb, leb}
-use lib.ListN.{length, getD, take, drop}
+use lib.ListN.{length, getD, take, drop, replicate}
 use Rattle.aff_format.specs.Answer.{Answer, accepted, refused, Check, check, refusal, firstWrong}
 use Rattle.aff_format.specs.Bytes.{spliced}
 use Rattle.aff_format.specs.Lowest.{lowestFrom, isAt}
@@ -13,8 +13,15 @@ use Rattle.aff_open.specs.Belongs.{Belongs}
 use Rattle.aff_open.specs.Opening.{opened, stringsAfter, entriesAfter}
 use Rattle.aff_open.specs.Sections.{formFor}
 use Rattle.aff_open.specs.declared.reader.Reader.{Reader}
-use Rattle.aff_read.specs.Calls.{frontWritten, order, lineAt}
+use Rattle.aff_read.specs.Calls.{frontWritten, order, decimal, lineAt}
 use Rattle.aff_read.specs.Recall.{pathAt}
+
+-- The longest input that is listed.
+abbrev pub inputLimit : ℕ
+inputLimit = 65536
+
+abbrev pub isLong : List ℕ → Bool
+isLong input = ltb inputLimit (length input)
 
 -- The longest path that is printed, and the longest line with its line feed: at most 19 bytes stand behind the path.
 abbrev pub pathLimit : ℕ
@@ -65,6 +72,23 @@ module _ (image : List ℕ) (reader : Reader) (strings entries : List ℕ) where
     pub stays : drop used after ≡ drop used before
     pub full : next ≤ reader .nodes → length after < used + length (rowAt next)
 
+  -- The first block of a text. Either it holds the whole text, and `next` is past the last node; or it is full, and the lines from place `next` on
+  -- come after it, for which all is ready. The rest of the block stays.
+  pub record Starts (text numbers : List ℕ) (next used : ℕ) (before after : List ℕ) : Type 0 where
+    pub most : next ≤ reader .nodes + 1
+    pub inside : used ≤ length after
+    pub stays : drop used after ≡ drop used before
+    pub whole : reader .nodes < next → text ≡ take used after
+    pub goes-on : next ≤ reader .nodes → text ≡ take used after ++ rowsFrom next
+    pub full : next ≤ reader .nodes → length after < used + length (rowAt next)
+    pub ready : next ≤ reader .nodes → Ready numbers
+
+  -- Blocks filled one after another from place `from` of listing order on, until no line is left; and their bytes in that order.
+  pub data FilledFrom : ℕ → List ℕ → Type 0 where
+    none : {from : ℕ} → reader .nodes < from → FilledFrom from []
+    more : {from next used : ℕ} {before after text : List ℕ} → Fills from next used before after → FilledFrom next text
+        → FilledFrom from (take used after ++ text)
+
 -- The refusal of opening, else 21 where a path is too long, else the record.
 abbrev pub withPaths : List ℕ → List ℕ → List ℕ → Answer Reader → Answer Reader
 withPaths image strings entries (refused t) = refused t
@@ -86,6 +110,55 @@ unfoldable pub orderAfter : List ℕ → List ℕ → List ℕ → List ℕ → 
 orderAfter image strings entries numbers =
     withOrder image (stringsAfter image (formFor image) strings entries) (entriesAfter image (formFor image) strings entries) numbers
     (opened image (formFor image) (length strings) (length entries))
+
+-- ---- The whole text that `list` prints.
+
+-- `too long` and a line feed.
+abbrev pub tooLongLine : List ℕ
+tooLongLine = 116 ∷ 111 ∷ 111 ∷ 32 ∷ 108 ∷ 111 ∷ 110 ∷ 103 ∷ 10 ∷ []
+
+-- A number in decimal digits. No number n has more than n + 1 of them.
+unfoldable pub inDecimal : ℕ → List ℕ
+inDecimal n = decimal (n + 1) n
+
+-- `refused N P` and a line feed.
+abbrev pub refusedWord : List ℕ
+refusedWord = 114 ∷ 101 ∷ 102 ∷ 117 ∷ 115 ∷ 101 ∷ 100 ∷ 32 ∷ []
+
+unfoldable pub refusalLine : ℕ → ℕ → List ℕ
+refusalLine number place = refusedWord ++ (inDecimal number ++ (32 ∷ (inDecimal place ++ (10 ∷ []))))
+
+-- What is printed once all is decided: the line of a refusal, or the line of each node in listing order.
+abbrev pub textOf : List ℕ → List ℕ → List ℕ → Answer Reader → List ℕ
+textOf image strings entries (refused t) = refusalLine (t .number) (t .place)
+textOf image strings entries (accepted r) = rows image r strings entries (order image r strings entries)
+
+-- What is printed of an input that is not too long, opened with work areas that hold these numbers before.
+unfoldable pub listed : List ℕ → List ℕ → List ℕ → List ℕ
+listed input strings entries =
+    textOf input (stringsAfter input (formFor input) strings entries) (entriesAfter input (formFor input) strings entries) (judged input strings entries)
+
+-- A work area: 2,048 zeros.
+unfoldable pub zeroArea : List ℕ
+zeroArea = replicate 2048 0
+
+-- What `list` prints of an input: the bytes of standard output for the bytes of standard input.
+unfoldable pub printed : List ℕ → List ℕ
+printed input = cond (isLong input) tooLongLine (listed input zeroArea zeroArea)
+
+-- What the definitions above have to satisfy, proved as `printing` in proofs/PrintedLaws.antt.
+pub record Printing : Type 0 where
+  -- The limit of `inDecimal` cuts no number off: any larger one gives the same digits.
+  pub digits : (n most : ℕ) → n < most → decimal most n ≡ inDecimal n
+  -- An input above 65,536 bytes, whatever it holds.
+  pub long : (input : List ℕ) → inputLimit < length input → printed input ≡ tooLongLine
+  -- Any other: work areas of 2,048 numbers give the same text, whatever they hold before.
+  pub short : (input strings entries : List ℕ) → length input ≤ inputLimit → length strings ≡ 2048 → length entries ≡ 2048
+      → printed input ≡ listed input strings entries
+  -- The first block, and the blocks filled one after another from the place where it ends: their bytes in that order are what is printed.
+  pub in-order : {input : List ℕ} {reader : Reader} {strings entries numbers : List ℕ} {next used : ℕ} {before after rest : List ℕ}
+      → Starts input reader strings entries (printed input) numbers next used before after → FilledFrom input reader strings entries next rest
+      → take used after ++ rest ≡ printed input
 
 -- Text put behind the first `used` bytes of a block, where the block has room for it: where it ends, and the block after it.
 unfoldable pub endBehind : ℕ → List ℕ → List ℕ → ℕ

@@ -1,4 +1,6 @@
-// The lines of an image, block by block. The image is opened and every path measured first; then one block is filled after another.
+// What is printed of an input, block by block. The image is opened and every path measured before the first line; then one block is filled after
+// another. The first is `first_block`'s, the others are `fill`'s.
+use crate::refusal_line;
 use aff_format::NumberAnswer;
 use aff_format::Refusal;
 use aff_format::Verdict;
@@ -8,14 +10,16 @@ use aff_open::recorded;
 use aff_read::lister;
 use aff_read::paths;
 ghost use mathlib.Core.Path.{_≡_};
+ghost use mathlib.Core.Bool.{cond};
 ghost use Prim.Native.Nat.{_≤_};
 ghost use lib.ListN.{length};
 ghost use Rattle.aff_format.specs.Answer.{accepted, firstWrong};
 ghost use Rattle.aff_format.specs.Verdict.{verdictTold};
 ghost use Rattle.aff_open.specs.Belongs.{Belongs};
 ghost use Rattle.aff_open.specs.Opening.{openingTold, readerAfter, stringsAfter, entriesAfter};
+ghost use Rattle.aff_open.specs.Reader.{noReader};
 ghost use Rattle.aff_open.specs.Sections.{formFor};
-ghost use Rattle.aff_list.specs.Lister.{pathChecks, row, Ready, Fills, judged, withOrder, orderAfter, endBehind, putBehind};
+ghost use Rattle.aff_list.specs.Lister.{pathChecks, row, Ready, Fills, Starts, inputLimit, isLong, judged, withOrder, orderAfter, printed, endBehind, putBehind};
 
 // 21 where a path is above 65,536 bytes, for a record that belongs. One climb a node.
 fn measure(image: &[u8], reader: Reader, strings: &[u32], entries: &[u32]) -> Verdict
@@ -65,8 +69,8 @@ fn prepare(
 // (`judged-ready`).
 pub fn begin(
     image: &[u8],
-    strings: &mut [u32; 2048],
-    entries: &mut [u32; 2048],
+    strings: &mut [u32],
+    entries: &mut [u32],
     order: &mut [u32; 2049],
 ) -> Opening
     ensures answer { λ r. ⌜ openingTold r ≡ judged (now (image .entry)) (now (strings .entry)) (now (entries .entry)) ⌝ }
@@ -157,4 +161,72 @@ pub fn fill(
         next += 1;
     }
     Filled { next, used }
+}
+
+// Where the first block ends: the record of the opening, the place in listing order of the line that comes next, and the bytes filled. A place
+// past the last node: there is no further block.
+pub struct First {
+    pub reader: Reader,
+    pub next: usize,
+    pub used: usize,
+}
+
+// The first block of an input that is not too long.
+fn first_lines(
+    image: &[u8],
+    strings: &mut [u32; 2048],
+    entries: &mut [u32; 2048],
+    order: &mut [u32; 2049],
+    block: &mut [u8; 131072],
+) -> First
+    requires { ⌜ length (now image) ≤ inputLimit ⌝ }
+    ensures block { λ r. ⌜ Starts (now (image .entry)) (r .reader) (now (strings .exit)) (now (entries .exit)) (printed (now (image .entry))) (now (order .exit)) (r .next) (r .used) (now (block .entry)) (now (block .exit)) ⌝ }
+    ensures record { λ r. ⌜ r .reader ≡ readerAfter (judged (now (image .entry)) (now (strings .entry)) (now (entries .entry))) ⌝ }
+    ensures strings { λ _. ⌜ now (strings .exit) ≡ stringsAfter (now (image .entry)) (formFor (now (image .entry))) (now (strings .entry)) (now (entries .entry)) ⌝ }
+    ensures entries { λ _. ⌜ now (entries .exit) ≡ entriesAfter (now (image .entry)) (formFor (now (image .entry))) (now (strings .entry)) (now (entries .entry)) ⌝ }
+    ensures order { λ _. ⌜ now (order .exit) ≡ orderAfter (now (image .entry)) (now (strings .entry)) (now (entries .entry)) (now (order .entry)) ⌝ }
+{
+    let opening = begin(image, strings, entries, order);
+    let verdict = opening.verdict;
+    let reader = opening.reader;
+    match verdict {
+        Verdict::Refused(refusal) => First {
+            reader,
+            next: 1,
+            used: refusal_line::put_refusal(refusal, block),
+        },
+        Verdict::Accepted => {
+            let filled = fill(image, reader, strings, entries, order, 0, block);
+            First {
+                reader,
+                next: filled.next,
+                used: filled.used,
+            }
+        }
+    }
+}
+
+// Starts printing an input: fills a block from its front with `too long`, with the line `refused N P`, or with as many lines as fit. `fill` makes
+// the further blocks, where there are any. An input that is too long is not opened; of any other, areas and record are left as `begin` says.
+pub fn first_block(
+    image: &[u8],
+    strings: &mut [u32; 2048],
+    entries: &mut [u32; 2048],
+    order: &mut [u32; 2049],
+    block: &mut [u8; 131072],
+) -> First
+    ensures block { λ r. ⌜ Starts (now (image .entry)) (r .reader) (now (strings .exit)) (now (entries .exit)) (printed (now (image .entry))) (now (order .exit)) (r .next) (r .used) (now (block .entry)) (now (block .exit)) ⌝ }
+    ensures record { λ r. ⌜ r .reader ≡ cond (isLong (now (image .entry))) noReader (readerAfter (judged (now (image .entry)) (now (strings .entry)) (now (entries .entry)))) ⌝ }
+    ensures strings { λ _. ⌜ now (strings .exit) ≡ cond (isLong (now (image .entry))) (now (strings .entry)) (stringsAfter (now (image .entry)) (formFor (now (image .entry))) (now (strings .entry)) (now (entries .entry))) ⌝ }
+    ensures entries { λ _. ⌜ now (entries .exit) ≡ cond (isLong (now (image .entry))) (now (entries .entry)) (entriesAfter (now (image .entry)) (formFor (now (image .entry))) (now (strings .entry)) (now (entries .entry))) ⌝ }
+    ensures order { λ _. ⌜ now (order .exit) ≡ cond (isLong (now (image .entry))) (now (order .entry)) (orderAfter (now (image .entry)) (now (strings .entry)) (now (entries .entry)) (now (order .entry))) ⌝ }
+{
+    if 65536 < image.len() {
+        return First {
+            reader: Reader::none(),
+            next: 1,
+            used: paths::put(b"too long\n", 0, block),
+        };
+    }
+    first_lines(image, strings, entries, order, block)
 }

@@ -1,5 +1,6 @@
 // What the program `list` prints of an image.
-pub mod blocks; // the lines, block by block
+pub mod refusal_line; // the line `refused N P`
+pub mod blocks; // the text, block by block
 pub mod output; // on standard output
 
-pub use output::print;
+pub use output::run;

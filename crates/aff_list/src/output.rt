@@ -1,71 +1,43 @@
-// Prints what `list` has to print. No contract can say what is written: what stands in each block is `fill`'s promise.
+// The program `list`. No contract can say what is read or written: `first_block` and `fill` promise that the blocks, one after another, are the
+// text that is to be printed of the input (`in-order`), and the functions here write them in that order.
 use crate::blocks;
-use aff_format::Verdict;
-use aff_format::number;
-use aff_open::Reader;
-use libc::STDOUT_FILENO;
-ghost use Rattle.aff_list.specs.Lister.{Ready};
+use libc::STDIN_FILENO;
+ghost use Prim.Native.Nat.{_≤_, _<_};
+ghost use lib.ListN.{length};
+ghost use Rattle.aff_list.specs.Lister.{inputLimit};
 
-// A block; a long one, where it is to be brief, by its length and its MD5 sum.
-fn block_text(block: &[u8], brief: bool) {
-    if brief {} else {
-        console::text(block);
-        return;
-    }
-    if block.len() <= 1024 {
-        console::text(block);
-        return;
-    }
-    let sum = md5::md5(block);
-    console::decimal(block.len() as u64);
-    console::text(b" bytes, MD5 ");
-    io::print_hex(STDOUT_FILENO, number::be64(&sum, 0), 16);
-    io::print_hex(STDOUT_FILENO, number::be64(&sum, 8), 16);
-    console::text(b"\n");
-}
-
-// The lines, a block at a time.
-fn lines(
-    image: &[u8],
-    reader: Reader,
-    strings: &[u32; 2048],
-    entries: &[u32; 2048],
-    order: &[u32; 2049],
-    brief: bool,
-)
-    requires { ⌜ Ready (now image) reader (now strings) (now entries) (now order) ⌝ }
-{
-    let mut block = [0u8; 131072];
-    let mut at: usize = 0;
-    while at <= reader.nodes {
-        let filled = blocks::fill(image, reader, strings, entries, order, at, &mut block);
-        let used = filled.used;
-        block_text(&block[..used], brief);
-        at = filled.next;
-    }
-}
-
-fn listing(image: &[u8], brief: bool) {
+// Prints the text of an input, block by block.
+fn print(input: &[u8]) {
     let mut strings = [0u32; 2048];
     let mut entries = [0u32; 2048];
     let mut order = [0u32; 2049];
-    let opening = blocks::begin(image, &mut strings, &mut entries, &mut order);
-    let verdict = opening.verdict;
-    match verdict {
-        Verdict::Refused(refusal) => {
-            console::refusal(refusal);
-            console::text(b"\n");
-        }
-        Verdict::Accepted => lines(image, opening.reader, &strings, &entries, &order, brief),
+    let mut block = [0u8; 131072];
+    let first = blocks::first_block(input, &mut strings, &mut entries, &mut order, &mut block);
+    let reader = first.reader;
+    let used = first.used;
+    console::text(&block[..used]);
+    let mut next = first.next;
+    while next <= reader.nodes {
+        let filled = blocks::fill(input, reader, &strings, &entries, &order, next, &mut block);
+        let used = filled.used;
+        console::text(&block[..used]);
+        next = filled.next;
     }
 }
 
-// A line for each node of an image, in listing order; or the line `refused N P`; or, where it is above 65,536 bytes, `too long`. `brief`, for
-// tests, shows a block above 1,024 bytes by its length and its MD5 sum.
-pub fn print(image: &[u8], brief: bool) {
-    if 65536 < image.len() {
-        console::text(b"too long\n");
-        return;
-    }
-    listing(image, brief);
+// Reads standard input to its end, or until the buffer is full, and returns the number of bytes. A buffer above the limit is needed to see
+// that an input is too long.
+fn read_input(buffer: &mut [u8]) -> usize
+    requires { ⌜ inputLimit < length (now buffer) ⌝ }
+    ensures { λ r. ⌜ r ≤ length (now (buffer .exit)) ⌝ }
+{
+    io::read_full(STDIN_FILENO, buffer)
+}
+
+// Reads standard input and prints its text: a line for each node, in listing order; or the line `refused N P`; or, for an input above 65,536
+// bytes, `too long`.
+pub fn run() {
+    let mut input = [0u8; 65537];
+    let size = read_input(&mut input);
+    print(&input[..size]);
 }

@@ -11,7 +11,7 @@ fn one(k: usize) -> bool {
     let size = next.size;
     console::decimal(k as u64);
     console::text(b"\n");
-    aff_list::print(&image[..size], true);
+    list_brief::print(&image[..size]);
     true
 }
 

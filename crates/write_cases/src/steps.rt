@@ -157,7 +157,7 @@ fn aside(step: Step, bytes: &[u8], room: &mut [u8], text: &mut [u8], tree: &mut 
             show::hex(room);
             console::text(b"\n");
         }
-        b'l' => aff_list::print(room, true),
+        b'l' => list_brief::print(room),
         b'o' => reading::all(room),
         _ => {}
     }

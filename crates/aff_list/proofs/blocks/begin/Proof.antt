@@ -6,28 +6,28 @@ use Rattle.aff_list.proofs.blocks.begin.Tie as tie
 
 prepare-requires : tie.Need-prepare-requires
 prepare-requires c κs =
-    let t = c .before .before .before .before .before in
-    let o = t .before .before .before in
+    let t = c .before .before .before in
+    let o = t .before .before .before .before .before .before .before in
     let f = o .before .before .before .before in
-    let a = f .before .before .args in
+    let a = f .before .before .before .before .args in
     let e = o .«open» .ensures in
     begun-belongs (a .image .now) (a .strings .now) (a .entries .now) (a .order .now) (o .«open» .result) (f .form-for .ensures) (e .0) (e .1 .1 .0) (e .1 .1 .1) (t .enum-told .given .1)
 
 returns : tie.Need-returns
 returns c =
     let v = c .before in
-    let o = v .before .before .before in
+    let o = v .before .before .before .before .before .before .before in
     let f = o .before .before .before .before in
-    let a = f .before .before .args in
+    let a = f .before .before .before .before .args in
     let e = o .«open» .ensures in
     begun-refused (a .image .now) (a .strings .now) (a .entries .now) (a .order .now) (o .«open» .result) (f .form-for .ensures) (e .0) (e .1 .1 .0) (e .1 .1 .1) (e .1 .0) _ (v .verdict .given .1)
 
 returns-2 : tie.Need-returns-2
 returns-2 c =
-    let t = c .before .before .before .before .before .before in
-    let o = t .before .before .before in
+    let t = c .before .before .before .before in
+    let o = t .before .before .before .before .before .before .before in
     let f = o .before .before .before .before in
-    let a = f .before .before .args in
+    let a = f .before .before .before .before .args in
     let e = o .«open» .ensures in
     let p = c .prepare in
     begun-judged (a .image .now) (a .strings .now) (a .entries .now) (a .order .now) (o .«open» .result) (f .form-for .ensures) (e .0) (e .1 .1 .0) (e .1 .1 .1) (t .enum-told .given .1)
@@ -43,5 +43,9 @@ begin-spec =
     (λ c. search needs)
     (λ c. search needs)
     prepare-requires
+    (λ c. search needs)
+    (λ c. search needs)
     returns
+    (λ c. search needs)
+    (λ c. search needs)
     returns-2)
