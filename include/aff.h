@@ -134,9 +134,10 @@ uint32_t aff_decode(uint64_t kind, const uint8_t *bytes, size_t bytes_length, ui
 // numbers[0] has changed, to 0; but aff_begin refused with 1 or 21 sets numbers and kept to zero.
 //
 // From an accepted aff_begin on, until aff_close has stored its last byte, opening the buffer returns 3: a file that a killed process leaves behind is
-// never taken for a finished one. After a refused aff_begin the buffer is as it was. (The order of the stores is proved; that the compiled code makes the
-// last store last is tested, see docs/EVIDENCE.md.) Loss of power is not covered, as the system writes the pages of a file in any order. To survive it,
-// write the file back after aff_close (msync, fsync), and only then give it the name that others open (rename).
+// never taken for a finished one. After a refused aff_begin the buffer is as it was. (This is proved of the stores in the order of the definitions. That the
+// compiled code makes the first of them first and the last one last is tested, see docs/EVIDENCE.md.) Loss of power is not covered, as the system writes
+// the pages of a file in any order. To survive it, write the file back after aff_close (msync, fsync), and only then give it the name that others open
+// (rename).
 #define AFF_WRITER uint64_t *numbers, const uint8_t *kept
 
 // Begins a file in a buffer of at least 168 bytes: stores a 0 at its front, clears both work areas, and sets numbers and kept (12 bytes). numbers[0] is
