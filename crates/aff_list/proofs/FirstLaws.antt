@@ -7,8 +7,7 @@ use native.Mathlib.Omega.{arith}
 use lib.ListN.{length, take, drop, length-append}
 use lib.Seq.{drop-at}
 use borrow.Author.Tests.{lt-ltb, le-ltb}
-use Rattle.aff_format.specs.Answer.{Answer, accepted, refused}
-use Rattle.aff_format.specs.Refusal.{toldRefusal, numberOf, placeOf}
+use Rattle.aff_format.specs.Refusal.{numberOf, placeOf}
 use Rattle.aff_format.specs.declared.refusal.Refusal.{Refusal}
 use Rattle.aff_format.specs.declared.verdict.Verdict.{Verdict}
 use Rattle.aff_format.specs.declared.verdict.Verdict.the-variants.{Accepted, Refused}

@@ -1,13 +1,14 @@
 -- What `list` prints, and the blocks that make it up. The work areas' earlier contents decide nothing: opening clears them. Blocks in order add up
 -- since each one ends where the next begins. Assumes nothing.
 use mathlib.Core.Path.{_≡_, refl, sym, ap, _∙_}
+use mathlib.Core.Bool.{false}
 use mathlib.Core.List.{List, [], _++_, append-nil}
 use mathlib.Core.Logic.{⊎-elim}
 use Prim.Native.Nat.{ℕ, _+_, _≤_, _<_}
 use native.Mathlib.Omega.{arith}
 use lib.ListN.{length, take, drop, length-replicate, drop-of-length-le}
+use lib.Seq.{length-take-le, take-all}
 use borrow.Author.Tests.{lt-ltb, le-ltb}
-use mathlib.Core.Bool.{false}
 use Rattle.aff_format.specs.Answer.{Answer, accepted, refused}
 use Rattle.aff_format.proofs.EditionLaws.{length-numberForm}
 use Rattle.aff_open.specs.Belongs.{Belongs}
@@ -18,7 +19,7 @@ use Rattle.aff_open.proofs.FaultLaws.{lent-asks}
 use Rattle.aff_open.proofs.OrderLaws.{split}
 use Rattle.aff_read.specs.Calls.{order}
 use Rattle.aff_read.proofs.OnceLaws.{order-length}
-use Rattle.aff_list.specs.Lister.{inputLimit, isLong, rows, rowsFrom, Fills, Starts, FilledFrom, none, more, judged, withPaths, textOf, tooLongLine, listed, zeroArea, printed, Printing}
+use Rattle.aff_list.specs.Lister.{inputLimit, rows, rowsFrom, Starts, FilledFrom, none, more, judged, withPaths, textOf, tooLongLine, listed, zeroArea, printed, Printing}
 use Rattle.aff_list.proofs.DigitLaws.{digits-enough}
 
 pub printed-long : (input : List ℕ) → inputLimit < length input → printed input ≡ tooLongLine
@@ -68,6 +69,15 @@ printed-short input strings entries h s e =
     rw (le-ltb inputLimit (length input) h)
     (listed-same input h zeroArea zeroArea zero-length zero-length ∙ sym (listed-same input h strings entries s e))
 
+-- ---- The front of an input.
+
+pub printed-front : (input : List ℕ) (size : ℕ) → inputLimit < size → printed (take size input) ≡ printed input
+printed-front input size h =
+    ⊎-elim
+    (λ (l : size < length input). printed-long (take size input) (rw (length-take-le size input (omega arith)) h) ∙ sym (printed-long input (omega arith)))
+    (λ (l : length input ≤ size). ap printed (take-all size input l))
+    (split size (length input))
+
 -- ---- Blocks in order.
 
 module _ {image : List ℕ} {reader : Reader} {strings entries : List ℕ} where
@@ -97,4 +107,4 @@ module _ {image : List ℕ} {reader : Reader} {strings entries : List ℕ} where
       (split (reader .nodes) next)
 
 pub printing : Printing
-printing = record { digits = digits-enough; long = printed-long; short = printed-short; in-order = blocks-in-order }
+printing = record { digits = digits-enough; long = printed-long; short = printed-short; front = printed-front; in-order = blocks-in-order }

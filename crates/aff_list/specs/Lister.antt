@@ -16,7 +16,7 @@ use Rattle.aff_open.specs.declared.reader.Reader.{Reader}
 use Rattle.aff_read.specs.Calls.{frontWritten, order, decimal, lineAt}
 use Rattle.aff_read.specs.Recall.{pathAt}
 
--- The longest input that is listed.
+-- The longest input that is listed, and whether an input is longer.
 abbrev pub inputLimit : ℕ
 inputLimit = 65536
 
@@ -142,11 +142,13 @@ listed input strings entries =
 unfoldable pub zeroArea : List ℕ
 zeroArea = replicate 2048 0
 
--- What `list` prints of an input: the bytes of standard output for the bytes of standard input.
+-- What `list` prints: the bytes of standard output for the bytes of standard input. Above 65,536 bytes it is `too long`, whatever the input holds.
+-- Else it is the line `refused N P`, where opening with the form of our programs refuses, or a path is above 65,536 bytes (21). Else it is the line
+-- of each node in listing order. Each line ends in a line feed.
 unfoldable pub printed : List ℕ → List ℕ
 printed input = cond (isLong input) tooLongLine (listed input zeroArea zeroArea)
 
--- What the definitions above have to satisfy, proved as `printing` in proofs/PrintedLaws.antt.
+-- What is proved of these definitions: `printing` in proofs/PrintedLaws.antt.
 pub record Printing : Type 0 where
   -- The limit of `inDecimal` cuts no number off: any larger one gives the same digits.
   pub digits : (n most : ℕ) → n < most → decimal most n ≡ inDecimal n
@@ -155,6 +157,8 @@ pub record Printing : Type 0 where
   -- Any other: work areas of 2,048 numbers give the same text, whatever they hold before.
   pub short : (input strings entries : List ℕ) → length input ≤ inputLimit → length strings ≡ 2048 → length entries ≡ 2048
       → printed input ≡ listed input strings entries
+  -- Of an input only as many bytes need be read as fill a buffer above the limit.
+  pub front : (input : List ℕ) (size : ℕ) → inputLimit < size → printed (take size input) ≡ printed input
   -- The first block, and the blocks filled one after another from the place where it ends: their bytes in that order are what is printed.
   pub in-order : {input : List ℕ} {reader : Reader} {strings entries numbers : List ℕ} {next used : ℕ} {before after rest : List ℕ}
       → Starts input reader strings entries (printed input) numbers next used before after → FilledFrom input reader strings entries next rest

@@ -1,5 +1,5 @@
 // The program `list`. No contract can say what is read or written: `first_block` and `fill` promise that the blocks, one after another, are the
-// text that is to be printed of the input (`in-order`), and the functions here write them in that order.
+// text that is to be printed of the input (`in-order` of `Printing`), and the functions here write them in that order.
 use crate::blocks;
 use libc::STDIN_FILENO;
 ghost use Prim.Native.Nat.{_≤_, _<_};
@@ -25,8 +25,8 @@ fn print(input: &[u8]) {
     }
 }
 
-// Reads standard input to its end, or until the buffer is full, and returns the number of bytes. A buffer above the limit is needed to see
-// that an input is too long.
+// Reads standard input to its end, or until the buffer is full, and returns the number of bytes. A buffer above the limit shows that an input is too
+// long, and no more of it decides (`front` of `Printing`).
 fn read_input(buffer: &mut [u8]) -> usize
     requires { ⌜ inputLimit < length (now buffer) ⌝ }
     ensures { λ r. ⌜ r ≤ length (now (buffer .exit)) ⌝ }
