@@ -25,6 +25,6 @@ unfoldable pub twosComplement : ℕ → ℤ
 twosComplement n = cond (ltb n (2 ^ 31)) (pos n) (negsuc (4294967295 - n))
 
 -- The double of 64 stored bits, by IEEE 754 binary64: signed zeros, subnormals and infinities exactly. The logic has one NaN, `nan`, so
--- of a NaN pattern it says that the double is a NaN; which one, its sign and payload, is free.
+-- of a NaN pattern it says that the double is a NaN, and nothing of its sign and payload (docs/DECISIONS.md, 'NaN').
 abbrev pub realOf : ℕ → Float
 realOf n = ofBits binary64 n

@@ -52,7 +52,7 @@ fn element_at(kind: Kind, bytes: &[u8], k: usize) -> Element
 }
 
 // Element k of a view that the caller holds: `bytes` is the data part of a node of that kind. 16 where there is none. No other check
-// is paid for. The sign and payload of a NaN are free.
+// is paid for. Every NaN pattern is returned as the language's one NaN.
 pub fn decode(kind: Kind, bytes: &[u8], k: usize) -> ElementAnswer
     ensures { λ r. ⌜ elementTold r ≡ decoded kind (now (bytes .entry)) k ⌝ }
 {

@@ -32,7 +32,7 @@ pub fn refusal(refusal: Refusal) {
     decimal(refusal.place() as u64);
 }
 
-// A double by its bits in hexadecimal; which NaN it is, is free.
+// A double by its bits in hexadecimal. The bits of a NaN are not those of the file.
 pub fn real(x: f64) {
     if x == x {
         io::print_hex(STDOUT_FILENO, f64::to_bits(x), 16);
