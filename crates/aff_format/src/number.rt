@@ -64,8 +64,8 @@ pub fn signed(n: u32) -> i32
     }
 }
 
-// The double of 64 stored bits. `f64::from_bits` is undefined at a NaN pattern, so such a pattern is answered by a NaN of our own making;
-// its sign and payload are free.
+// The double of 64 stored bits. `f64::from_bits` is undefined at a NaN pattern, so every such pattern is returned as one NaN,
+// made by arithmetic: its sign and payload are lost.
 pub fn real(n: u64) -> f64
     ensures { λ r. ⌜ r ≡ realOf n ⌝ }
 {
