@@ -115,7 +115,8 @@ module _ {image form : List ℕ} (file : Obeys image form) where
     pub lookup : (path : List ℕ) → WellFormed (file .edition) path → (n : ℕ) → (lookupAnswer image r strings entries path ≡ accepted n) ↔ ItsNode path n
     pub lookup-absent : (path : List ℕ) → WellFormed (file .edition) path → (lookupAnswer image r strings entries path ≡ refused (refusal 15)) ↔ NoNode path
     pub lookup-path : (node : ℕ) → node ≤ r .nodes → lookupAnswer image r strings entries (itsPath node) ≡ accepted node
-    -- An output for all nodes is accepted, and their number returned, the root included. Listing order: the root, then its children in number order, each followed by its subtree, by the file's own parents.
+    -- An output for all nodes is accepted, and their number returned, the root included. Listing order: the root, then its children in number order, each
+    -- followed by its subtree, by the file's own parents.
     pub listing : (room : ℕ) → length (file .entries) < room → listingAnswer image r strings entries room ≡ accepted (length (file .entries) + 1)
     pub listing-order : order image r strings entries ≡ preorder itsParent (length (file .entries) + 1) (length (file .entries) + 1) 0
 

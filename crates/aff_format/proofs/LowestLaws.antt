@@ -91,7 +91,7 @@ pub clear-lowest : (number : ℕ) (l : Lowest) (checks : List Check) → Clear (
 clear-lowest number Nothing checks c = (refl, c .1)
 clear-lowest number (At k) checks c = absurd (true≢false (c .0))
 
--- A check that tells the lowest tells its own number.
+-- A check for the lowest reports its own number.
 pub others-lowest : (n number : ℕ) → eqb number n ≡ false → (l : Lowest) (checks : List Check) → Others n checks → Others n (checkLowest number l ∷ checks)
 others-lowest n number h Nothing checks o = (h, o)
 others-lowest n number h (At k) checks o = (h, o)

@@ -52,7 +52,7 @@ starts-lines {image} {reader} {strings} {entries} {text} {numbers} {next} {used}
       ready = λ h. r;
     }
 
--- What opening told of an input that is not too long, and then what was put into the block.
+-- What opening answered for an input that is not too long, and then what was put into the block.
 module _ (image strings entries numbers : List ℕ) (short : length image ≤ inputLimit) (s : length strings ≡ 2048) (e : length entries ≡ 2048)
     (o : Opening) {ss es ns : List ℕ} (b : Begun image strings entries numbers (openingTold o) (o .reader) ss es ns) where
   told-is : (v : Verdict) → o .verdict ≡ v → verdictOf v (o .reader) ≡ judged image strings entries

@@ -44,7 +44,7 @@ Begun image strings entries numbers told reader ss es ns =
     (told ≡ judged image strings entries) × ((reader ≡ readerAfter (judged image strings entries)) × ((ss ≡ stringsAfter image (formFor image) strings entries)
     × ((es ≡ entriesAfter image (formFor image) strings entries) × (ns ≡ orderAfter image strings entries numbers))))
 
--- What opening told.
+-- What opening answered.
 module _ (image strings entries numbers : List ℕ) {form ss es : List ℕ} (o : Opening) (f : form ≡ formFor image)
     (told : openingTold o ≡ opened image form (length strings) (length entries))
     (s : ss ≡ stringsAfter image form strings entries) (e : es ≡ entriesAfter image form strings entries) where
