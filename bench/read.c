@@ -14,7 +14,7 @@ static const uint8_t *image;
 static size_t length;
 static uint64_t record[12];
 static uint32_t strings[2048], entries[2048];
-#define LENT image, length, record, strings, 2048, entries, 2048
+#define PASSED image, length, record, strings, 2048, entries, 2048
 
 static struct {
     uint64_t node, offset, size;
@@ -36,7 +36,7 @@ static bool ordered(void) {
     static uint32_t output[2049];
     uint64_t listed = 0;
     memset(output, 0xff, sizeof output);
-    bool right = aff_listing(LENT, output, 2049, &listed) == 0 && keys[count - 1].node < listed;
+    bool right = aff_listing(PASSED, output, 2049, &listed) == 0 && keys[count - 1].node < listed;
     for (uint64_t i = 0; right && i < listed; i++) {
         right = output[i] == i;
     }
@@ -49,15 +49,15 @@ static bool call(uint64_t index) {
     double value = 0, imaginary = 1;
     switch (which) {
     case 'j':
-        return aff_view(LENT, 0, &offset, &size) == 0 && offset == 0 && size == 0;
+        return aff_view(PASSED, 0, &offset, &size) == 0 && offset == 0 && size == 0;
     case 'l':
-        return aff_lookup(LENT, (const uint8_t *)keys[k].path, keys[k].path_length, &node) == (keys[k].node == 0 ? ABSENT : 0) && node == keys[k].node;
+        return aff_lookup(PASSED, (const uint8_t *)keys[k].path, keys[k].path_length, &node) == (keys[k].node == 0 ? ABSENT : 0) && node == keys[k].node;
     case 'v':
-        return aff_view(LENT, keys[k].node, &offset, &size) == 0 && offset == keys[k].offset && size == keys[k].size;
+        return aff_view(PASSED, keys[k].node, &offset, &size) == 0 && offset == keys[k].offset && size == keys[k].size;
     case 'e':
-        return aff_element(LENT, keys[k].node, index, &value, &imaginary) == 0 && value == keys[k].node + index / 1024.0 && imaginary == 0;
+        return aff_element(PASSED, keys[k].node, index, &value, &imaginary) == 0 && value == keys[k].node + index / 1024.0 && imaginary == 0;
     case 'w': {
-        bool right = aff_view(LENT, keys[k].node, &offset, &size) == 0 && size == 8 * COUNT;
+        bool right = aff_view(PASSED, keys[k].node, &offset, &size) == 0 && size == 8 * COUNT;
         for (uint64_t j = 0; right && j < COUNT; j++) {
             right = decodes(keys[k].node, offset, size, j);
         }
@@ -89,7 +89,7 @@ static void load(const char *path) {
     while (count < KEYS && fscanf(list, "%lu %32767s", &keys[count].node, line) == 2) {
         keys[count].path = strdup(line);
         keys[count].path_length = strlen(line);
-        if (keys[count].node != 0 && aff_view(LENT, keys[count].node, &keys[count].offset, &keys[count].size) != 0) {
+        if (keys[count].node != 0 && aff_view(PASSED, keys[count].node, &keys[count].offset, &keys[count].size) != 0) {
             fail("a view is refused");
         }
         count++;

@@ -7,12 +7,12 @@
 #include "../include/aff.h"
 #include "timing.h"
 
-enum { NODES = 2048, COUNT = 64, SLOT = 25, ROOM = 2 << 20, TAKEN = 18 };
+enum { NODES = 2048, COUNT = 64, SLOT = 25, BUFFER_SIZE = 2 << 20, TAKEN = 18 };
 
 static const uint8_t form[12] = {0, 64, 2, 53, 4, 0, 3, 253, 0, 0, 0, 168};
-static uint8_t room[ROOM], text[AFF_TEXT], tree[AFF_TREE], kept[12];
+static uint8_t buffer[BUFFER_SIZE], text[AFF_TEXT], tree[AFF_TREE], kept[12];
 static uint64_t numbers[7];
-#define LENT room, ROOM, numbers, kept, text, AFF_TEXT, tree, AFF_TREE
+#define PASSED buffer, BUFFER_SIZE, numbers, kept, text, AFF_TEXT, tree, AFF_TREE
 
 static struct {
     uint64_t parent;
@@ -30,19 +30,19 @@ static void expect(int right) {
 }
 
 static void begin(void) {
-    expect(aff_begin(room, ROOM, form, sizeof form, text, AFF_TEXT, tree, AFF_TREE, 1, numbers, kept) == 0);
+    expect(aff_begin(buffer, BUFFER_SIZE, form, sizeof form, text, AFF_TEXT, tree, AFF_TREE, 1, numbers, kept) == 0);
 }
 
 static void make(size_t k) {
-    expect(aff_make(LENT, nodes[k].parent, (const uint8_t *)nodes[k].name, nodes[k].length) == 0 && numbers[0] == k + 1);
+    expect(aff_make(PASSED, nodes[k].parent, (const uint8_t *)nodes[k].name, nodes[k].length) == 0 && numbers[0] == k + 1);
 }
 
 static void put(size_t k) {
-    expect(aff_put(LENT, k + 1, AFF_DOUBLE, nodes[k].data, sizeof nodes[k].data, UINT64_MAX) == 0 && numbers[0] == sizeof nodes[k].data);
+    expect(aff_put(PASSED, k + 1, AFF_DOUBLE, nodes[k].data, sizeof nodes[k].data, UINT64_MAX) == 0 && numbers[0] == sizeof nodes[k].data);
 }
 
 static void finish(void) {
-    expect(aff_close(LENT, UINT64_MAX) == 0 && numbers[6] == 0);
+    expect(aff_close(PASSED, UINT64_MAX) == 0 && numbers[6] == 0);
 }
 
 // The file but for what the call that is measured does: the making of the last node, its data, or closing.
@@ -78,7 +78,7 @@ static void call_once(void) {
         put(count - 1);
         break;
     case 'j':
-        expect(aff_put(LENT, 0, AFF_DOUBLE, form, 0, 0) == TAKEN);
+        expect(aff_put(PASSED, 0, AFF_DOUBLE, form, 0, 0) == TAKEN);
         break;
     default:
         finish();
@@ -109,7 +109,7 @@ static void save(const char *path) {
         size += nodes[k].full ? 25 : 13;
     }
     FILE *file = fopen(path, "wb");
-    expect(file != NULL && fwrite(room, 1, size, file) == size && fclose(file) == 0);
+    expect(file != NULL && fwrite(buffer, 1, size, file) == size && fclose(file) == 0);
 }
 
 int main(int argc, char **argv) {

@@ -1,9 +1,9 @@
 #!/usr/bin/env python3
-"""Makes the images of the test program open_cases: lawful odd files, and damaged ones on both sides of each boundary.
+"""Makes the images of the test program test_open: lawful odd files, and damaged ones on both sides of each boundary.
 
 It shares no code with the library: it is written from source document 003 and document 01, and what each image must be
-answered with is said here by hand. It writes crates/open_cases/stdin (each
-image behind its length in 4 bytes), crates/open_cases/stdout and tests/open_cases.txt.
+answered with is said here by hand. It writes crates/test_open/stdin (each
+image after its length in 4 bytes), crates/test_open/stdout and tests/test_open.txt.
 
     tests/make_images.py [FOLDER]      FOLDER: where these are written, the repository where none is given
 """
@@ -338,9 +338,9 @@ def main():
     symbol_faults()
     tree_faults()
     node_faults()
-    crate = os.path.join(top, "crates", "open_cases")
+    crate = os.path.join(top, "crates", "test_open")
     os.makedirs(crate, exist_ok=True)
-    out, index = [], ["The images of crates/open_cases/stdin, made by tests/make_images.py, and what each is answered with.", ""]
+    out, index = [], ["The images of crates/test_open/stdin, made by tests/make_images.py, and what each is answered with.", ""]
     stdin = b""
     for k, (name, image, expect, source) in enumerate(CASES):
         stdin += struct.pack(">I", len(image)) + image
@@ -355,7 +355,7 @@ def main():
         f.write(stdin)
     with open(os.path.join(crate, "stdout"), "w") as f:
         f.write("\n".join(out) + "\n")
-    with open(os.path.join(top, "tests", "open_cases.txt"), "w") as f:
+    with open(os.path.join(top, "tests", "test_open.txt"), "w") as f:
         f.write("\n".join(index) + "\n")
     print(len(CASES), "images")
 

@@ -1,9 +1,9 @@
 #!/usr/bin/env python3
-"""Makes the images of the test program list_cases, the inputs of list and list_limit, and the sample of the README, with what must be printed.
+"""Makes the images of the test program test_list, the inputs of list and test_list_limit, and the sample of the README, with what must be printed.
 
 What is printed is worked out here from the description of each tree, with no code of the library. It writes
-crates/list_cases/stdin (each image behind its length in 4 bytes) and stdout, stdin and stdout of crates/list (65,536 bytes) and of crates/list_limit
-(65,537 bytes), samples/worked.aff and tests/list_cases.txt.
+crates/test_list/stdin (each image after its length in 4 bytes) and stdout, stdin and stdout of crates/list (65,536 bytes) and of crates/test_list_limit
+(65,537 bytes), samples/worked.aff and tests/test_list.txt.
 
     tests/make_listings.py [FOLDER]      FOLDER: where these are written, the repository where none is given
 """
@@ -110,18 +110,18 @@ def write(top, path, content):
 
 def main():
     top = destination(__doc__)
-    stdin, out, index = b"", b"", "The images of crates/list_cases/stdin, made by tests/make_listings.py.\n\n"
+    stdin, out, index = b"", b"", "The images of crates/test_list/stdin, made by tests/make_listings.py.\n\n"
     for k, (name, image, rows) in enumerate(cases()):
         stdin += struct.pack(">I", len(image)) + image
         out += b"%d\n" % k + brief(rows)
         index += "%d %s\n" % (k, name)
-    write(top, "crates/list_cases/stdin", stdin)
-    write(top, "crates/list_cases/stdout", out)
-    write(top, "tests/list_cases.txt", index.encode())
+    write(top, "crates/test_list/stdin", stdin)
+    write(top, "crates/test_list/stdout", out)
+    write(top, "tests/test_list.txt", index.encode())
     write(top, "crates/list/stdin", padded(make(2, WORKED), LIMIT))
     write(top, "crates/list/stdout", b"".join(lines(WORKED)))
-    write(top, "crates/list_limit/stdin", padded(make(2, WORKED), LIMIT + 1))
-    write(top, "crates/list_limit/stdout", b"too long\n")
+    write(top, "crates/test_list_limit/stdin", padded(make(2, WORKED), LIMIT + 1))
+    write(top, "crates/test_list_limit/stdout", b"too long\n")
     write(top, "samples/worked.aff", make(2, WORKED))
     print(k + 1, "images")
 

@@ -1,9 +1,9 @@
 #!/usr/bin/env python3
-"""Makes the script of the test program write_cases, and what it must print.
+"""Makes the script of the test program test_write, and what it must print.
 
-A script is a run of steps: the writer's calls, and between them what is printed, or changed behind the writer's back. What must be printed is worked
+A script is a run of steps: the writer's calls, and between them what is printed, or changed without the writer. What must be printed is worked
 out here from document 01, with no code of the library: `Writer` answers the calls by its tables, and a finished file is laid out a second time by
-make_images. The refusal that a case is about is said by hand besides. It writes crates/write_cases/stdin (each step behind its length in 4 bytes)
+make_images. The refusal that a case is about is said by hand besides. It writes crates/test_write/stdin (each step after its length in 4 bytes)
 and stdout.
 
     tests/make_writes.py [FOLDER]      FOLDER: where these are written, the repository where none is given
@@ -14,7 +14,7 @@ import struct
 from make_images import CHAR, COMPLEX, DOUBLE, INT, VOID, Image, destination, entry, form, md5
 from make_listings import SIZE, brief, lines, write
 
-ROOM, TEXT, TREE, LIMIT = 65536, 32768, 51200, 2048
+BUFFER_SIZE, TEXT, TREE, LIMIT = 65536, 32768, 51200, 2048
 MOST = 2**64 - 1
 FIELDS = ("length", "strings", "text", "nodes", "data", "open")
 SUBKEY = re.compile(rb"[A-Za-z_:][A-Za-z0-9.\-_:]*")
@@ -24,8 +24,8 @@ class Writer:
     """Room, areas and record, and what each call answers: ("accepted", n) or ("refused", number, place)."""
 
     def __init__(self):
-        self.room, self.text, self.tree = bytearray(ROOM), bytearray(TEXT + 1), bytearray(TREE + 1)
-        self.lent = (0, 0, 0)
+        self.buffer, self.text, self.tree = bytearray(BUFFER_SIZE), bytearray(TEXT + 1), bytearray(TREE + 1)
+        self.passed = (0, 0, 0)
         self.none()
 
     def none(self):
@@ -48,7 +48,7 @@ class Writer:
 
     def belongs(self):
         r, used = self.rec, self.text[:self.rec["text"]]
-        if self.lent != (r["length"], TEXT, TREE) or r["strings"] > LIMIT or r["text"] > TEXT or r["nodes"] > LIMIT:
+        if self.passed != (r["length"], TEXT, TREE) or r["strings"] > LIMIT or r["text"] > TEXT or r["nodes"] > LIMIT:
             return False
         if used.count(0) != r["strings"] or used[-1:] not in (b"", b"\0"):
             return False
@@ -68,21 +68,21 @@ class Writer:
     def store(self, stores, allowance):
         """Makes the first stores; the answer, and after 23 the record is stopped."""
         for place, byte in stores[:allowance]:
-            self.room[place] = byte
+            self.buffer[place] = byte
         if len(stores) <= allowance:
             return ("accepted", len(stores))
         self.rec["open"] = 0
         return ("refused", 23, allowance)
 
-    def begin(self, allowance, lent):
-        room, text, tree = self.lent
+    def begin(self, allowance, passed):
+        buffer, text, tree = self.passed
         self.none()
-        if len(lent) != 12 or text != TEXT or tree != TREE:
+        if len(passed) != 12 or text != TEXT or tree != TREE:
             return ("refused", 1, 0)
-        if room < 168:
+        if buffer < 168:
             return ("refused", 21, 0)
-        self.rec.update(length=room, open=1)
-        self.form = lent
+        self.rec.update(length=buffer, open=1)
+        self.form = passed
         answer = self.store([(0, 0)], allowance)
         if answer[0] == "accepted":
             self.text[:TEXT], self.tree[:TREE] = bytes(TEXT), bytes(TREE)
@@ -137,7 +137,7 @@ class Writer:
         if wrong:
             return wrong
         nodes = [self.slot(k) for k in range(1, r["nodes"] + 1)]
-        data = bytes(self.room[168:168 + r["data"]])
+        data = bytes(self.buffer[168:168 + r["data"]])
         image = Image(2, strings=self.strings(), entries=[entry(*n) for n in nodes], data=data)
         image.form = self.form
         image.count = {"data": sum(n[0] != VOID for n in nodes)}
@@ -159,64 +159,64 @@ class Script:
         block = letter.encode() + struct.pack(">3Q", *(list(numbers) + [0, 0, 0])[:3]) + data
         self.stdin.append(struct.pack(">I", len(block)) + block)
 
-    def told(self, name, answer, expect):
+    def reported(self, name, answer, expect):
         assert expect is None or answer == expect, (self.out[-3:], name, answer, expect)
         r = self.w.rec
         numbers = " ".join(str(r[f]) for f in FIELDS[:5])
         self.out.append("%s %s, record %s %s %s\n" % (name, " ".join(map(str, answer)), numbers, "open" if r["open"] else "shut", self.w.form.hex()))
         return answer[0] == "accepted"
 
-    def case(self, title, room=None, fill=0xEE):
+    def case(self, title, buffer=None, fill=0xEE):
         """Begins a case: its title, the lengths lent, and a room full of one byte."""
         self.cases += 1
         self.step("#", data=title.encode())
         self.out.append(title + "\n")
-        if room is not None:
-            self.lend(room)
+        if buffer is not None:
+            self.lend(buffer)
             self.step("f", [fill])
-            self.w.room[:room] = bytes([fill]) * room
+            self.w.buffer[:buffer] = bytes([fill]) * buffer
 
-    def lend(self, room, text=TEXT, tree=TREE):
-        self.step("=", [room, text, tree])
-        self.w.lent = (room, text, tree)
+    def lend(self, buffer, text=TEXT, tree=TREE):
+        self.step("=", [buffer, text, tree])
+        self.w.passed = (buffer, text, tree)
 
-    def begin(self, allowance=MOST, lent=form(2), expect=None):
-        self.step("b", [allowance], lent)
-        if self.told("begin", self.w.begin(allowance, lent), expect):
+    def begin(self, allowance=MOST, passed=form(2), expect=None):
+        self.step("b", [allowance], passed)
+        if self.reported("begin", self.w.begin(allowance, passed), expect):
             self.tree, self.order = [], []
 
     def make(self, parent, name, expect=None):
         self.step("m", [parent], name)
-        if self.told("make", self.w.make(parent, name), expect):
+        if self.reported("make", self.w.make(parent, name), expect):
             self.tree.append([parent, name, VOID, b""])
 
     def put(self, node, kind, data=b"", allowance=MOST, expect=None):
         self.step("p", [node, kind, allowance], data)
-        if self.told("put", self.w.put(node, kind, data, allowance), expect):
+        if self.reported("put", self.w.put(node, kind, data, allowance), expect):
             self.tree[node - 1][2:] = [kind, data]
             self.order.append(node)
 
     def close(self, allowance=MOST, expect=None):
         self.step("c", [allowance])
-        self.told("close", self.w.close(allowance), expect)
+        self.reported("close", self.w.close(allowance), expect)
 
     def alter(self, field, value):
         self.step("a", [FIELDS.index(field), value])
         self.w.rec[field] = value
 
     def poke(self, area, place, byte):
-        self.step({"room": "R", "text": "S", "tree": "T"}[area], [place, byte])
+        self.step({"buffer": "R", "text": "S", "tree": "T"}[area], [place, byte])
         getattr(self.w, area)[place] = byte
 
     def sums(self):
         """The MD5 sums of room and areas."""
         self.step("s")
-        areas = (self.w.room, self.w.text, self.w.tree)
-        self.out.append("sums %s\n" % " ".join(md5(bytes(a[:n])).hex() for a, n in zip(areas, self.w.lent)))
+        areas = (self.w.buffer, self.w.text, self.w.tree)
+        self.out.append("sums %s\n" % " ".join(md5(bytes(a[:n])).hex() for a, n in zip(areas, self.w.passed)))
 
     def hex(self):
         self.step("x")
-        self.out.append(self.w.room[:self.w.lent[0]].hex() + "\n")
+        self.out.append(self.w.buffer[:self.w.passed[0]].hex() + "\n")
 
     def layout(self):
         """The file of the tree that the calls described, laid out from that alone."""
@@ -249,7 +249,7 @@ class Script:
     def opened(self):
         """The room opened, and every answer of every node; and that it begins with the file of the tree."""
         file, strings, full = self.layout()
-        assert bytes(self.w.room[:len(file)]) == file
+        assert bytes(self.w.buffer[:len(file)]) == file
         self.step("o")
         self.out.append("opened 2 %d %d %d\n" % (strings, len(self.tree), full))
         paths = [b""]
@@ -288,8 +288,8 @@ def yes(number):
     return ("accepted", number)
 
 
-def worked(s, room=214, fill=0xEE, title=None):
-    s.case(title or "the worked file", room, fill)
+def worked(s, buffer=214, fill=0xEE, title=None):
+    s.case(title or "the worked file", buffer, fill)
     s.begin(expect=yes(1))
     s.make(0, b"a", yes(1))
     s.make(1, b"n", yes(2))
@@ -305,8 +305,8 @@ def whole_files(s):
     s.hex()
     s.listed()
     s.opened()
-    for room in (0, 1, 167):
-        s.case("room %d" % room, room)
+    for buffer in (0, 1, 167):
+        s.case("room %d" % buffer, buffer)
         s.begin(expect=no(21))
         s.make(0, b"a", no(24))
         s.close(expect=no(24))
@@ -394,7 +394,7 @@ def no_bytes(s):
 
 
 def limits(s):
-    s.case("2,048 nodes, and the refusal of one more", ROOM)
+    s.case("2,048 nodes, and the refusal of one more", BUFFER_SIZE)
     s.begin()
     for k in range(1, LIMIT + 1):
         s.make(k // 4, b"k%d" % k, yes(k))
@@ -406,8 +406,8 @@ def limits(s):
     s.close()
     s.sums()
     s.listed()
-    assert s.layout()[0] == bytes(s.w.room[:len(s.layout()[0])])
-    s.case("text of exactly 32,768 bytes", ROOM)
+    assert s.layout()[0] == bytes(s.w.buffer[:len(s.layout()[0])])
+    s.case("text of exactly 32,768 bytes", BUFFER_SIZE)
     s.begin()
     for k, letter in enumerate((b"a", b"b", b"c"), 1):
         s.make(0, letter * 8191, yes(k))
@@ -418,7 +418,7 @@ def limits(s):
     s.make(1, b"d" * 8191, yes(5))
     s.close()
     s.listed()
-    s.case("text of 32,766 bytes takes a name of one byte and no longer one", ROOM)
+    s.case("text of 32,766 bytes takes a name of one byte and no longer one", BUFFER_SIZE)
     s.begin()
     for k, size in enumerate((8191, 8191, 8191, 8189), 1):
         s.make(0, b"%c" % (96 + k) * size, yes(k))
@@ -427,7 +427,7 @@ def limits(s):
     s.make(0, b"y", no(20))
     s.close()
     s.listed()
-    s.case("a 2,049th string, which only an altered record comes to", ROOM)
+    s.case("a 2,049th string, which only an altered record comes to", BUFFER_SIZE)
     s.begin()
     s.alter("strings", LIMIT)
     s.alter("text", LIMIT)
@@ -440,7 +440,7 @@ def limits(s):
 def begin_refusals(s):
     s.case("begin: 1", 214)
     for size in (0, 11, 13):
-        s.begin(lent=(form(2) + b"\1")[:size], expect=no(1))
+        s.begin(passed=(form(2) + b"\1")[:size], expect=no(1))
     for text, tree in ((TEXT - 1, TREE), (TEXT + 1, TREE), (TEXT, TREE - 1), (TEXT, TREE + 1)):
         s.lend(214, text, tree)
         s.begin(expect=no(1))
@@ -465,7 +465,7 @@ def begin_refusals(s):
     s.sums()
     s.refused(3)
     s.case("begin: other 12 bytes are kept, and the file has them", 168)
-    s.begin(1, lent=bytes(range(1, 13)), expect=yes(1))
+    s.begin(1, passed=bytes(range(1, 13)), expect=yes(1))
     s.close(expect=yes(168))
     s.hex()
     s.refused(4)
@@ -574,7 +574,7 @@ def close_refusals(s):
     s.opened()
     worked(s, 214, title="close sums the data that stand in the room then")
     s.put(2, INT, INT70)
-    s.poke("room", 171, 0xBB)
+    s.poke("buffer", 171, 0xBB)
     s.tree[1][3] = b"\xff\xff\xff\xbb"
     s.close(MOST, yes(210))
     s.opened()
@@ -606,8 +606,8 @@ def altered(s):
     s.alter("open", 1)
     s.sums()
     s.case("24: another length lent")
-    for lent in ((299, TEXT, TREE), (301, TEXT, TREE), (0, TEXT, TREE), (300, TEXT - 1, TREE), (300, TEXT + 1, TREE), (300, TEXT, TREE - 1), (300, TEXT, TREE + 1)):
-        s.lend(*lent)
+    for passed in ((299, TEXT, TREE), (301, TEXT, TREE), (0, TEXT, TREE), (300, TEXT - 1, TREE), (300, TEXT + 1, TREE), (300, TEXT, TREE - 1), (300, TEXT, TREE + 1)):
+        s.lend(*passed)
         all_24(s)
     s.lend(300)
     s.case("24: the areas altered")
@@ -633,7 +633,7 @@ def altered(s):
     s.poke("text", 100, 1)
     s.poke("tree", 24, 9)
     s.poke("tree", 60, 9)
-    s.poke("room", 250, 9)
+    s.poke("buffer", 250, 9)
     s.make(0, b"c", yes(3))
     s.close(expect=yes(168 + 6 + 51))
     s.listed()
@@ -645,8 +645,8 @@ def main():
     s = Script()
     for part in (whole_files, every_kind, no_bytes, limits, begin_refusals, make_refusals, put_refusals, close_refusals, altered):
         part(s)
-    write(top, "crates/write_cases/stdin", b"".join(s.stdin))
-    write(top, "crates/write_cases/stdout", "".join(s.out).encode())
+    write(top, "crates/test_write/stdin", b"".join(s.stdin))
+    write(top, "crates/test_write/stdout", "".join(s.out).encode())
     print(s.cases, "cases,", len(s.stdin), "steps")
 
 

@@ -171,14 +171,14 @@ static void read_chain(const char *what) {
 
 // ---- Writing
 
-static uint8_t room[BUFFER], text[AFF_TEXT], tree[AFF_TREE], kept[AFF_FORM];
+static uint8_t buffer[BUFFER], text[AFF_TEXT], tree[AFF_TREE], kept[AFF_FORM];
 static uint64_t numbers[AFF_NUMBERS];
 static const uint8_t data[16] = {0x3f, 0xf0, 0, 0, 0, 0, 0, 0, 0xbf, 0xf0};
 
-#define WRITER room, BUFFER, numbers, kept, text, AFF_TEXT, tree, AFF_TREE
+#define WRITER buffer, BUFFER, numbers, kept, text, AFF_TEXT, tree, AFF_TREE
 
 static uint32_t call_begin(void) {
-    return aff_begin(room, BUFFER, form, AFF_FORM, text, AFF_TEXT, tree, AFF_TREE, UINT64_MAX, numbers, kept);
+    return aff_begin(buffer, BUFFER, form, AFF_FORM, text, AFF_TEXT, tree, AFF_TREE, UINT64_MAX, numbers, kept);
 }
 
 static uint32_t call_make(void) {
@@ -210,7 +210,7 @@ static void write_chain(void) {
         }
     }
     measure(&writing[3]);
-    image = room;
+    image = buffer;
     length = BUFFER;
     read_chain("the writer's file");
 }

@@ -21,19 +21,19 @@ use Rattle.aff_format.specs.declared.edition.Edition.the-variants.{One, Two}
 use Rattle.aff_format.specs.declared.kind.Kind.{Kind}
 use Rattle.aff_format.specs.declared.kind.Kind.the-variants.{Void, Int}
 use Rattle.aff_format.specs.declared.lowest.Lowest.the-variants.{At}
-use Rattle.aff_format.specs.declared.refusal.Told.{Told}
-use Rattle.aff_format.proofs.AnswerLaws.{Others, others-told, others-both}
+use Rattle.aff_format.specs.declared.refusal.RefusalCode.{RefusalCode}
+use Rattle.aff_format.proofs.AnswerLaws.{Others, others-reported, others-both}
 use Rattle.aff_format.proofs.EntryLaws.{length-entryBytes}
 use Rattle.aff_format.proofs.PathLaws.{path-complete}
-use Rattle.aff_open.specs.Belongs.{belongs}
+use Rattle.aff_open.specs.Belongs.{readerBelongs}
 use Rattle.aff_open.specs.declared.reader.Reader.{Reader}
 use Rattle.aff_open.proofs.BelongsLaws.{record-belongs as reader-belongs}
-use Rattle.aff_read.specs.Calls.{lowestOr0, editionBy, found, lookupAnswer}
+use Rattle.aff_read.specs.Paths.{lowestOr0, editionBy, found, lookupAnswer}
 use Rattle.aff_read.proofs.LookupLaws.{lookup-malformed, lookup-at}
-use Rattle.aff_write.specs.Belongs.{writerChecks}
+use Rattle.aff_areas.specs.Belongs.{writerChecks}
+use Rattle.aff_areas.specs.Writer.{written}
+use Rattle.aff_areas.proofs.BelongsLaws.{record-belongs}
 use Rattle.aff_write.specs.Make.{namedChecks, makeAnswer}
-use Rattle.aff_write.specs.Writer.{written}
-use Rattle.aff_write.proofs.BelongsLaws.{record-belongs}
 use Rattle.aff.specs.Cases.{notSubkeyCase, entryCase, Holds, EachHolds, caseTable, LookupIs, MakeIs, Taken, EntryTakes}
 
 each-edition : (P : Edition → Type 0) → P One → P Two → (e : Edition) → P e
@@ -48,10 +48,10 @@ no-path path one two image reader strings entries b =
 -- What is no subkey is 14 as a child's name.
 no-child : (name : List ℕ) → isSubkey written name ≡ false → MakeIs name (refused (refusal 14))
 unfolding makeAnswer
-no-child name h room writer text tree parent b live there = rw (record-belongs b, live, le-ltb (writer .nodes) parent there, h)
+no-child name h buffer writer text tree parent b live there = rw (record-belongs b, live, le-ltb (writer .nodes) parent there, h)
 
 -- A check that finds nothing wrong changes no answer.
-pass-over : {A : Type 0} (before : List Check) (t : Told) (after : List Check) (a : A) → firstWrong (before ++ (check false t ∷ after)) a ≡ firstWrong (before ++ after) a
+pass-over : {A : Type 0} (before : List Check) (t : RefusalCode) (after : List Check) (a : A) → firstWrong (before ++ (check false t ∷ after)) a ≡ firstWrong (before ++ after) a
 pass-over [] t after a = refl
 pass-over (check true q ∷ before) t after a = refl
 pass-over (check false q ∷ before) t after a = pass-over before t after a
@@ -59,7 +59,7 @@ pass-over (check false q ∷ before) t after a = pass-over before t after a
 -- So a call whose check for 14 finds nothing wrong never reports 14.
 never-14 : {A : Type 0} (before after : List Check) (a : A) → Others 14 before → Others 14 after → firstWrong (before ++ (check false (refusal 14) ∷ after)) a ≡ refused (refusal 14) → ⊥
 never-14 before after a o p h =
-    eqb-false 14 14 (others-told 14 (before ++ after) (others-both 14 before after o p) a (sym (pass-over before (refusal 14) after a) ∙ h)) refl
+    eqb-false 14 14 (others-reported 14 (before ++ after) (others-both 14 before after o p) a (sym (pass-over before (refusal 14) after a) ∙ h)) refl
 
 -- What is a path of one subkey in both editions, and a subkey of the edition that is written, is never 14.
 taken : (name : List ℕ) → isPath One (47 ∷ name) ≡ true → isPath Two (47 ∷ name) ≡ true → isSubkey written name ≡ true → Taken name
@@ -67,11 +67,11 @@ unfolding lookupAnswer makeAnswer
 taken name one two is =
     record {
       in-path = λ image reader strings entries h.
-          never-14 (check (not (belongs image reader strings entries)) (refusal 24) ∷ [])
+          never-14 (check (not (readerBelongs image reader strings entries)) (refusal 24) ∷ [])
           (check (not (isAt (found image reader strings entries (47 ∷ name)))) (refusal 15) ∷ []) (lowestOr0 (found image reader strings entries (47 ∷ name)))
           (refl, tt) (refl, tt) (rw (each-edition (λ e. isPath e (47 ∷ name) ≡ true) one two (editionBy reader)) at h);
-      as-child = λ room writer text tree parent h.
-          never-14 (writerChecks room writer text tree ++ (check (ltb (writer .nodes) parent) (refusal 15) ∷ [])) (namedChecks writer text tree parent name) (writer .nodes + 1)
+      as-child = λ buffer writer text tree parent h.
+          never-14 (writerChecks buffer writer text tree ++ (check (ltb (writer .nodes) parent) (refusal 15) ∷ [])) (namedChecks writer text tree parent name) (writer .nodes + 1)
           (refl, (refl, (refl, tt))) (refl, (refl, (refl, tt))) (rw is at h);
     }
 

@@ -1,6 +1,6 @@
 -- Demand 2 from the laws of opening (`accepted-obeys`, `obeys-accepted`, `refused-first`, `first-refused`, `opened-belongs`, `opened-shape`), of lookup
 -- (`lookup-accepts`, `lookup-absent`, `lookup-only`, `lookup-path`), of listing order and of the cases. What is new here: the answers of name and data by
--- the definitions behind them, and that record and areas of an opened file show its own tables. Assumes nothing.
+-- the definitions after them, and that record and areas of an opened file show its own tables. Assumes nothing.
 use mathlib.Core.Path.{_≡_, refl, sym, ap, subst, _∙_}
 use mathlib.Core.Bool.{Bool, true, false, cond, not, true≢false}
 use mathlib.Core.List.{List, [], _∷_, _++_}
@@ -10,7 +10,7 @@ use native.Mathlib.Numerals.{add-one}
 use native.Mathlib.Omega.{arith}
 use lib.Dec.{eqb, ltb}
 use lib.ListN.{length, getD, take}
-use borrow.Author.Tests.{ne-eqb, le-ltb, lt-ltb, le-leb, lt-leb}
+use borrow.Author.Tests.{ne-eqb, le-ltb, le-leb, lt-leb}
 use Rattle.aff_format.specs.Answer.{accepted, refused, check, refusal}
 use Rattle.aff_format.specs.Bytes.{part}
 use Rattle.aff_format.specs.Edition.{editionNumber}
@@ -26,32 +26,33 @@ use Rattle.aff_format.proofs.EditionLaws.{edition-of-number}
 use Rattle.aff_format.proofs.PathLaws.{path-sound, path-complete}
 use Rattle.aff_format.proofs.ClimbLaws.{reaches-within}
 use Rattle.aff_format.proofs.TreeLaws.{front-root, front-step, path-other, front-same}
-use Rattle.aff_open.specs.Belongs.{Belongs, belongs}
-use Rattle.aff_open.specs.Nodes.{nodeEntry}
+use Rattle.aff_open.specs.Belongs.{ReaderBelongs, readerBelongs}
+use Rattle.aff_tables.specs.Tables.{nodeEntry}
 use Rattle.aff_open.specs.Obeys.{Obeys}
-use Rattle.aff_open.specs.Opening.{opened, readerFor, stringsAfter, entriesAfter}
-use Rattle.aff_open.specs.Recorded.{recordedEntry}
+use Rattle.aff_open.specs.Opening.{openAnswer, readerFor, stringsAfter, entriesAfter}
+use Rattle.aff_format.specs.Recorded.{recordedEntry}
 use Rattle.aff_open.specs.Reader.{noSpan}
-use Rattle.aff_open.specs.Sections.{orTwo, editionIn, sectionRecords}
-use Rattle.aff_open.specs.Tables.{stringsIn, nodesIn}
+use Rattle.aff_open.specs.Sections.{orTwo, editionIn, sectionRecords, stringsIn, nodesIn}
 use Rattle.aff_open.specs.declared.reader.Reader.{Reader}
 use Rattle.aff_open.proofs.BelongsLaws.{belongs-record, record-belongs}
 use Rattle.aff_open.proofs.FaultLaws.{refused-first, first-refused}
 use Rattle.aff_open.proofs.ObeysLaws.{accepted-obeys, obeys-accepted, edition-found, strings-found, entries-found}
 use Rattle.aff_open.proofs.OpenedLaws.{OpenedShape, opened-shape, opened-belongs}
 use Rattle.aff_read.specs.Answers.{nameAnswer, kindAnswer, countAnswer, viewAnswer, elementAnswer}
-use Rattle.aff_read.specs.Calls.{editionBy, found, lookupAnswer, pathAnswer, preorder, order, listingAnswer}
+use Rattle.aff_read.specs.Paths.{editionBy, found, lookupAnswer}
 use Rattle.aff_read.specs.Lookup.{NoneWith, OnlyWith}
-use Rattle.aff_read.specs.Recall.{kindAt, parentAt, nameAt, nameSpan, dataSpan, spanBytes, bytesAt, pathAt}
+use Rattle.aff_read.specs.Recall.{kindAt, parentAt, nameAt, dataSpan, spanBytes, bytesAt, pathAt}
 use Rattle.aff_read.proofs.FrontLaws.{name-bytes}
 use Rattle.aff_read.proofs.ListingLaws.{preorder-same}
 use Rattle.aff_read.proofs.LookupLaws.{lookup-malformed, lookup-accepts, lookup-absent}
 use Rattle.aff_read.proofs.OnceLaws.{order-once, order-only, order-length}
 use Rattle.aff_read.proofs.UniqueLaws.{lookup-only, lookup-path}
-use Rattle.aff_run.specs.Shows.{PartIs, Absent}
+use Rattle.aff_read.specs.Shows.{PartIs}
+use Rattle.aff_run.proofs.ShownLaws.{name-part, view-part, number-absent}
 use Rattle.aff.specs.Demand2.{dataNamed, Reads, itsEntry, itsName, itsParent, itsPath, ItsNode, NoNode, ReadsFile, Demand2}
 use Rattle.aff.proofs.CasesLaws.{cases-hold}
 use Rattle.aff.proofs.Demand1Laws.{others-not}
+use Rattle.aff_read.specs.ListingOrder.{preorder, listingOrder, listingAnswer}
 
 -- ---- What is read with a record that belongs.
 
@@ -66,8 +67,8 @@ data-named image entries node = go (recordedEntry image entries node) (isVoid (r
     go e true = refl
     go e false = refl
 
-module _ (image : List ℕ) (r : Reader) (strings entries : List ℕ) (b : Belongs image r strings entries) where
-  it : belongs image r strings entries ≡ true
+module _ (image : List ℕ) (r : Reader) (strings entries : List ℕ) (b : ReaderBelongs image r strings entries) where
+  it : readerBelongs image r strings entries ≡ true
   it = record-belongs b
 
   malformed : (path : List ℕ) → (lookupAnswer image r strings entries path ≡ refused (refusal 14)) ↔ (WellFormed (editionBy r) path → ⊥)
@@ -93,13 +94,10 @@ module _ (image : List ℕ) (r : Reader) (strings entries : List ℕ) (b : Belon
     passes = le-ltb (r .nodes) node there
 
     name-read : PartIs image (nameAnswer image r strings entries node) (nameAt image r strings entries node)
-    unfolding nameAnswer
-    name-read =
-        record { span = nameSpan image r strings entries node; answers = rw (it, passes); part = rw (it, passes) (name-bytes image r strings entries b node there) }
+    name-read = name-part image r strings entries it node there _ (name-bytes image r strings entries b node there)
 
     view-read : PartIs image (viewAnswer image r strings entries node) (dataNamed image (recordedEntry image entries node))
-    unfolding viewAnswer
-    view-read = record { span = dataSpan image entries node; answers = rw (it, passes); part = rw (it, passes) (data-named image entries node) }
+    view-read = view-part image r strings entries it node there _ (data-named image entries node)
 
     element-read : (index : ℕ) → index < recordedEntry image entries node .count
         → elementAnswer image r strings entries node index
@@ -113,7 +111,7 @@ module _ (image : List ℕ) (r : Reader) (strings entries : List ℕ) (b : Belon
     unfolding elementAnswer
     element-past index h = rw (it, passes, le-leb (recordedEntry image entries node .count) index h)
 
-  order-begins : take 1 (order image r strings entries) ≡ 0 ∷ []
+  order-begins : take 1 (listingOrder image r strings entries) ≡ 0 ∷ []
   unfolding preorder
   order-begins = rw (add-one (r .nodes))
 
@@ -138,7 +136,7 @@ module _ (image : List ℕ) (r : Reader) (strings entries : List ℕ) (b : Belon
 both : {A B C : Type 0} → A ↔ B → B ↔ C → A ↔ C
 both (f, g) (h, k) = (λ a. h (f a), λ c. g (k c))
 
-module _ (image form strings entries : List ℕ) {r : Reader} (h : opened image form (length strings) (length entries) ≡ accepted r) (file : Obeys image form) where
+module _ (image form strings entries : List ℕ) {r : Reader} (h : openAnswer image form (length strings) (length entries) ≡ accepted r) (file : Obeys image form) where
   abbrev ss : List ℕ
   ss = stringsAfter image form strings entries
 
@@ -148,7 +146,7 @@ module _ (image form strings entries : List ℕ) {r : Reader} (h : opened image 
   shape : OpenedShape image form strings entries r
   shape = opened-shape image form strings entries h
 
-  shown : Belongs image r ss es
+  shown : ReaderBelongs image r ss es
   shown = belongs-record (opened-belongs image form strings entries h)
 
   -- The tables by the text's edition are the file's.
@@ -181,7 +179,7 @@ module _ (image form strings entries : List ℕ) {r : Reader} (h : opened image 
   name-is zero l = refl
   name-is (suc k) l =
       rw (ne-eqb (suc k) 0 (λ q. omega arith), entry-is (suc k) l)
-      (shape .strings-are (itsEntry file (suc k) .string) (omega (arith, strings-count, file .string (suc k) (omega arith) (omega (arith, nodes-count))))
+      (shape .strings-are (itsEntry file (suc k) .string) (omega (arith, strings-count, file .linked (suc k) (omega arith) (omega (arith, nodes-count)) .1))
       ∙ ap (λ (x : List (List ℕ)). getD x (itsEntry file (suc k) .string) []) strings-are)
 
   parent-is : (node : ℕ) → node ≤ r .nodes → parentAt image es node ≡ itsParent file node
@@ -198,8 +196,8 @@ module _ (image form strings entries : List ℕ) {r : Reader} (h : opened image 
   climb-is : (node : ℕ) → 0 < node → node ≤ r .nodes → reachesBy (itsParent file) (length (file .entries)) node ≡ true
   climb-is node lo l =
       let here : node ≤ length (file .entries) = omega (arith, nodes-count) in
-      let (steps, reached) = file .climb node lo here in
-      reaches-within (itsParent file) (length (file .entries)) (file .parent) steps node here reached
+      let (steps, reached) = file .climbs node lo here in
+      reaches-within (itsParent file) (length (file .entries)) (λ k lo hi. file .linked k lo hi .0) steps node here reached
 
   front-is : (node : ℕ) → 0 < node → node ≤ r .nodes
       → itsPath file node ≡ frontBy (itsParent file) (itsName file) (length (file .entries)) (itsParent file node) ++ (47 ∷ itsName file node)
@@ -242,30 +240,16 @@ module _ (image form strings entries : List ℕ) {r : Reader} (h : opened image 
   )
 
   -- Listing order by the file's parents.
-  order-is : order image r ss es ≡ preorder (itsParent file) (length (file .entries) + 1) (length (file .entries) + 1) 0
+  order-is : listingOrder image r ss es ≡ preorder (itsParent file) (length (file .entries) + 1) (length (file .entries) + 1) 0
   order-is =
       preorder-same (parentAt image es) (itsParent file) (r .nodes + 1) (r .nodes + 1) 0 (λ k lo hi. parent-is k (omega arith))
       ∙ ap (λ (n : ℕ). preorder (itsParent file) (n + 1) (n + 1) 0) nodes-count
 
-  listing-is : (room : ℕ) → length (file .entries) < room → listingAnswer image r ss es room ≡ accepted (length (file .entries) + 1)
+  listing-is : (size : ℕ) → length (file .entries) < size → listingAnswer image r ss es size ≡ accepted (length (file .entries) + 1)
   unfolding listingAnswer
-  listing-is room l = rw (record-belongs shown, nodes-count, le-ltb room (length (file .entries) + 1) (omega arith))
+  listing-is size l = rw (record-belongs shown, nodes-count, le-ltb size (length (file .entries) + 1) (omega arith))
 
-  reads-others : (n : ℕ) → r .nodes < n → Absent image r ss es n
-  unfolding nameAnswer kindAnswer countAnswer viewAnswer elementAnswer pathAnswer
-  reads-others n l =
-      let absent = lt-ltb (r .nodes) n l in
-      let here = record-belongs shown in
-      record {
-        name = rw (here, absent);
-        kind = rw (here, absent);
-        count = rw (here, absent);
-        view = rw (here, absent);
-        element = λ index. rw (here, absent);
-        path = λ room. rw (here, absent);
-      }
-
-  reads-file : ReadsFile file r ss es
+  reads-file : ReadsFile image r ss es file
   unfolding nameAt kindAnswer countAnswer
   reads-file =
       let here = record-belongs shown in
@@ -286,7 +270,7 @@ module _ (image form strings entries : List ℕ) {r : Reader} (h : opened image 
         path-root = refl;
         path-top = path-top;
         path-below = path-below;
-        others = reads-others;
+        others = number-absent image r ss es here;
         lookup-malformed = λ path. rw (← edition-is) (malformed image r ss es shown path);
         lookup = λ path w n. both (lookup-only image form strings entries h path (formed w) n) (its-node path n);
         lookup-absent = λ path w. both (lookup-absent image r ss es path shown (formed w)) (no-node path);

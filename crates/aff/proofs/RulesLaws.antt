@@ -1,15 +1,15 @@
 -- Each call answers by its rules: each of its checks finds something wrong exactly when its rule fails (`AskFor`), so the rules settle the answer. The 21
--- of a make and a put is checked against the recorded length, which is the room's where the record belongs. Assumes nothing.
+-- of a make and a put is checked against the recorded length, which is the buffer's where the record belongs. Assumes nothing.
 use mathlib.Core.Path.{_≡_, refl, sym, ap, ap₂, subst, _∙_}
 use mathlib.Core.Bool.{Bool, true, false, not, _&&_, _||_, true≢false}
 use mathlib.Core.List.{List, [], _∷_, _++_}
 use mathlib.Core.Logic.{_↔_}
-use Prim.Native.Nat.{ℕ, _+_, _%_, _≤_, _<_}
+use Prim.Native.Nat.{ℕ, _+_, _%_, _≤_}
 use native.Mathlib.Omega.{arith}
-use lib.Dec.{eqb, ltb, leb}
+use lib.Dec.{eqb, ltb}
 use lib.ListN.{length}
-use borrow.Author.Tests.{eqb-true, eqb-false, eq-eqb, ne-eqb, ltb-false, le-ltb, leb-false, lt-leb, not-false}
-use Rattle.aff_format.specs.Answer.{Answer, accepted, Check, check, refusal, firstWrong}
+use borrow.Author.Tests.{eqb-true, eqb-false, eq-eqb, ne-eqb, ltb-false, le-ltb, not-false}
+use Rattle.aff_format.specs.Answer.{Check, check, refusal}
 use Rattle.aff_format.specs.Bytes.{sameBytes}
 use Rattle.aff_format.specs.Element.{countIn, elementAt, decoded}
 use Rattle.aff_format.specs.Kind.{kindCode, kindOf, elementSize, isVoid}
@@ -28,65 +28,46 @@ use Rattle.aff_format.proofs.LowestLaws.{none-holds, holds-none, lowest-is, non
 use Rattle.aff_format.proofs.PathLaws.{path-sound, path-complete}
 use Rattle.aff_format.proofs.SameLaws.{same-refl, same-eq, same-ne}
 use Rattle.aff_format.proofs.TestLaws.{both, or-false}
-use Rattle.aff_open.specs.Belongs.{belongs as readerBelongs, Belongs as ReaderBelongs}
-use Rattle.aff_open.specs.Faults.{Rule, Settled, rules}
-use Rattle.aff_open.specs.Opening.{opened, readerFor}
+use Rattle.aff_open.specs.Belongs.{readerBelongs, ReaderBelongs}
+use Rattle.aff_format.specs.Rule.{Rule, By, Is}
+use Rattle.aff_open.specs.Faults.{rules}
+use Rattle.aff_open.specs.Opening.{openAnswer, readerFor}
 use Rattle.aff_open.specs.Sections.{editionIn}
 use Rattle.aff_open.specs.declared.reader.Reader.{Reader}
 use Rattle.aff_open.proofs.BelongsLaws.{belongs-record as reader-clauses, record-belongs as reader-belongs}
 use Rattle.aff_open.proofs.FaultLaws.{opening-settled}
-use Rattle.aff_open.proofs.RuleLaws.{AskFor, none, one, settled, all-accept, first-refuses}
-use Rattle.aff_read.specs.Answers.{nodeChecks, nameAnswer, kindAnswer, countAnswer, viewAnswer, elementAnswer}
-use Rattle.aff_read.specs.Calls.{editionBy, found, pathAnswer, lookupAnswer, listingAnswer, lineAt, lineAnswer}
+use Rattle.aff_format.proofs.RuleLaws.{AskFor, none, one, settled-by, by-checks, at-most, is-below, is-true}
+use Rattle.aff_read.specs.Answers.{existsChecks, nameAnswer, kindAnswer, countAnswer, viewAnswer, elementAnswer}
+use Rattle.aff_read.specs.Paths.{editionBy, found, pathAnswer, lookupAnswer}
 use Rattle.aff_read.specs.Lookup.{LowestWith}
 use Rattle.aff_read.specs.Recall.{countAt, pathAt}
 use Rattle.aff_read.proofs.LookupLaws.{lookup-accepts}
-use Rattle.aff_write.specs.Areas.{slotEntry, nameOf}
-use Rattle.aff_write.specs.Begin.{lentWrong, beginChecks, beginAnswer}
-use Rattle.aff_write.specs.Belongs.{belongs as writerBelongs, Belongs as WriterBelongs, writerChecks}
+use Rattle.aff_areas.specs.Areas.{slotEntry, nameOf}
+use Rattle.aff_areas.specs.Belongs.{writerBelongs, WriterBelongs, writerChecks}
+use Rattle.aff_areas.specs.Writer.{dataPlace}
+use Rattle.aff_areas.specs.declared.writer.Writer.{Writer}
+use Rattle.aff_areas.proofs.BelongsLaws.{belongs-record as writer-clauses, record-belongs as writer-belongs}
+use Rattle.aff_areas.proofs.StoreLaws.{length-storesFrom}
+use Rattle.aff_write.specs.Begin.{beginLengthsWrong, beginChecks, beginAnswer}
 use Rattle.aff_write.specs.Close.{closeStores, storeChecks, closeAnswer}
 use Rattle.aff_write.specs.Make.{addedStrings, addedText, tooMany, isChild, childExists, childChecks, makeAnswer}
 use Rattle.aff_write.specs.Put.{takesNone, wrongData, putPlace, putStores, dataChecks, putAnswer}
-use Rattle.aff_write.specs.Writer.{dataPlace}
-use Rattle.aff_write.specs.declared.writer.Writer.{Writer}
-use Rattle.aff_write.proofs.BelongsLaws.{belongs-record as writer-clauses, record-belongs as writer-belongs}
-use Rattle.aff_write.proofs.StoreLaws.{length-storesFrom}
-use Rattle.aff_run.proofs.BeginGoodLaws.{lent-right}
-use Rattle.aff.specs.Rules.{By, Is, fits, decodeRules, nodeRules, lookupRules, ReadingByRules, beginRules, DataFits, writerRules, NoSuchChild, Few, makeRules, putRules, closeRules, WritingByRules}
-
--- ---- What rules settle is answered by them.
-
-module _ {A : Type 0} {rs : List Rule} (v : A) (a : Answer A) (s : Settled rs v a) where
-  settled-by : By rs (Is v) a
-  settled-by =
-      record {
-        accepts = λ w. (λ h. let p = subst (Settled rs v) h s in (p .0, sym (p .1)), λ p. all-accept rs v a s (p .0) ∙ ap accepted (sym (p .1)));
-        refuses = λ t. (λ h. subst (Settled rs v) h s, first-refuses rs v a s);
-      }
-
-by-checks : {A : Type 0} {cs : List Check} {rs : List Rule} (v : A) → AskFor cs rs → By rs (Is v) (firstWrong cs v)
-by-checks {cs = cs} v asks = settled-by v (firstWrong cs v) (settled v asks)
+use Rattle.aff_run.proofs.BeginInvariantLaws.{lengths-right}
+use Rattle.aff_run.proofs.InvariantLaws.{is-void}
+use Rattle.aff.specs.Rules.{fits, decodeRules, existsRules, lookupRules, ReadingByRules, beginRules, DataFits, writerRules, NoSuchChild, Few, makeRules, putRules, closeRules, WritingByRules}
+use Rattle.aff_read.specs.ListingOrder.{listingAnswer}
 
 -- ---- Tests and what they ask.
 
-at-most : (n m : ℕ) → (ltb n m ≡ false) ↔ (m ≤ n)
-at-most n m = (ltb-false n m, le-ltb n m)
-
-is-below : (n m : ℕ) → (leb n m ≡ false) ↔ (m < n)
-is-below n m = (leb-false n m, lt-leb n m)
-
-is-true : (b : Bool) → (not b ≡ false) ↔ (b ≡ true)
-is-true b = (not-false b, ap not)
-
-fits-asks : (size room : ℕ) → AskFor (check (ltb room size) (refusal 21) ∷ []) (fits size room)
-fits-asks size room = one (at-most room size) (λ _. none)
+fits-asks : (size limit : ℕ) → AskFor (check (ltb limit size) (refusal 21) ∷ []) (fits size limit)
+fits-asks size limit = one (at-most limit size) (λ _. none)
 
 -- ---- Opening and reading.
 
 pub opening-by : (image form : List ℕ) (strings entries : ℕ)
-    → By (rules image form strings entries) (Is (readerFor (editionIn image) image)) (opened image form strings entries)
+    → By (rules image form strings entries) (Is (readerFor (editionIn image) image)) (openAnswer image form strings entries)
 opening-by image form strings entries =
-    settled-by (readerFor (editionIn image) image) (opened image form strings entries) (opening-settled image form strings entries)
+    settled-by (readerFor (editionIn image) image) (openAnswer image form strings entries) (opening-settled image form strings entries)
 
 pub decode-by : (kind : Kind) (bytes : List ℕ) (index : ℕ) → By (decodeRules kind bytes index) (Is (elementAt kind bytes index)) (decoded kind bytes index)
 unfolding decoded
@@ -97,7 +78,7 @@ module _ (image : List ℕ) (r : Reader) (strings entries : List ℕ) where
   reader-asks = (λ h. reader-clauses (not-false (readerBelongs image r strings entries) h), λ b. ap not (reader-belongs b))
 
   node-asks : (node : ℕ) {cs : List Check} {rs : List Rule} → AskFor cs rs
-      → AskFor (nodeChecks image r strings entries node ++ cs) (nodeRules image r strings entries node rs)
+      → AskFor (existsChecks image r strings entries node ++ cs) (existsRules image r strings entries node rs)
   node-asks node more = one reader-asks (λ _. one (at-most (r .nodes) node) (λ _. more))
 
   -- 15 of a lookup.
@@ -145,7 +126,7 @@ module _ (image : List ℕ) (r : Reader) (strings entries : List ℕ) where
       }
 
   pub reading-by : ReadingByRules image r strings entries
-  unfolding nameAnswer kindAnswer countAnswer viewAnswer elementAnswer pathAnswer listingAnswer lineAnswer
+  unfolding nameAnswer kindAnswer countAnswer viewAnswer elementAnswer pathAnswer listingAnswer
   reading-by =
       record {
         name = λ node. by-checks _ (node-asks node none);
@@ -153,38 +134,30 @@ module _ (image : List ℕ) (r : Reader) (strings entries : List ℕ) where
         count = λ node. by-checks _ (node-asks node none);
         view = λ node. by-checks _ (node-asks node none);
         element = λ node index. by-checks _ (node-asks node (one (is-below (countAt image entries node) index) (λ _. none)));
-        path = λ node room. by-checks _ (node-asks node (fits-asks (length (pathAt image r strings entries node)) room));
+        path = λ node buffer. by-checks _ (node-asks node (fits-asks (length (pathAt image r strings entries node)) buffer));
         lookup = lookup-by;
-        listing = λ room. by-checks _ (one reader-asks (λ _. fits-asks (r .nodes + 1) room));
-        line = λ node room. by-checks _ (node-asks node (fits-asks (length (lineAt image r strings entries node)) room));
+        listing = λ buffer. by-checks _ (one reader-asks (λ _. fits-asks (r .nodes + 1) buffer));
       }
 
 -- ---- Writing.
 
-module _ (room form text tree : List ℕ) (allowance : ℕ) where
-  lent-asks : (lentWrong room form text tree ≡ false)
-      ↔ ((length form ≡ 12) × (length text ≡ textArea) × (length tree ≡ treeArea) × (length room ≤ imageLimit))
-  unfolding lentWrong
-  lent-asks = (
-    lent-right room form text tree,
-    λ (f, x, t, r). rw (eq-eqb (length form) 12 f, eq-eqb (length text) textArea x, eq-eqb (length tree) treeArea t, le-ltb imageLimit (length room) r),
+module _ (buffer form text tree : List ℕ) (allowance : ℕ) where
+  lengths-asks : (beginLengthsWrong buffer form text tree ≡ false)
+      ↔ ((length form ≡ 12) × (length text ≡ textArea) × (length tree ≡ treeArea) × (length buffer ≤ imageLimit))
+  unfolding beginLengthsWrong
+  lengths-asks = (
+    lengths-right buffer form text tree,
+    λ (f, x, t, r). rw (eq-eqb (length form) 12 f, eq-eqb (length text) textArea x, eq-eqb (length tree) treeArea t, le-ltb imageLimit (length buffer) r),
   )
 
-  begin-asks : AskFor (beginChecks room form text tree allowance) (beginRules room form text tree allowance)
-  begin-asks = one lent-asks (λ _. one (at-most (length room) dataPlace) (λ _. one (at-most allowance 1) (λ _. none)))
+  begin-asks : AskFor (beginChecks buffer form text tree allowance) (beginRules buffer form text tree allowance)
+  begin-asks = one lengths-asks (λ _. one (at-most (length buffer) dataPlace) (λ _. one (at-most allowance 1) (λ _. none)))
 
-  pub begin-by : By (beginRules room form text tree allowance) (Is 1) (beginAnswer room form text tree allowance)
+  pub begin-by : By (beginRules buffer form text tree allowance) (Is 1) (beginAnswer buffer form text tree allowance)
   unfolding beginAnswer
   begin-by = by-checks 1 begin-asks
 
 -- 18.
-is-void : (k : Kind) → isVoid k ≡ true → k ≡ Void
-is-void Void h = refl
-is-void Char h = absurd (true≢false (sym h))
-is-void Int h = absurd (true≢false (sym h))
-is-void Double h = absurd (true≢false (sym h))
-is-void Complex h = absurd (true≢false (sym h))
-
 takes-asks : (tree : List ℕ) (node : ℕ) → (takesNone tree node ≡ false) ↔ ((node ≡ 0 → ⊥) × (slotEntry tree node .kind ≡ Void))
 unfolding takesNone
 takes-asks tree node = (
@@ -222,19 +195,19 @@ data-asks type size = (
         let c = code-of-kind type k e in
         (k, c, omega (arith, c, data-codes k (p .0)), eqb-true (size % elementSize k) 0 (not-false (eqb (size % elementSize k) 0) (p .1)))
 
-module _ (room : List ℕ) (w : Writer) (text tree : List ℕ) where
+module _ (buffer : List ℕ) (w : Writer) (text tree : List ℕ) where
   abbrev Here : Type 0
-  Here = WriterBelongs (length room) w text tree
+  Here = WriterBelongs (length buffer) w text tree
 
   writer-asks : {cs : List Check} {rs : List Rule} → (Here → AskFor cs rs)
-      → AskFor (writerChecks (length room) w text tree ++ cs) (writerRules room w text tree rs)
+      → AskFor (writerChecks (length buffer) w text tree ++ cs) (writerRules buffer w text tree rs)
   writer-asks more =
-      one (λ h. writer-clauses (not-false (writerBelongs (length room) w text tree) h), λ b. ap not (writer-belongs b))
+      one (λ h. writer-clauses (not-false (writerBelongs (length buffer) w text tree) h), λ b. ap not (writer-belongs b))
       (λ b. one (is-true (w .live)) (λ _. more b))
 
-  -- 21: the recorded length is the room's.
-  room-asks : Here → (size : ℕ) → (ltb (w .length) size ≡ false) ↔ (size ≤ length room)
-  room-asks b size = (
+  -- 21: the recorded length is the buffer's.
+  buffer-asks : Here → (size : ℕ) → (ltb (w .length) size ≡ false) ↔ (size ≤ length buffer)
+  buffer-asks b size = (
     λ h. omega (arith, b .length-recorded, ltb-false (w .length) size h),
     λ h. le-ltb (w .length) size (omega (arith, b .length-recorded)),
   )
@@ -255,7 +228,7 @@ module _ (room : List ℕ) (w : Writer) (text tree : List ℕ) where
           let p = both (eqb (slotEntry tree k .parent) parent) (sameBytes (nameOf w text tree k) name) e in
           absurd (f (eqb-true (slotEntry tree k .parent) parent (p .0)) (same-eq (nameOf w text tree k) name (p .1)))
 
-  child-asks : (parent : ℕ) (name : List ℕ) → (childExists w text tree parent name ≡ false) ↔ NoSuchChild room w text tree parent name
+  child-asks : (parent : ℕ) (name : List ℕ) → (childExists w text tree parent name ≡ false) ↔ NoSuchChild buffer w text tree parent name
   unfolding childExists
   child-asks parent name = (
     λ h k lo hi.
@@ -268,7 +241,7 @@ module _ (room : List ℕ) (w : Writer) (text tree : List ℕ) where
   )
 
   -- 20.
-  few-asks : (name : List ℕ) → (tooMany w text name ≡ false) ↔ Few room w text tree name
+  few-asks : (name : List ℕ) → (tooMany w text name ≡ false) ↔ Few buffer w text tree name
   unfolding tooMany
   few-asks name = (
     λ h.
@@ -286,40 +259,40 @@ module _ (room : List ℕ) (w : Writer) (text tree : List ℕ) where
   )
 
   make-asks : (parent : ℕ) (name : List ℕ)
-      → AskFor (writerChecks (length room) w text tree ++ childChecks w text tree parent name) (makeRules room w text tree parent name)
+      → AskFor (writerChecks (length buffer) w text tree ++ childChecks w text tree parent name) (makeRules buffer w text tree parent name)
   make-asks parent name =
       writer-asks
       (λ b. one (at-most (w .nodes) parent)
       (λ _. one (is-true (isSubkey _ name))
       (λ _. one (child-asks parent name)
       (λ _. one (few-asks name)
-      (λ _. one (room-asks b _) (λ _. none))))))
+      (λ _. one (buffer-asks b _) (λ _. none))))))
 
   stores-ask : (bytes : List ℕ) (allowance : ℕ) → (ltb allowance (length (putStores w bytes)) ≡ false) ↔ (length bytes ≤ allowance)
   stores-ask bytes allowance = rw (length-storesFrom (putPlace w) bytes) (at-most allowance (length bytes))
 
   put-asks : (node type : ℕ) (bytes : List ℕ) (allowance : ℕ)
-      → AskFor (writerChecks (length room) w text tree ++ dataChecks w tree node type bytes allowance) (putRules room w text tree node type bytes allowance)
+      → AskFor (writerChecks (length buffer) w text tree ++ dataChecks w tree node type bytes allowance) (putRules buffer w text tree node type bytes allowance)
   put-asks node type bytes allowance =
       writer-asks
       (λ b. one (at-most (w .nodes) node)
       (λ _. one (takes-asks tree node)
       (λ _. one (data-asks type (length bytes))
-      (λ _. one (room-asks b _)
+      (λ _. one (buffer-asks b _)
       (λ _. one (stores-ask bytes allowance) (λ _. none))))))
 
   close-asks : (allowance : ℕ)
-      → AskFor (writerChecks (length room) w text tree ++ storeChecks room w text tree allowance) (closeRules room w text tree allowance)
-  close-asks allowance = writer-asks (λ _. one (at-most allowance (length (closeStores room w text tree))) (λ _. none))
+      → AskFor (writerChecks (length buffer) w text tree ++ storeChecks buffer w text tree allowance) (closeRules buffer w text tree allowance)
+  close-asks allowance = writer-asks (λ _. one (at-most allowance (length (closeStores buffer w text tree))) (λ _. none))
 
-  pub writing-by : WritingByRules room w text tree
+  pub writing-by : WritingByRules buffer w text tree
   unfolding makeAnswer putAnswer closeAnswer
   writing-by =
       record {
         make = λ parent name. by-checks (w .nodes + 1) (make-asks parent name);
         put = λ node type bytes allowance.
             subst
-            (λ (n : ℕ). By (putRules room w text tree node type bytes allowance) (Is n) (putAnswer (length room) w text tree node type bytes allowance))
+            (λ (n : ℕ). By (putRules buffer w text tree node type bytes allowance) (Is n) (putAnswer (length buffer) w text tree node type bytes allowance))
             (length-storesFrom (putPlace w) bytes) (by-checks (length (putStores w bytes)) (put-asks node type bytes allowance));
-        close = λ allowance. by-checks (length (closeStores room w text tree)) (close-asks allowance);
+        close = λ allowance. by-checks (length (closeStores buffer w text tree)) (close-asks allowance);
       }

@@ -15,12 +15,12 @@ use Rattle.aff_format.specs.declared.element.Element.the-variants as element
 use Rattle.aff_format.specs.declared.entry.Entry.{Entry}
 use Rattle.aff_format.specs.declared.kind.Kind.{Kind}
 use Rattle.aff_format.specs.declared.kind.Kind.the-variants.{Void, Int}
-use Rattle.aff_open.specs.Belongs.{Belongs as ReaderBelongs}
+use Rattle.aff_open.specs.Belongs.{ReaderBelongs}
 use Rattle.aff_open.specs.declared.reader.Reader.{Reader}
-use Rattle.aff_read.specs.Calls.{lookupAnswer}
-use Rattle.aff_write.specs.Belongs.{Belongs as WriterBelongs}
+use Rattle.aff_read.specs.Paths.{lookupAnswer}
+use Rattle.aff_areas.specs.Belongs.{WriterBelongs}
+use Rattle.aff_areas.specs.declared.writer.Writer.{Writer}
 use Rattle.aff_write.specs.Make.{makeAnswer}
-use Rattle.aff_write.specs.declared.writer.Writer.{Writer}
 
 pub data Case : Type 0 where
   -- A path, and what a lookup of it answers.
@@ -42,8 +42,8 @@ LookupIs path answer =
 -- A child of that name below any node, by any record of a live writer that belongs to the memory passed.
 abbrev pub MakeIs : List ℕ → Answer ℕ → Type 0
 MakeIs name answer =
-    (room : ℕ) (writer : Writer) (text tree : List ℕ) (parent : ℕ) → WriterBelongs room writer text tree → writer .live ≡ true → parent ≤ writer .nodes
-    → makeAnswer room writer text tree parent name ≡ answer
+    (size : ℕ) (writer : Writer) (text tree : List ℕ) (parent : ℕ) → WriterBelongs size writer text tree → writer .live ≡ true → parent ≤ writer .nodes
+    → makeAnswer size writer text tree parent name ≡ answer
 
 -- The bytes of each entry of a kind.
 abbrev pub EntryTakes : Kind → ℕ → Type 0
@@ -52,7 +52,7 @@ EntryTakes kind size = (e : Entry) → e .kind ≡ kind → length (entryBytes e
 -- A name that is a subkey is never 14, neither in a path nor as the name of a new child.
 pub record Taken (name : List ℕ) : Type 0 where
   pub in-path : (image : List ℕ) (reader : Reader) (strings entries : List ℕ) → lookupAnswer image reader strings entries (47 ∷ name) ≡ refused (refusal 14) → ⊥
-  pub as-child : (room : ℕ) (writer : Writer) (text tree : List ℕ) (parent : ℕ) → makeAnswer room writer text tree parent name ≡ refused (refusal 14) → ⊥
+  pub as-child : (size : ℕ) (writer : Writer) (text tree : List ℕ) (parent : ℕ) → makeAnswer size writer text tree parent name ≡ refused (refusal 14) → ⊥
 
 -- What a row says. A name that is no subkey is 14 in a path, and 14 as the name of a new child.
 abbrev pub Holds : Case → Type 0

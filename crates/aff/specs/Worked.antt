@@ -1,4 +1,4 @@
--- The worked file of document 01, 'The lister': child `a` of the root, child `n` of it, one Int -70 there, close; in a room of 214 bytes.
+-- The worked file of document 01, 'The lister': child `a` of the root, child `n` of it, one Int -70 there, close; in a buffer of 214 bytes.
 -- Its calls with their arguments, the tree that they describe, and the file, byte for byte.
 use mathlib.Core.Path.{_≡_}
 use mathlib.Core.List.{List, [], _∷_}
@@ -10,12 +10,11 @@ use Rattle.aff_format.specs.Limits.{textArea, treeArea}
 use Rattle.aff_format.specs.Tree.{Tree}
 use Rattle.aff_format.specs.declared.edition.Edition.the-variants.{Two}
 use Rattle.aff_format.specs.declared.kind.Kind.the-variants.{Void, Int}
-use Rattle.aff_write.specs.Begin.{beginAnswer}
-use Rattle.aff_write.specs.Stores.{applyStores}
-use Rattle.aff_run.specs.Run.{Call, make, put, close, described, runAnswers, runStores}
-use Rattle.aff_run.specs.Shows.{Shows}
+use Rattle.aff_areas.specs.Stores.{applyStores}
+use Rattle.aff_run.specs.Run.{Call, make, put, close, Run, runBegin, runAnswers, runStores, runTree}
+use Rattle.aff_read.specs.Shows.{Shows}
 
--- The 12 bytes behind the signature text.
+-- The 12 bytes after the signature text.
 abbrev pub workedForm : List ℕ
 workedForm = numberForm Two
 
@@ -29,9 +28,14 @@ nameN = 110 ∷ []
 abbrev pub minusSeventy : List ℕ
 minusSeventy = 0xff ∷ 0xff ∷ 0xff ∷ 0xba ∷ []
 
--- The calls behind begin, with the allowances of put and close.
+-- The calls after begin, with the allowances of put and close.
 abbrev pub workedCalls : ℕ → ℕ → List Call
 workedCalls puts closes = make 0 nameA ∷ make 1 nameN ∷ put 2 3 minusSeventy puts ∷ close closes ∷ []
+
+-- The run in a buffer, with these areas and these allowances of begin, put and close.
+abbrev pub workedIn : List ℕ → List ℕ → List ℕ → ℕ → ℕ → ℕ → Run
+workedIn buffer text tree begins puts closes =
+    record { buffer = buffer; form = workedForm; text = text; tree = tree; allowance = begins; calls = workedCalls puts closes }
 
 abbrev pub workedTree : Tree
 workedTree =
@@ -58,26 +62,25 @@ workedFile =
     ∷ 0x03 ∷ 0x00 ∷ 0x00 ∷ 0x00 ∷ 0x00 ∷ 0x00 ∷ 0x00 ∷ 0x00 ∷ 0x01 ∷ 0x00 ∷ 0x00 ∷ 0x00 ∷ 0x01 ∷ 0x00 ∷ 0x00 ∷ 0x00 ∷ 0x01 ∷ 0x00 ∷ 0x00 ∷ 0x00 ∷ 0x00 ∷ 0x00 ∷ 0x00 ∷ 0x00 ∷ 0xa8
     ∷ []
 
--- What is said of the run, with the allowances of begin, put and close.
-module _ (room text tree : List ℕ) (begins puts closes : ℕ) where
-  pub record WorkedRun : Type 0 where
-    -- Every call is accepted: begin tells 1 store, the makes nodes 1 and 2, put 4 stores and close 210.
-    pub begun : beginAnswer room workedForm text tree begins ≡ accepted 1
-    pub answers : runAnswers room workedForm text tree begins (workedCalls puts closes) ≡ accepted 1 ∷ accepted 2 ∷ accepted 4 ∷ accepted 210 ∷ []
-    -- 1 + 4 + 210 = 215 byte stores.
-    pub stores : length (runStores room workedForm text tree begins (workedCalls puts closes)) ≡ 215
-    -- The room is then the worked file.
-    pub file : applyStores room (runStores room workedForm text tree begins (workedCalls puts closes)) ≡ workedFile
-    -- The calls describe the two nodes, and the file shows them.
-    pub nodes : described [] (workedCalls puts closes) (runAnswers room workedForm text tree begins (workedCalls puts closes)) ≡ workedTree
-    pub shows : Shows workedFile workedForm workedTree
+-- What is said of the run.
+pub record WorkedRun (run : Run) : Type 0 where
+  -- Every call is accepted: begin reports 1 store, the makes nodes 1 and 2, put 4 stores and close 210.
+  pub begins : runBegin run .answer ≡ accepted 1
+  pub answers : runAnswers run ≡ accepted 1 ∷ accepted 2 ∷ accepted 4 ∷ accepted 210 ∷ []
+  -- 1 + 4 + 210 = 215 byte stores.
+  pub stores : length (runStores run) ≡ 215
+  -- The buffer is then the worked file.
+  pub file : applyStores (run .buffer) (runStores run) ≡ workedFile
+  -- The calls describe the two nodes, and the file shows them.
+  pub nodes : runTree run ≡ workedTree
+  pub shows : Shows workedFile workedForm workedTree
 
--- In every room of 214 bytes, with areas of their lengths and any content, and any allowances that suffice.
+-- In every buffer of 214 bytes, with areas of their lengths and any content, and any allowances that suffice.
 abbrev pub Worked : Type 0
-Worked = (room text tree : List ℕ) (begins puts closes : ℕ) → length room ≡ 214 → length text ≡ textArea → length tree ≡ treeArea
-    → 1 ≤ begins → 4 ≤ puts → 210 ≤ closes → WorkedRun room text tree begins puts closes
+Worked = (buffer text tree : List ℕ) (begins puts closes : ℕ) → length buffer ≡ 214 → length text ≡ textArea → length tree ≡ treeArea
+    → 1 ≤ begins → 4 ≤ puts → 210 ≤ closes → WorkedRun (workedIn buffer text tree begins puts closes)
 
--- ---- A room one byte shorter.
+-- ---- A buffer one byte shorter.
 
 -- The same nodes with no data.
 abbrev pub voidTree : Tree
@@ -86,14 +89,13 @@ voidTree =
     ∷ record { parent = 1; name = nameN; kind = Void; bytes = [] }
     ∷ []
 
-module _ (room text tree : List ℕ) (begins puts closes : ℕ) where
-  pub record ShorterRun : Type 0 where
-    -- The put is refused by 21; the close then makes its file in 198 stores.
-    pub answers : runAnswers room workedForm text tree begins (workedCalls puts closes) ≡ accepted 1 ∷ accepted 2 ∷ refused (refusal 21) ∷ accepted 198 ∷ []
-    -- The calls describe two Void nodes, and the room then shows them.
-    pub nodes : described [] (workedCalls puts closes) (runAnswers room workedForm text tree begins (workedCalls puts closes)) ≡ voidTree
-    pub shows : Shows (applyStores room (runStores room workedForm text tree begins (workedCalls puts closes))) workedForm voidTree
+pub record ShorterRun (run : Run) : Type 0 where
+  -- The put is refused by 21; the close then makes its file in 198 stores.
+  pub answers : runAnswers run ≡ accepted 1 ∷ accepted 2 ∷ refused (refusal 21) ∷ accepted 198 ∷ []
+  -- The calls describe two Void nodes, and the buffer then shows them.
+  pub nodes : runTree run ≡ voidTree
+  pub shows : Shows (applyStores (run .buffer) (runStores run)) workedForm voidTree
 
 abbrev pub OneShorter : Type 0
-OneShorter = (room text tree : List ℕ) (begins puts closes : ℕ) → length room ≡ 213 → length text ≡ textArea → length tree ≡ treeArea
-    → 1 ≤ begins → 198 ≤ closes → ShorterRun room text tree begins puts closes
+OneShorter = (buffer text tree : List ℕ) (begins puts closes : ℕ) → length buffer ≡ 213 → length text ≡ textArea → length tree ≡ treeArea
+    → 1 ≤ begins → 198 ≤ closes → ShorterRun (workedIn buffer text tree begins puts closes)

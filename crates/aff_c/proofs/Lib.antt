@@ -1,4 +1,4 @@
 -- Laws that several proofs cite.
-mod OutputLaws
+mod OpeningLaws
 mod ReadingLaws
 mod WritingLaws

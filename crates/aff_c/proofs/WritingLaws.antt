@@ -7,18 +7,18 @@ use lib.Dec.{eqb}
 use lib.ListN.{length, set}
 use borrow.Author.Tests.{ne-eqb}
 use Rattle.aff_format.specs.Answer.{Answer, accepted, refused}
-use Rattle.aff_format.specs.Verdict.{numberTold}
-use Rattle.aff_format.specs.declared.refusal.Told.{Told}
+use Rattle.aff_format.specs.Verdict.{answerOfNumber}
+use Rattle.aff_format.specs.declared.refusal.RefusalCode.{RefusalCode}
+use Rattle.aff_areas.specs.Stores.{bufferAfter}
+use Rattle.aff_areas.specs.Writer.{stopped, writerAfter, areaAfter}
+use Rattle.aff_areas.specs.declared.writer.Writer.{Writer}
+use Rattle.aff_areas.specs.declared.writer.Writing.{Writing}
 use Rattle.aff_write.specs.Begin.{beginStores, beginAnswer, beginWriter, beginArea}
 use Rattle.aff_write.specs.Close.{closeStores, closeAnswer}
 use Rattle.aff_write.specs.Make.{madeWriter, madeText, madeTree, makeAnswer}
 use Rattle.aff_write.specs.Put.{putStores, putWriter, putTree, putAnswer}
-use Rattle.aff_write.specs.Stores.{roomAfter}
-use Rattle.aff_write.specs.Writer.{stopped, writerAfter, areaAfter}
-use Rattle.aff_write.specs.declared.writer.Writer.{Writer}
-use Rattle.aff_write.specs.declared.writer.Writing.{Writing}
 use Rattle.aff_c.specs.Reading.{numberBy}
-use Rattle.aff_c.specs.Writing.{writerIn, numbersBy, toldNumber, numbersRefused, numbersLeft, begunBy, begunRecord, madeBy, numbersMade, textMade, treeMade, putBy, numbersPut, roomPut, treePut, closedBy, numbersClosed, roomClosed}
+use Rattle.aff_c.specs.Writing.{writerIn, numbersBy, reportedNumber, numbersRefused, numbersLeft, beginReturned, begunRecord, makeReturned, numbersMade, textMade, treeMade, putReturned, numbersPut, bufferPut, treePut, closeReturned, numbersClosed, bufferClosed}
 
 either : (b : Bool) (place : ℕ) (halted given : Writer) (kept : List ℕ)
     → cond b (numbersBy place (cond b halted given)) kept ≡ cond b (numbersBy place halted) kept
@@ -32,25 +32,25 @@ next-or-stopped numbers (accepted n) next given = refl
 next-or-stopped numbers (refused t) next given = either (eqb (t .number) 23) (t .place) (stopped given) given (set numbers 0 (t .place))
 
 -- What a refusal leaves, by its number: 23 or another.
-module _ (numbers : List ℕ) (t : Told) (w : Writer) (n p : ℕ) (number : n ≡ t .number) (place : p ≡ t .place) where
+module _ (numbers : List ℕ) (t : RefusalCode) (w : Writer) (n p : ℕ) (number : n ≡ t .number) (place : p ≡ t .place) where
   pub spent : n ≡ 23 → (l : List ℕ) → l ≡ numbersBy p w → (n ≡ t .number) × (l ≡ numbersRefused numbers t w)
   spent h l left = let z : t .number ≡ 23 = sym number ∙ h in (number, rw (left, place, z))
 
   pub not-spent : (n ≡ 23 → ⊥) → (n ≡ t .number) × (set numbers 0 p ≡ numbersRefused numbers t w)
   not-spent h = let z : eqb (t .number) 23 ≡ false = rw (← number) (ne-eqb n 23 h) in (number, rw (place, z))
 
-module _ (room form text tree : List ℕ) (allowance : ℕ) (done : Writing) (r : ℕ) (l : List ℕ)
-    (number : r ≡ numberBy (numberTold (done .answer))) (numbers : l ≡ numbersBy (toldNumber (numberTold (done .answer))) (done .writer)) where
+module _ (buffer form text tree : List ℕ) (allowance : ℕ) (done : Writing) (r : ℕ) (l : List ℕ)
+    (number : r ≡ numberBy (answerOfNumber (done .answer))) (numbers : l ≡ numbersBy (reportedNumber (answerOfNumber (done .answer))) (done .writer)) where
   pub begun-left : (o x y : List ℕ)
-      → (numberTold (done .answer) ≡ beginAnswer room form text tree allowance)
-      × ((done .writer ≡ beginWriter (numberTold (done .answer)) (length room) form)
-      × ((o ≡ roomAfter (numberTold (done .answer)) beginStores room)
-      × ((x ≡ beginArea (numberTold (done .answer)) text) × (y ≡ beginArea (numberTold (done .answer)) tree))))
-      → (r ≡ numberBy (begunBy room form text tree allowance))
-      × ((l ≡ numbersBy (toldNumber (begunBy room form text tree allowance)) (begunRecord room form text tree allowance))
-      × ((done .writer .form ≡ begunRecord room form text tree allowance .form)
-      × ((o ≡ roomAfter (begunBy room form text tree allowance) beginStores room)
-      × ((x ≡ beginArea (begunBy room form text tree allowance) text) × (y ≡ beginArea (begunBy room form text tree allowance) tree)))))
+      → (answerOfNumber (done .answer) ≡ beginAnswer buffer form text tree allowance)
+      × ((done .writer ≡ beginWriter (answerOfNumber (done .answer)) (length buffer) form)
+      × ((o ≡ bufferAfter (answerOfNumber (done .answer)) beginStores buffer)
+      × ((x ≡ beginArea (answerOfNumber (done .answer)) text) × (y ≡ beginArea (answerOfNumber (done .answer)) tree))))
+      → (r ≡ numberBy (beginReturned buffer form text tree allowance))
+      × ((l ≡ numbersBy (reportedNumber (beginReturned buffer form text tree allowance)) (begunRecord buffer form text tree allowance))
+      × ((done .writer .form ≡ begunRecord buffer form text tree allowance .form)
+      × ((o ≡ bufferAfter (beginReturned buffer form text tree allowance) beginStores buffer)
+      × ((x ≡ beginArea (beginReturned buffer form text tree allowance) text) × (y ≡ beginArea (beginReturned buffer form text tree allowance) tree)))))
   begun-left o x y h = (
     rw (number, h .0),
     (
@@ -59,56 +59,56 @@ module _ (room form text tree : List ℕ) (allowance : ℕ) (done : Writing) (r 
     ),
   )
 
-module _ (room numbers kept text tree : List ℕ) (w : Writer) (e : w ≡ writerIn numbers kept) (done : Writing) (r : ℕ) (l : List ℕ)
-    (number : r ≡ numberBy (numberTold (done .answer))) (left : l ≡ numbersLeft numbers (numberTold (done .answer)) (done .writer) (done .writer)) where
+module _ (buffer numbers kept text tree : List ℕ) (w : Writer) (e : w ≡ writerIn numbers kept) (done : Writing) (r : ℕ) (l : List ℕ)
+    (number : r ≡ numberBy (answerOfNumber (done .answer))) (left : l ≡ numbersLeft numbers (answerOfNumber (done .answer)) (done .writer) (done .writer)) where
   module _ (parent : ℕ) (name x y : List ℕ) where
     abbrev Made : Writer → Type 0
     Made v =
-        (numberTold (done .answer) ≡ makeAnswer (length room) v text tree parent name)
-        × ((done .writer ≡ writerAfter (numberTold (done .answer)) (madeWriter v text name) v)
-        × ((x ≡ areaAfter (numberTold (done .answer)) (madeText v text name) text)
-        × (y ≡ areaAfter (numberTold (done .answer)) (madeTree v text tree parent name) tree)))
+        (answerOfNumber (done .answer) ≡ makeAnswer (length buffer) v text tree parent name)
+        × ((done .writer ≡ writerAfter (answerOfNumber (done .answer)) (madeWriter v text name) v)
+        × ((x ≡ areaAfter (answerOfNumber (done .answer)) (madeText v text name) text)
+        × (y ≡ areaAfter (answerOfNumber (done .answer)) (madeTree v text tree parent name) tree)))
 
     pub made-left : Made w
-        → (r ≡ numberBy (madeBy room numbers kept text tree parent name))
-        × ((l ≡ numbersMade room numbers kept text tree parent name)
-        × ((x ≡ textMade room numbers kept text tree parent name) × (y ≡ treeMade room numbers kept text tree parent name)))
+        → (r ≡ numberBy (makeReturned buffer numbers kept text tree parent name))
+        × ((l ≡ numbersMade buffer numbers kept text tree parent name)
+        × ((x ≡ textMade buffer numbers kept text tree parent name) × (y ≡ treeMade buffer numbers kept text tree parent name)))
     unfolding numbersMade textMade treeMade
     made-left p =
         let g = writerIn numbers kept in
         let h = subst Made e p in
-        (rw (number, h .0), (rw (left, h .1 .0, h .0) (next-or-stopped numbers (makeAnswer (length room) g text tree parent name) (madeWriter g text name) g), (rw (h .1 .1 .0, h .0), rw (h .1 .1 .1, h .0))))
+        (rw (number, h .0), (rw (left, h .1 .0, h .0) (next-or-stopped numbers (makeAnswer (length buffer) g text tree parent name) (madeWriter g text name) g), (rw (h .1 .1 .0, h .0), rw (h .1 .1 .1, h .0))))
 
   module _ (node kind : ℕ) (bytes : List ℕ) (allowance : ℕ) (o y : List ℕ) where
     abbrev Put : Writer → Type 0
     Put v =
-        (numberTold (done .answer) ≡ putAnswer (length room) v text tree node kind bytes allowance)
-        × ((done .writer ≡ writerAfter (numberTold (done .answer)) (putWriter v bytes) v)
-        × ((o ≡ roomAfter (numberTold (done .answer)) (putStores v bytes) room)
-        × (y ≡ areaAfter (numberTold (done .answer)) (putTree v tree node kind bytes) tree)))
+        (answerOfNumber (done .answer) ≡ putAnswer (length buffer) v text tree node kind bytes allowance)
+        × ((done .writer ≡ writerAfter (answerOfNumber (done .answer)) (putWriter v bytes) v)
+        × ((o ≡ bufferAfter (answerOfNumber (done .answer)) (putStores v bytes) buffer)
+        × (y ≡ areaAfter (answerOfNumber (done .answer)) (putTree v tree node kind bytes) tree)))
 
     pub put-left : Put w
-        → (r ≡ numberBy (putBy room numbers kept text tree node kind bytes allowance))
-        × ((l ≡ numbersPut room numbers kept text tree node kind bytes allowance)
-        × ((o ≡ roomPut room numbers kept text tree node kind bytes allowance) × (y ≡ treePut room numbers kept text tree node kind bytes allowance)))
-    unfolding numbersPut roomPut treePut
+        → (r ≡ numberBy (putReturned buffer numbers kept text tree node kind bytes allowance))
+        × ((l ≡ numbersPut buffer numbers kept text tree node kind bytes allowance)
+        × ((o ≡ bufferPut buffer numbers kept text tree node kind bytes allowance) × (y ≡ treePut buffer numbers kept text tree node kind bytes allowance)))
+    unfolding numbersPut bufferPut treePut
     put-left p =
         let g = writerIn numbers kept in
         let h = subst Put e p in
-        (rw (number, h .0), (rw (left, h .1 .0, h .0) (next-or-stopped numbers (putAnswer (length room) g text tree node kind bytes allowance) (putWriter g bytes) g), (rw (h .1 .1 .0, h .0), rw (h .1 .1 .1, h .0))))
+        (rw (number, h .0), (rw (left, h .1 .0, h .0) (next-or-stopped numbers (putAnswer (length buffer) g text tree node kind bytes allowance) (putWriter g bytes) g), (rw (h .1 .1 .0, h .0), rw (h .1 .1 .1, h .0))))
 
   module _ (allowance : ℕ) (o : List ℕ) where
     abbrev Closed : Writer → Type 0
     Closed v =
-        (numberTold (done .answer) ≡ closeAnswer room v text tree allowance)
-        × ((done .writer ≡ writerAfter (numberTold (done .answer)) (stopped v) v)
-        × (o ≡ roomAfter (numberTold (done .answer)) (closeStores room v text tree) room))
+        (answerOfNumber (done .answer) ≡ closeAnswer buffer v text tree allowance)
+        × ((done .writer ≡ writerAfter (answerOfNumber (done .answer)) (stopped v) v)
+        × (o ≡ bufferAfter (answerOfNumber (done .answer)) (closeStores buffer v text tree) buffer))
 
     pub closed-left : Closed w
-        → (r ≡ numberBy (closedBy room numbers kept text tree allowance))
-        × ((l ≡ numbersClosed room numbers kept text tree allowance) × (o ≡ roomClosed room numbers kept text tree allowance))
-    unfolding numbersClosed roomClosed
+        → (r ≡ numberBy (closeReturned buffer numbers kept text tree allowance))
+        × ((l ≡ numbersClosed buffer numbers kept text tree allowance) × (o ≡ bufferClosed buffer numbers kept text tree allowance))
+    unfolding numbersClosed bufferClosed
     closed-left p =
         let g = writerIn numbers kept in
         let h = subst Closed e p in
-        (rw (number, h .0), (rw (left, h .1 .0, h .0) (next-or-stopped numbers (closeAnswer room g text tree allowance) (stopped g) g), rw (h .1 .1, h .0)))
+        (rw (number, h .0), (rw (left, h .1 .0, h .0) (next-or-stopped numbers (closeAnswer buffer g text tree allowance) (stopped g) g), rw (h .1 .1, h .0)))

@@ -1,4 +1,4 @@
 -- What the contracts of this crate cite.
-pub mod Outputs
+pub mod Opening
 pub mod Reading
 pub mod Writing

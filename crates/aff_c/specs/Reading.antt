@@ -1,4 +1,4 @@
--- What the exported reading functions hand back and leave behind the caller's references. Assumes nothing.
+-- What the exported reading functions hand back and leave after the caller's references. Assumes nothing.
 use mathlib.Core.Bool.{cond}
 use mathlib.Core.List.{List}
 use Prim.Native.Nat.{ℕ}
@@ -16,15 +16,15 @@ use Rattle.aff_format.specs.declared.kind.FoundKind.the-variants.{Known, Unknow
 use Rattle.aff_open.specs.declared.reader.Reader.{Reader}
 
 -- The edition of 64 bits: 0, which does not exist, where it has more than 32.
-unfoldable pub editionIn : ℕ → ℕ
-editionIn n = cond (ltb 4294967295 n) 0 n
+unfoldable pub editionNumberIn : ℕ → ℕ
+editionNumberIn n = cond (ltb 4294967295 n) 0 n
 
 -- The record of the 12 numbers that `aff_open_image` writes; the first, a place, is no part of it.
 unfoldable pub readerIn : List ℕ → Reader
 readerIn l =
     record {
       length = getD l 1 0;
-      edition = editionIn (getD l 2 0);
+      edition = editionNumberIn (getD l 2 0);
       symbols = record { offset = getD l 3 0; size = getD l 4 0 };
       tree = record { offset = getD l 5 0; size = getD l 6 0 };
       «data» = record { offset = getD l 7 0; size = getD l 8 0 };
@@ -56,7 +56,7 @@ imaginaryPart (Int z) = ofInt binary64 (pos 0)
 imaginaryPart (Real x) = ofInt binary64 (pos 0)
 imaginaryPart (Pair x y) = y
 
--- An element of a held view whose kind is told by its code: 255 where no kind has it.
+-- An element of a held view whose kind is reported by its code: 255 where no kind has it.
 abbrev pub decodedBy : FoundKind → List ℕ → ℕ → Answer Element
 decodedBy (Known kind) bytes index = decoded kind bytes index
 decodedBy Unknown bytes index = refused (refusal 255)

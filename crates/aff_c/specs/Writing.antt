@@ -5,16 +5,16 @@ use Prim.Native.Nat.{ℕ}
 use lib.Dec.{eqb}
 use lib.ListN.{length, getD, set}
 use Rattle.aff_format.specs.Answer.{Answer, accepted, refused}
-use Rattle.aff_format.specs.declared.refusal.Told.{Told}
+use Rattle.aff_format.specs.declared.refusal.RefusalCode.{RefusalCode}
+use Rattle.aff_areas.specs.Stores.{bufferAfter}
+use Rattle.aff_areas.specs.Writer.{stopped, areaAfter}
+use Rattle.aff_areas.specs.declared.writer.Writer.{Writer}
 use Rattle.aff_write.specs.Begin.{beginAnswer, beginWriter}
 use Rattle.aff_write.specs.Close.{closeStores, closeAnswer}
 use Rattle.aff_write.specs.Make.{madeWriter, madeText, madeTree, makeAnswer}
 use Rattle.aff_write.specs.Put.{putStores, putWriter, putTree, putAnswer}
-use Rattle.aff_write.specs.Stores.{roomAfter}
-use Rattle.aff_write.specs.Writer.{stopped, areaAfter}
-use Rattle.aff_write.specs.declared.writer.Writer.{Writer}
 
--- The record of 7 numbers and 12 bytes of form; the first number, what the last call told, is no part of it.
+-- The record of 7 numbers and 12 bytes of form; the first number, what the last call reported, is no part of it.
 unfoldable pub writerIn : List ℕ → List ℕ → Writer
 writerIn l form =
     record {
@@ -27,18 +27,18 @@ writerIn l form =
       live = eqb (getD l 6 0) 1;
     }
 
--- What a call told and a record as 7 numbers.
+-- What a call reported and a record as 7 numbers.
 unfoldable pub numbersBy : ℕ → Writer → List ℕ
-numbersBy told w = told ∷ w .length ∷ w .strings ∷ w .text ∷ w .nodes ∷ w .«data» ∷ cond (w .live) 1 0 ∷ []
+numbersBy reported w = reported ∷ w .length ∷ w .strings ∷ w .text ∷ w .nodes ∷ w .«data» ∷ cond (w .live) 1 0 ∷ []
 
--- What an answer tells: its value, or the refusal's place.
-abbrev pub toldNumber : Answer ℕ → ℕ
-toldNumber (accepted n) = n
-toldNumber (refused t) = t .place
+-- What an answer reports: its value, or the refusal's place.
+abbrev pub reportedNumber : Answer ℕ → ℕ
+reportedNumber (accepted n) = n
+reportedNumber (refused t) = t .place
 
 module _ (numbers : List ℕ) where
   -- The numbers after a refusal: after 23 the place and a stopped record; after any other the caller's numbers, with the place in numbers[0].
-  abbrev pub numbersRefused : Told → Writer → List ℕ
+  abbrev pub numbersRefused : RefusalCode → Writer → List ℕ
   numbersRefused t halted = cond (eqb (t .number) 23) (numbersBy (t .place) halted) (set numbers 0 (t .place))
 
   -- The numbers after an answer: the value and the next record where it is accepted.
@@ -46,14 +46,14 @@ module _ (numbers : List ℕ) where
   numbersLeft (accepted n) next halted = numbersBy n next
   numbersLeft (refused t) next halted = numbersRefused t halted
 
-module _ (room form text tree : List ℕ) (allowance : ℕ) where
-  abbrev pub begunBy : Answer ℕ
-  begunBy = beginAnswer room form text tree allowance
+module _ (buffer form text tree : List ℕ) (allowance : ℕ) where
+  abbrev pub beginReturned : Answer ℕ
+  beginReturned = beginAnswer buffer form text tree allowance
 
   abbrev pub begunRecord : Writer
-  begunRecord = beginWriter begunBy (length room) form
+  begunRecord = beginWriter beginReturned (length buffer) form
 
-module _ (room numbers kept text tree : List ℕ) where
+module _ (buffer numbers kept text tree : List ℕ) where
   abbrev pub given : Writer
   given = writerIn numbers kept
 
@@ -62,37 +62,37 @@ module _ (room numbers kept text tree : List ℕ) where
   numbersAfter answer next = numbersLeft numbers answer next (stopped given)
 
   module _ (parent : ℕ) (name : List ℕ) where
-    abbrev pub madeBy : Answer ℕ
-    madeBy = makeAnswer (length room) given text tree parent name
+    abbrev pub makeReturned : Answer ℕ
+    makeReturned = makeAnswer (length buffer) given text tree parent name
 
     unfoldable pub numbersMade : List ℕ
-    numbersMade = numbersAfter madeBy (madeWriter given text name)
+    numbersMade = numbersAfter makeReturned (madeWriter given text name)
 
     unfoldable pub textMade : List ℕ
-    textMade = areaAfter madeBy (madeText given text name) text
+    textMade = areaAfter makeReturned (madeText given text name) text
 
     unfoldable pub treeMade : List ℕ
-    treeMade = areaAfter madeBy (madeTree given text tree parent name) tree
+    treeMade = areaAfter makeReturned (madeTree given text tree parent name) tree
 
   module _ (node kind : ℕ) (bytes : List ℕ) (allowance : ℕ) where
-    abbrev pub putBy : Answer ℕ
-    putBy = putAnswer (length room) given text tree node kind bytes allowance
+    abbrev pub putReturned : Answer ℕ
+    putReturned = putAnswer (length buffer) given text tree node kind bytes allowance
 
     unfoldable pub numbersPut : List ℕ
-    numbersPut = numbersAfter putBy (putWriter given bytes)
+    numbersPut = numbersAfter putReturned (putWriter given bytes)
 
-    unfoldable pub roomPut : List ℕ
-    roomPut = roomAfter putBy (putStores given bytes) room
+    unfoldable pub bufferPut : List ℕ
+    bufferPut = bufferAfter putReturned (putStores given bytes) buffer
 
     unfoldable pub treePut : List ℕ
-    treePut = areaAfter putBy (putTree given tree node kind bytes) tree
+    treePut = areaAfter putReturned (putTree given tree node kind bytes) tree
 
   module _ (allowance : ℕ) where
-    abbrev pub closedBy : Answer ℕ
-    closedBy = closeAnswer room given text tree allowance
+    abbrev pub closeReturned : Answer ℕ
+    closeReturned = closeAnswer buffer given text tree allowance
 
     unfoldable pub numbersClosed : List ℕ
-    numbersClosed = numbersAfter closedBy (stopped given)
+    numbersClosed = numbersAfter closeReturned (stopped given)
 
-    unfoldable pub roomClosed : List ℕ
-    roomClosed = roomAfter closedBy (closeStores room given text tree) room
+    unfoldable pub bufferClosed : List ℕ
+    bufferClosed = bufferAfter closeReturned (closeStores buffer given text tree) buffer

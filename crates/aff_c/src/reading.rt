@@ -1,17 +1,6 @@
-// Reading for programs in C and Rust that link the static library of this crate: lookup, listing order, what a node is, one element of its
-// data, and one element of data whose place the caller holds. In C the functions are
-//     uint32_t aff_lookup(const uint8_t *image, size_t image_length, const uint64_t *record, const uint32_t *strings, size_t strings_length,
-//         const uint32_t *entries, size_t entries_length, const uint8_t *path, size_t path_length, uint64_t *node);
-//     uint32_t aff_listing(.., uint32_t *output, size_t output_length, uint64_t *count);
-//     uint32_t aff_name(.., uint64_t node, uint64_t *offset, uint64_t *size);
-//     uint32_t aff_kind(.., uint64_t node, uint64_t *kind);
-//     uint32_t aff_count(.., uint64_t node, uint64_t *count);
-//     uint32_t aff_path(.., uint64_t node, uint8_t *output, size_t output_length, uint64_t *size);
-//     uint32_t aff_view(.., uint64_t node, uint64_t *offset, uint64_t *size);
-//     uint32_t aff_element(.., uint64_t node, uint64_t index, double *value, double *imaginary);
-//     uint32_t aff_decode(uint64_t kind, const uint8_t *bytes, size_t bytes_length, uint64_t index, double *value, double *imaginary);
-// where `..` are image, record, strings and entries as in `aff_lookup`. The record has 12 numbers, as `aff_open_image` writes them. Each
-// function returns 0 where the call is accepted, else the refusal's number, and then leaves what it is lent.
+// Reading for programs in C and Rust: lookup, listing order, what a node is, one element of its data, and one element of data whose place the caller
+// holds, as include/aff.h declares them. The record has 12 numbers, as `aff_open_image` writes them. Each function returns 0 where the call is
+// accepted, else the refusal's number, and then leaves the caller's memory as it was.
 use aff_format::Element;
 use aff_format::ElementAnswer;
 use aff_format::FoundKind;
@@ -24,18 +13,19 @@ use aff_read::KindAnswer;
 use aff_read::PartAnswer;
 ghost use mathlib.Core.Path.{_≡_};
 ghost use Prim.Native.Nat.{ℕ};
-ghost use Rattle.aff_format.specs.Element.{elementTold};
+ghost use Rattle.aff_format.specs.Element.{answerOfElement};
 ghost use Rattle.aff_open.specs.declared.reader.Span.{Span};
 ghost use lib.ListN.{length};
 ghost use Rattle.aff_format.specs.Kind.{kindCode};
-ghost use Rattle.aff_format.specs.Verdict.{numberTold};
-ghost use Rattle.aff_read.specs.Answers.{kindTold, partTold, nameAnswer, kindAnswer, countAnswer, viewAnswer, elementAnswer};
-ghost use Rattle.aff_read.specs.Calls.{frontWritten, pathAnswer, lookupAnswer, order, listingAnswer};
+ghost use Rattle.aff_format.specs.Verdict.{answerOfNumber};
+ghost use Rattle.aff_read.specs.Answers.{answerOfKind, answerOfPart, nameAnswer, kindAnswer, countAnswer, viewAnswer, elementAnswer};
+ghost use Rattle.aff_read.specs.Paths.{frontWritten, pathAnswer, lookupAnswer};
 ghost use Rattle.aff_read.specs.Recall.{pathAt};
-ghost use Rattle.aff_c.specs.Reading.{editionIn, readerIn, numberBy, leftBy, realPart, imaginaryPart, decodedAnswer};
+ghost use Rattle.aff_c.specs.Reading.{editionNumberIn, readerIn, numberBy, leftBy, realPart, imaginaryPart, decodedAnswer};
+ghost use Rattle.aff_read.specs.ListingOrder.{listingOrder, listingAnswer};
 
 fn edition_of(number: u64) -> u32
-    ensures { λ r. ⌜ r ≡ editionIn number ⌝ }
+    ensures { λ r. ⌜ r ≡ editionNumberIn number ⌝ }
 {
     if 4294967295 < number {
         return 0;
@@ -90,9 +80,9 @@ fn imaginary_part(element: Element) -> f64
 }
 
 fn put_element(answer: ElementAnswer, value: &mut f64, imaginary: &mut f64) -> u32
-    ensures number { λ r. ⌜ r ≡ numberBy (elementTold answer) ⌝ }
-    ensures value { λ _. ⌜ now (value .exit) ≡ leftBy realPart (now (value .entry)) (elementTold answer) ⌝ }
-    ensures imaginary { λ _. ⌜ now (imaginary .exit) ≡ leftBy imaginaryPart (now (imaginary .entry)) (elementTold answer) ⌝ }
+    ensures number { λ r. ⌜ r ≡ numberBy (answerOfElement answer) ⌝ }
+    ensures value { λ _. ⌜ now (value .exit) ≡ leftBy realPart (now (value .entry)) (answerOfElement answer) ⌝ }
+    ensures imaginary { λ _. ⌜ now (imaginary .exit) ≡ leftBy imaginaryPart (now (imaginary .entry)) (answerOfElement answer) ⌝ }
 {
     match answer {
         ElementAnswer::Value(element) => {
@@ -105,8 +95,8 @@ fn put_element(answer: ElementAnswer, value: &mut f64, imaginary: &mut f64) -> u
 }
 
 fn put_number(answer: NumberAnswer, number: &mut u64) -> u32
-    ensures number { λ r. ⌜ r ≡ numberBy (numberTold answer) ⌝ }
-    ensures value { λ _. ⌜ now (number .exit) ≡ leftBy (λ (n : ℕ). n) (now (number .entry)) (numberTold answer) ⌝ }
+    ensures number { λ r. ⌜ r ≡ numberBy (answerOfNumber answer) ⌝ }
+    ensures value { λ _. ⌜ now (number .exit) ≡ leftBy (λ (n : ℕ). n) (now (number .entry)) (answerOfNumber answer) ⌝ }
 {
     match answer {
         NumberAnswer::Value(value) => {
@@ -118,9 +108,9 @@ fn put_number(answer: NumberAnswer, number: &mut u64) -> u32
 }
 
 fn put_span(answer: PartAnswer, offset: &mut u64, size: &mut u64) -> u32
-    ensures number { λ r. ⌜ r ≡ numberBy (partTold answer) ⌝ }
-    ensures offset { λ _. ⌜ now (offset .exit) ≡ leftBy (λ (s : Span). s .offset) (now (offset .entry)) (partTold answer) ⌝ }
-    ensures size { λ _. ⌜ now (size .exit) ≡ leftBy (λ (s : Span). s .size) (now (size .entry)) (partTold answer) ⌝ }
+    ensures number { λ r. ⌜ r ≡ numberBy (answerOfPart answer) ⌝ }
+    ensures offset { λ _. ⌜ now (offset .exit) ≡ leftBy (λ (s : Span). s .offset) (now (offset .entry)) (answerOfPart answer) ⌝ }
+    ensures size { λ _. ⌜ now (size .exit) ≡ leftBy (λ (s : Span). s .size) (now (size .entry)) (answerOfPart answer) ⌝ }
 {
     match answer {
         PartAnswer::At(span) => {
@@ -133,8 +123,8 @@ fn put_span(answer: PartAnswer, offset: &mut u64, size: &mut u64) -> u32
 }
 
 fn put_kind(answer: KindAnswer, kind: &mut u64) -> u32
-    ensures number { λ r. ⌜ r ≡ numberBy (kindTold answer) ⌝ }
-    ensures kind { λ _. ⌜ now (kind .exit) ≡ leftBy kindCode (now (kind .entry)) (kindTold answer) ⌝ }
+    ensures number { λ r. ⌜ r ≡ numberBy (answerOfKind answer) ⌝ }
+    ensures kind { λ _. ⌜ now (kind .exit) ≡ leftBy kindCode (now (kind .entry)) (answerOfKind answer) ⌝ }
 {
     match answer {
         KindAnswer::Value(value) => {
@@ -162,7 +152,7 @@ pub extern "C" fn aff_lookup(
     put_number(answer, node)
 }
 
-// Where the name of a node stands in the image, as `aff_read::node::name_bounds` tells.
+// Where the name of a node stands in the image, as `aff_read::node::name_bounds` reports.
 #[no_mangle]
 pub extern "C" fn aff_name(
     image: &[u8],
@@ -187,7 +177,7 @@ pub extern "C" fn aff_name(
     put_span(answer, offset, size)
 }
 
-// The code of a node's kind, as `aff_read::node::kind` tells.
+// The code of a node's kind, as `aff_read::node::kind` reports.
 #[no_mangle]
 pub extern "C" fn aff_kind(
     image: &[u8],
@@ -204,7 +194,7 @@ pub extern "C" fn aff_kind(
     put_kind(answer, kind)
 }
 
-// How many elements a node has, as `aff_read::node::count` tells.
+// How many elements a node has, as `aff_read::node::count` reports.
 #[no_mangle]
 pub extern "C" fn aff_count(
     image: &[u8],
@@ -221,7 +211,7 @@ pub extern "C" fn aff_count(
     put_number(answer, count)
 }
 
-// Writes a node's path at the front of an output, as `aff_read::paths::path` does, and tells its length.
+// Writes a node's path at the front of an output, as `aff_read::paths::path` does, and reports its length.
 #[no_mangle]
 pub extern "C" fn aff_path(
     image: &[u8],
@@ -247,7 +237,7 @@ pub extern "C" fn aff_path(
     put_number(answer, size)
 }
 
-// Writes listing order at the front of an output, as `aff_read::lister::listing` does, and tells how many numbers it has.
+// Writes listing order at the front of an output, as `aff_read::listing::listing` does, and reports how many numbers it has.
 #[no_mangle]
 pub extern "C" fn aff_listing(
     image: &[u8],
@@ -258,14 +248,14 @@ pub extern "C" fn aff_listing(
     count: &mut u64,
 ) -> u32
     ensures number { λ r. ⌜ r ≡ numberBy (listingAnswer (now (image .entry)) (readerIn (now («record» .entry))) (now (strings .entry)) (now (entries .entry)) (length (now (output .entry)))) ⌝ }
-    ensures output { λ _. ⌜ now (output .exit) ≡ frontWritten (listingAnswer (now (image .entry)) (readerIn (now («record» .entry))) (now (strings .entry)) (now (entries .entry)) (length (now (output .entry)))) (order (now (image .entry)) (readerIn (now («record» .entry))) (now (strings .entry)) (now (entries .entry))) (now (output .entry)) ⌝ }
+    ensures output { λ _. ⌜ now (output .exit) ≡ frontWritten (listingAnswer (now (image .entry)) (readerIn (now («record» .entry))) (now (strings .entry)) (now (entries .entry)) (length (now (output .entry)))) (listingOrder (now (image .entry)) (readerIn (now («record» .entry))) (now (strings .entry)) (now (entries .entry))) (now (output .entry)) ⌝ }
     ensures count { λ _. ⌜ now (count .exit) ≡ leftBy (λ (n : ℕ). n) (now (count .entry)) (listingAnswer (now (image .entry)) (readerIn (now («record» .entry))) (now (strings .entry)) (now (entries .entry)) (length (now (output .entry)))) ⌝ }
 {
-    let answer = aff_read::lister::listing(image, reader_of(record), strings, entries, output);
+    let answer = aff_read::listing::listing(image, reader_of(record), strings, entries, output);
     put_number(answer, count)
 }
 
-// Where the data of a node stand in the image, as `aff_read::node::view_bounds` tells.
+// Where the data of a node stand in the image, as `aff_read::node::view_bounds` reports.
 #[no_mangle]
 pub extern "C" fn aff_view(
     image: &[u8],
@@ -290,7 +280,7 @@ pub extern "C" fn aff_view(
     put_span(answer, offset, size)
 }
 
-// One element of a node's data, as `aff_read::node::element` tells.
+// One element of a node's data, as `aff_read::node::element` reports.
 #[no_mangle]
 pub extern "C" fn aff_element(
     image: &[u8],
@@ -317,7 +307,7 @@ pub extern "C" fn aff_element(
     put_element(answer, value, imaginary)
 }
 
-// One element of data that the caller holds, as `aff_format::element::decode` tells; 255 where no kind has the code.
+// One element of data that the caller holds, as `aff_format::element::decode` reports; 255 where no kind has the code.
 #[no_mangle]
 pub extern "C" fn aff_decode(
     kind: u64,

@@ -1,27 +1,19 @@
-// Writing for programs in C and Rust that link the static library of this crate: begin, make a child, put data, close. In C the functions are
-//     uint32_t aff_begin(uint8_t *room, size_t room_length, const uint8_t *form, size_t form_length, uint8_t *text, size_t text_length,
-//         uint8_t *tree, size_t tree_length, uint64_t allowance, uint64_t *numbers, uint8_t *kept);
-//     uint32_t aff_make(const uint8_t *room, size_t room_length, uint64_t *numbers, const uint8_t *kept, uint8_t *text, size_t text_length,
-//         uint8_t *tree, size_t tree_length, uint64_t parent, const uint8_t *name, size_t name_length);
-//     uint32_t aff_put(uint8_t *room, size_t room_length, uint64_t *numbers, const uint8_t *kept, const uint8_t *text, size_t text_length,
-//         uint8_t *tree, size_t tree_length, uint64_t node, uint64_t kind, const uint8_t *bytes, size_t bytes_length, uint64_t allowance);
-//     uint32_t aff_close(uint8_t *room, size_t room_length, uint64_t *numbers, const uint8_t *kept, const uint8_t *text, size_t text_length,
-//         const uint8_t *tree, size_t tree_length, uint64_t allowance);
-// The record is 7 numbers and the 12 bytes of form. The numbers are what the last call told (the stores made, the new node, or the place that a
-// refusal tells), the room's length, strings, bytes of text, nodes, bytes of data, and 1 while the file is neither closed nor stopped. Each
-// function returns 0 where the call is accepted, else the refusal's number.
+// Writing for programs in C and Rust: begin, make a child, put data, close, as include/aff.h declares them. The record is 7 numbers and the 12 bytes of
+// form. The numbers are what the last call returned (the bytes stored, the new node, or a refusal's place), the buffer's length, strings, bytes of
+// text, nodes, bytes of data, and 1 while the file is neither closed nor stopped. Each function returns 0 where the call is accepted, else the
+// refusal's number.
 use aff_format::NumberAnswer;
 use aff_format::Refusal;
 use aff_write::Writer;
 use aff_write::Writing;
 ghost use mathlib.Core.Path.{_≡_};
 ghost use mathlib.Core.Bool.{cond};
-ghost use Rattle.aff_format.specs.Refusal.{toldRefusal};
-ghost use Rattle.aff_format.specs.Verdict.{numberTold};
+ghost use Rattle.aff_format.specs.Refusal.{codeOfRefusal};
+ghost use Rattle.aff_format.specs.Verdict.{answerOfNumber};
+ghost use Rattle.aff_areas.specs.Stores.{bufferAfter};
 ghost use Rattle.aff_write.specs.Begin.{beginStores, beginArea};
-ghost use Rattle.aff_write.specs.Stores.{roomAfter};
 ghost use Rattle.aff_c.specs.Reading.{numberBy};
-ghost use Rattle.aff_c.specs.Writing.{writerIn, numbersBy, toldNumber, numbersRefused, numbersLeft, begunBy, begunRecord, madeBy, numbersMade, textMade, treeMade, putBy, numbersPut, roomPut, treePut, closedBy, numbersClosed, roomClosed};
+ghost use Rattle.aff_c.specs.Writing.{writerIn, numbersBy, reportedNumber, numbersRefused, numbersLeft, beginReturned, begunRecord, makeReturned, numbersMade, textMade, treeMade, putReturned, numbersPut, bufferPut, treePut, closeReturned, numbersClosed, bufferClosed};
 
 fn writer_of(numbers: &[u64; 7], kept: &[u8; 12]) -> Writer
     ensures { λ r. ⌜ r ≡ writerIn (now (numbers .entry)) (now (kept .entry)) ⌝ }
@@ -44,11 +36,11 @@ fn flag(live: bool) -> u64
     if live { 1 } else { 0 }
 }
 
-fn numbers_by(told: usize, writer: Writer) -> [u64; 7]
-    ensures { λ r. ⌜ r ≡ numbersBy told writer ⌝ }
+fn numbers_by(reported: usize, writer: Writer) -> [u64; 7]
+    ensures { λ r. ⌜ r ≡ numbersBy reported writer ⌝ }
 {
     [
-        told as u64,
+        reported as u64,
         writer.length as u64,
         writer.strings as u64,
         writer.text as u64,
@@ -59,7 +51,7 @@ fn numbers_by(told: usize, writer: Writer) -> [u64; 7]
 }
 
 fn number_by(answer: NumberAnswer) -> u32
-    ensures { λ r. ⌜ r ≡ numberBy (numberTold answer) ⌝ }
+    ensures { λ r. ⌜ r ≡ numberBy (answerOfNumber answer) ⌝ }
 {
     match answer {
         NumberAnswer::Value(_) => 0,
@@ -67,8 +59,8 @@ fn number_by(answer: NumberAnswer) -> u32
     }
 }
 
-fn told_number(answer: NumberAnswer) -> usize
-    ensures { λ r. ⌜ r ≡ toldNumber (numberTold answer) ⌝ }
+fn reported_number(answer: NumberAnswer) -> usize
+    ensures { λ r. ⌜ r ≡ reportedNumber (answerOfNumber answer) ⌝ }
 {
     match answer {
         NumberAnswer::Value(n) => n,
@@ -78,19 +70,19 @@ fn told_number(answer: NumberAnswer) -> usize
 
 // Stores what begin returned and its record: all zero after 1 and 21, stopped after 23.
 fn leave(done: Writing, numbers: &mut [u64; 7]) -> u32
-    ensures number { λ r. ⌜ r ≡ numberBy (numberTold (done .answer)) ⌝ }
-    ensures numbers { λ _. ⌜ now (numbers .exit) ≡ numbersBy (toldNumber (numberTold (done .answer))) (done .writer) ⌝ }
+    ensures number { λ r. ⌜ r ≡ numberBy (answerOfNumber (done .answer)) ⌝ }
+    ensures numbers { λ _. ⌜ now (numbers .exit) ≡ numbersBy (reportedNumber (answerOfNumber (done .answer))) (done .writer) ⌝ }
 {
     let answer = done.answer;
     let writer = done.writer;
-    *numbers = numbers_by(told_number(answer), writer);
+    *numbers = numbers_by(reported_number(answer), writer);
     number_by(answer)
 }
 
 // Stores what a refusal leaves: after 23 the record, which is stopped; after any other refusal only its place, in numbers[0].
 fn leave_refused(refusal: Refusal, writer: Writer, numbers: &mut [u64; 7]) -> u32
-    ensures number { λ r. ⌜ r ≡ toldRefusal refusal .number ⌝ }
-    ensures numbers { λ _. ⌜ now (numbers .exit) ≡ numbersRefused (now (numbers .entry)) (toldRefusal refusal) writer ⌝ }
+    ensures number { λ r. ⌜ r ≡ codeOfRefusal refusal .number ⌝ }
+    ensures numbers { λ _. ⌜ now (numbers .exit) ≡ numbersRefused (now (numbers .entry)) (codeOfRefusal refusal) writer ⌝ }
 {
     let number = refusal.number();
     let place = refusal.place();
@@ -104,8 +96,8 @@ fn leave_refused(refusal: Refusal, writer: Writer, numbers: &mut [u64; 7]) -> u3
 
 // Stores what a make, put or close leaves: what it returned and its record where it is accepted, else what the refusal leaves.
 fn leave_next(done: Writing, numbers: &mut [u64; 7]) -> u32
-    ensures number { λ r. ⌜ r ≡ numberBy (numberTold (done .answer)) ⌝ }
-    ensures numbers { λ _. ⌜ now (numbers .exit) ≡ numbersLeft (now (numbers .entry)) (numberTold (done .answer)) (done .writer) (done .writer) ⌝ }
+    ensures number { λ r. ⌜ r ≡ numberBy (answerOfNumber (done .answer)) ⌝ }
+    ensures numbers { λ _. ⌜ now (numbers .exit) ≡ numbersLeft (now (numbers .entry)) (answerOfNumber (done .answer)) (done .writer) (done .writer) ⌝ }
 {
     let answer = done.answer;
     let writer = done.writer;
@@ -118,10 +110,10 @@ fn leave_next(done: Writing, numbers: &mut [u64; 7]) -> u32
     }
 }
 
-// Begins a file in a room, as `aff_write::begin` does, and leaves the record's numbers and form.
+// Begins a file in a buffer, as `aff_write::begin` does, and leaves the record's numbers and form.
 #[no_mangle]
 pub extern "C" fn aff_begin(
-    room: &mut [u8],
+    buffer: &mut [u8],
     form: &[u8],
     text: &mut [u8],
     tree: &mut [u8],
@@ -129,14 +121,14 @@ pub extern "C" fn aff_begin(
     numbers: &mut [u64; 7],
     kept: &mut [u8; 12],
 ) -> u32
-    ensures number { λ r. ⌜ r ≡ numberBy (begunBy (now (room .entry)) (now (form .entry)) (now (text .entry)) (now (tree .entry)) allowance) ⌝ }
-    ensures numbers { λ _. ⌜ now (numbers .exit) ≡ numbersBy (toldNumber (begunBy (now (room .entry)) (now (form .entry)) (now (text .entry)) (now (tree .entry)) allowance)) (begunRecord (now (room .entry)) (now (form .entry)) (now (text .entry)) (now (tree .entry)) allowance) ⌝ }
-    ensures kept { λ _. ⌜ now (kept .exit) ≡ begunRecord (now (room .entry)) (now (form .entry)) (now (text .entry)) (now (tree .entry)) allowance .form ⌝ }
-    ensures room { λ _. ⌜ now (room .exit) ≡ roomAfter (begunBy (now (room .entry)) (now (form .entry)) (now (text .entry)) (now (tree .entry)) allowance) beginStores (now (room .entry)) ⌝ }
-    ensures text { λ _. ⌜ now (text .exit) ≡ beginArea (begunBy (now (room .entry)) (now (form .entry)) (now (text .entry)) (now (tree .entry)) allowance) (now (text .entry)) ⌝ }
-    ensures tree { λ _. ⌜ now (tree .exit) ≡ beginArea (begunBy (now (room .entry)) (now (form .entry)) (now (text .entry)) (now (tree .entry)) allowance) (now (tree .entry)) ⌝ }
+    ensures number { λ r. ⌜ r ≡ numberBy (beginReturned (now (buffer .entry)) (now (form .entry)) (now (text .entry)) (now (tree .entry)) allowance) ⌝ }
+    ensures numbers { λ _. ⌜ now (numbers .exit) ≡ numbersBy (reportedNumber (beginReturned (now (buffer .entry)) (now (form .entry)) (now (text .entry)) (now (tree .entry)) allowance)) (begunRecord (now (buffer .entry)) (now (form .entry)) (now (text .entry)) (now (tree .entry)) allowance) ⌝ }
+    ensures kept { λ _. ⌜ now (kept .exit) ≡ begunRecord (now (buffer .entry)) (now (form .entry)) (now (text .entry)) (now (tree .entry)) allowance .form ⌝ }
+    ensures buffer { λ _. ⌜ now (buffer .exit) ≡ bufferAfter (beginReturned (now (buffer .entry)) (now (form .entry)) (now (text .entry)) (now (tree .entry)) allowance) beginStores (now (buffer .entry)) ⌝ }
+    ensures text { λ _. ⌜ now (text .exit) ≡ beginArea (beginReturned (now (buffer .entry)) (now (form .entry)) (now (text .entry)) (now (tree .entry)) allowance) (now (text .entry)) ⌝ }
+    ensures tree { λ _. ⌜ now (tree .exit) ≡ beginArea (beginReturned (now (buffer .entry)) (now (form .entry)) (now (text .entry)) (now (tree .entry)) allowance) (now (tree .entry)) ⌝ }
 {
-    let done = aff_write::begin(room, form, text, tree, allowance as usize);
+    let done = aff_write::begin(buffer, form, text, tree, allowance as usize);
     let writer = done.writer;
     let bytes = writer.form;
     *kept = bytes;
@@ -146,7 +138,7 @@ pub extern "C" fn aff_begin(
 // Makes a child, as `aff_write::make` does.
 #[no_mangle]
 pub extern "C" fn aff_make(
-    room: &[u8],
+    buffer: &[u8],
     numbers: &mut [u64; 7],
     kept: &[u8; 12],
     text: &mut [u8],
@@ -154,20 +146,20 @@ pub extern "C" fn aff_make(
     parent: u64,
     name: &[u8],
 ) -> u32
-    ensures number { λ r. ⌜ r ≡ numberBy (madeBy (now (room .entry)) (now (numbers .entry)) (now (kept .entry)) (now (text .entry)) (now (tree .entry)) parent (now (name .entry))) ⌝ }
-    ensures numbers { λ _. ⌜ now (numbers .exit) ≡ numbersMade (now (room .entry)) (now (numbers .entry)) (now (kept .entry)) (now (text .entry)) (now (tree .entry)) parent (now (name .entry)) ⌝ }
-    ensures text { λ _. ⌜ now (text .exit) ≡ textMade (now (room .entry)) (now (numbers .entry)) (now (kept .entry)) (now (text .entry)) (now (tree .entry)) parent (now (name .entry)) ⌝ }
-    ensures tree { λ _. ⌜ now (tree .exit) ≡ treeMade (now (room .entry)) (now (numbers .entry)) (now (kept .entry)) (now (text .entry)) (now (tree .entry)) parent (now (name .entry)) ⌝ }
+    ensures number { λ r. ⌜ r ≡ numberBy (makeReturned (now (buffer .entry)) (now (numbers .entry)) (now (kept .entry)) (now (text .entry)) (now (tree .entry)) parent (now (name .entry))) ⌝ }
+    ensures numbers { λ _. ⌜ now (numbers .exit) ≡ numbersMade (now (buffer .entry)) (now (numbers .entry)) (now (kept .entry)) (now (text .entry)) (now (tree .entry)) parent (now (name .entry)) ⌝ }
+    ensures text { λ _. ⌜ now (text .exit) ≡ textMade (now (buffer .entry)) (now (numbers .entry)) (now (kept .entry)) (now (text .entry)) (now (tree .entry)) parent (now (name .entry)) ⌝ }
+    ensures tree { λ _. ⌜ now (tree .exit) ≡ treeMade (now (buffer .entry)) (now (numbers .entry)) (now (kept .entry)) (now (text .entry)) (now (tree .entry)) parent (now (name .entry)) ⌝ }
 {
     let writer = writer_of(numbers, kept);
-    let done = aff_write::make(room, writer, text, tree, parent as usize, name);
+    let done = aff_write::make(buffer, writer, text, tree, parent as usize, name);
     leave_next(done, numbers)
 }
 
 // Puts data into a node, as `aff_write::put` does.
 #[no_mangle]
 pub extern "C" fn aff_put(
-    room: &mut [u8],
+    buffer: &mut [u8],
     numbers: &mut [u64; 7],
     kept: &[u8; 12],
     text: &[u8],
@@ -177,14 +169,14 @@ pub extern "C" fn aff_put(
     bytes: &[u8],
     allowance: u64,
 ) -> u32
-    ensures number { λ r. ⌜ r ≡ numberBy (putBy (now (room .entry)) (now (numbers .entry)) (now (kept .entry)) (now (text .entry)) (now (tree .entry)) node kind (now (bytes .entry)) allowance) ⌝ }
-    ensures numbers { λ _. ⌜ now (numbers .exit) ≡ numbersPut (now (room .entry)) (now (numbers .entry)) (now (kept .entry)) (now (text .entry)) (now (tree .entry)) node kind (now (bytes .entry)) allowance ⌝ }
-    ensures room { λ _. ⌜ now (room .exit) ≡ roomPut (now (room .entry)) (now (numbers .entry)) (now (kept .entry)) (now (text .entry)) (now (tree .entry)) node kind (now (bytes .entry)) allowance ⌝ }
-    ensures tree { λ _. ⌜ now (tree .exit) ≡ treePut (now (room .entry)) (now (numbers .entry)) (now (kept .entry)) (now (text .entry)) (now (tree .entry)) node kind (now (bytes .entry)) allowance ⌝ }
+    ensures number { λ r. ⌜ r ≡ numberBy (putReturned (now (buffer .entry)) (now (numbers .entry)) (now (kept .entry)) (now (text .entry)) (now (tree .entry)) node kind (now (bytes .entry)) allowance) ⌝ }
+    ensures numbers { λ _. ⌜ now (numbers .exit) ≡ numbersPut (now (buffer .entry)) (now (numbers .entry)) (now (kept .entry)) (now (text .entry)) (now (tree .entry)) node kind (now (bytes .entry)) allowance ⌝ }
+    ensures buffer { λ _. ⌜ now (buffer .exit) ≡ bufferPut (now (buffer .entry)) (now (numbers .entry)) (now (kept .entry)) (now (text .entry)) (now (tree .entry)) node kind (now (bytes .entry)) allowance ⌝ }
+    ensures tree { λ _. ⌜ now (tree .exit) ≡ treePut (now (buffer .entry)) (now (numbers .entry)) (now (kept .entry)) (now (text .entry)) (now (tree .entry)) node kind (now (bytes .entry)) allowance ⌝ }
 {
     let writer = writer_of(numbers, kept);
     let done = aff_write::put(
-        room,
+        buffer,
         writer,
         text,
         tree,
@@ -199,18 +191,18 @@ pub extern "C" fn aff_put(
 // Closes the file, as `aff_write::close` does.
 #[no_mangle]
 pub extern "C" fn aff_close(
-    room: &mut [u8],
+    buffer: &mut [u8],
     numbers: &mut [u64; 7],
     kept: &[u8; 12],
     text: &[u8],
     tree: &[u8],
     allowance: u64,
 ) -> u32
-    ensures number { λ r. ⌜ r ≡ numberBy (closedBy (now (room .entry)) (now (numbers .entry)) (now (kept .entry)) (now (text .entry)) (now (tree .entry)) allowance) ⌝ }
-    ensures numbers { λ _. ⌜ now (numbers .exit) ≡ numbersClosed (now (room .entry)) (now (numbers .entry)) (now (kept .entry)) (now (text .entry)) (now (tree .entry)) allowance ⌝ }
-    ensures room { λ _. ⌜ now (room .exit) ≡ roomClosed (now (room .entry)) (now (numbers .entry)) (now (kept .entry)) (now (text .entry)) (now (tree .entry)) allowance ⌝ }
+    ensures number { λ r. ⌜ r ≡ numberBy (closeReturned (now (buffer .entry)) (now (numbers .entry)) (now (kept .entry)) (now (text .entry)) (now (tree .entry)) allowance) ⌝ }
+    ensures numbers { λ _. ⌜ now (numbers .exit) ≡ numbersClosed (now (buffer .entry)) (now (numbers .entry)) (now (kept .entry)) (now (text .entry)) (now (tree .entry)) allowance ⌝ }
+    ensures buffer { λ _. ⌜ now (buffer .exit) ≡ bufferClosed (now (buffer .entry)) (now (numbers .entry)) (now (kept .entry)) (now (text .entry)) (now (tree .entry)) allowance ⌝ }
 {
     let writer = writer_of(numbers, kept);
-    let done = aff_write::close(room, writer, text, tree, allowance as usize);
+    let done = aff_write::close(buffer, writer, text, tree, allowance as usize);
     leave_next(done, numbers)
 }

@@ -5,11 +5,11 @@ use mathlib.Core.List.{List, [], _∷_, _++_}
 use Prim.Native.Nat.{ℕ}
 use native.Mathlib.Omega.{arith}
 use lib.Dec.{eqb}
-use Rattle.aff_format.specs.declared.refusal.Told.{Told}
-use Rattle.aff_format.specs.Answer.{Answer, accepted, refused, Check, check, firstWrong, Clear}
+use Rattle.aff_format.specs.declared.refusal.RefusalCode.{RefusalCode}
+use Rattle.aff_format.specs.Answer.{accepted, refused, Check, check, firstWrong, Clear}
 
 -- No answer is both accepted and refused.
-pub not-both : {A X : Type 0} {a : A} {r : Told} → refused r ≡ accepted a → X
+pub not-both : {A X : Type 0} {a : A} {r : RefusalCode} → refused r ≡ accepted a → X
 not-both e = let z : _≡_ {A = ℕ} 0 1 = cc in absurd (omega arith)
 
 -- An accepted call: nothing was wrong, and the value is the call's.
@@ -28,30 +28,30 @@ pub clear-accepts : {A : Type 0} (checks : List Check) (a : A) → Clear checks 
 clear-accepts [] a h = refl
 clear-accepts (check wrong r ∷ checks) a h = rw (h .0) (clear-accepts checks a (h .1))
 
--- The first check that finds something wrong is the one that is told.
-pub first-told : {A : Type 0} (before : List Check) (r : Told) (checks : List Check) (a : A) → Clear before
+-- The first check that finds something wrong is the one that is reported.
+pub first-reported : {A : Type 0} (before : List Check) (r : RefusalCode) (checks : List Check) (a : A) → Clear before
     → firstWrong (before ++ (check true r ∷ checks)) a ≡ refused r
-first-told [] r checks a h = refl
-first-told (check wrong q ∷ before) r checks a h = rw (h .0) (first-told before r checks a (h .1))
+first-reported [] r checks a h = refl
+first-reported (check wrong q ∷ before) r checks a h = rw (h .0) (first-reported before r checks a (h .1))
 
 -- A refusal is that of a check that finds something wrong, and no check before it does.
-pub data FirstIs : List Check → Told → Type 0 where
-  here : {r : Told} {checks : List Check} → FirstIs (check true r ∷ checks) r
-  later : {q r : Told} {checks : List Check} → FirstIs checks r → FirstIs (check false q ∷ checks) r
+pub data FirstIs : List Check → RefusalCode → Type 0 where
+  here : {r : RefusalCode} {checks : List Check} → FirstIs (check true r ∷ checks) r
+  later : {q r : RefusalCode} {checks : List Check} → FirstIs checks r → FirstIs (check false q ∷ checks) r
 
-pub refused-by : {A : Type 0} (checks : List Check) (a : A) {r : Told} → firstWrong checks a ≡ refused r → FirstIs checks r
+pub refused-by : {A : Type 0} (checks : List Check) (a : A) {r : RefusalCode} → firstWrong checks a ≡ refused r → FirstIs checks r
 refused-by [] a e = let z : _≡_ {A = ℕ} 0 1 = cc in absurd (omega arith)
 refused-by (check true q ∷ checks) a {r} e = let p : q ≡ r = cc in rw p here
 refused-by (check false q ∷ checks) a e = later (refused-by checks a e)
 
 -- The checks do not look at the value.
-pub same-refusal : {A B : Type 0} (checks : List Check) (a : A) (b : B) {r : Told} → firstWrong checks a ≡ refused r → firstWrong checks b ≡ refused r
+pub same-refusal : {A B : Type 0} (checks : List Check) (a : A) (b : B) {r : RefusalCode} → firstWrong checks a ≡ refused r → firstWrong checks b ≡ refused r
 same-refusal [] a b e = let z : _≡_ {A = ℕ} 0 1 = cc in absurd (omega arith)
 same-refusal (check true q ∷ checks) a b e = cc
 same-refusal (check false q ∷ checks) a b e = same-refusal checks a b e
 
--- Checks and more checks behind them: a refusal of the first stands; where they pass, the others decide.
-pub refused-before : {A B : Type 0} (before after : List Check) (a : A) (b : B) {t : Told} → firstWrong before a ≡ refused t
+-- Checks and more checks after them: a refusal of the first stands; where they pass, the others decide.
+pub refused-before : {A B : Type 0} (before after : List Check) (a : A) (b : B) {t : RefusalCode} → firstWrong before a ≡ refused t
     → firstWrong (before ++ after) b ≡ refused t
 refused-before [] after a b e = let z : _≡_ {A = ℕ} 0 1 = cc in absurd (omega arith)
 refused-before (check true q ∷ before) after a b e = cc
@@ -69,27 +69,27 @@ clear-both (check wrong r ∷ before) after c = let (a, b) = clear-both before a
 
 -- ---- By number.
 
--- The checks tell other numbers than n.
+-- The checks report other numbers than n.
 abbrev pub Others : ℕ → List Check → Type 0
 Others n [] = Unit {0}
 Others n (check wrong t ∷ checks) = (eqb (t .number) n ≡ false) × Others n checks
 
-pub others-told : {A : Type 0} (n : ℕ) (checks : List Check) → Others n checks → (a : A) {t : Told} → firstWrong checks a ≡ refused t → eqb (t .number) n ≡ false
-others-told n [] o a e = not-both (sym e)
-others-told n (check true q ∷ checks) o a {t} e = let p : t ≡ q = cc in rw p (o .0)
-others-told n (check false q ∷ checks) o a e = others-told n checks (o .1) a e
+pub others-reported : {A : Type 0} (n : ℕ) (checks : List Check) → Others n checks → (a : A) {t : RefusalCode} → firstWrong checks a ≡ refused t → eqb (t .number) n ≡ false
+others-reported n [] o a e = not-both (sym e)
+others-reported n (check true q ∷ checks) o a {t} e = let p : t ≡ q = cc in rw p (o .0)
+others-reported n (check false q ∷ checks) o a e = others-reported n checks (o .1) a e
 
 -- Of two lists, one after the other.
 pub others-both : (n : ℕ) (before after : List Check) → Others n before → Others n after → Others n (before ++ after)
 others-both n [] after o p = p
 others-both n (check wrong t ∷ before) after o p = (o .0, others-both n before after (o .1) p)
 
--- A number that the last check alone can tell: those before it found nothing wrong.
-pub last-told : {A : Type 0} (n : ℕ) (before : List Check) → Others n before → (wrong : Bool) (r : Told) (a : A) {t : Told}
+-- A number that the last check alone can report: those before it found nothing wrong.
+pub last-reported : {A : Type 0} (n : ℕ) (before : List Check) → Others n before → (wrong : Bool) (r : RefusalCode) (a : A) {t : RefusalCode}
     → firstWrong (before ++ (check wrong r ∷ [])) a ≡ refused t → eqb (t .number) n ≡ true → Clear before × (wrong ≡ true) × (t ≡ r)
-last-told n [] o true r a e h = (tt, refl, cc)
-last-told n [] o false r a e h = not-both (sym e)
-last-told n (check true q ∷ before) o wrong r a {t} e h =
-    let p : t ≡ q = cc in absurd (true≢false (sym h ∙ ap (λ (x : Told). eqb (x .number) n) p ∙ o .0))
-last-told n (check false q ∷ before) o wrong r a e h =
-    let c = last-told n before (o .1) wrong r a e h in ((refl, c .0), c .1, c .2)
+last-reported n [] o true r a e h = (tt, refl, cc)
+last-reported n [] o false r a e h = not-both (sym e)
+last-reported n (check true q ∷ before) o wrong r a {t} e h =
+    let p : t ≡ q = cc in absurd (true≢false (sym h ∙ ap (λ (x : RefusalCode). eqb (x .number) n) p ∙ o .0))
+last-reported n (check false q ∷ before) o wrong r a e h =
+    let c = last-reported n before (o .1) wrong r a e h in ((refl, c .0), c .1, c .2)

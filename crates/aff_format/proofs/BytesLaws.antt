@@ -36,7 +36,7 @@ drop-take (suc q) zero l = let e : 0 - suc q ≡ 0 = omega arith in rw e
 drop-take (suc q) (suc n) [] = rw take-nil
 drop-take (suc q) (suc n) (x ∷ l) = let e : suc n - suc q ≡ n - q = omega arith in rw e (drop-take q n l)
 
--- A run laid out in pieces; piece j stands behind those before it.
+-- A run laid out in pieces; piece j stands after those before it.
 abbrev pub laid : List (List ℕ) → List ℕ → List ℕ
 laid [] rest = rest
 laid (p ∷ ps) rest = p ++ laid ps rest
@@ -62,7 +62,7 @@ pub spliced-nil : (at : ℕ) (l : List ℕ) → spliced at [] l ≡ l
 unfolding spliced
 spliced-nil at l = rw add-zero (take-append-drop at l)
 
--- One run and another behind it.
+-- One run and another after it.
 pub spliced-more : (at : ℕ) (x y l : List ℕ) → at + length x ≤ length l → spliced (at + length x) y (spliced at x l) ≡ spliced at (x ++ y) l
 unfolding spliced
 spliced-more at x y l h =
@@ -82,7 +82,7 @@ pub spliced-next : (at next : ℕ) (x y l₀ l₁ l₂ : List ℕ)
     → at + length x ≡ next → next ≤ length l₀ → l₁ ≡ spliced at x l₀ → l₂ ≡ spliced next y l₁ → l₂ ≡ spliced at (x ++ y) l₀
 spliced-next at next x y l₀ l₁ l₂ n f h₁ h₂ = h₂ ∙ rw (h₁, ← n) (spliced-more at x y l₀ (omega arith))
 
--- A store is a run of one; a store behind a run makes the run longer.
+-- A store is a run of one; a store after a run makes the run longer.
 pub set-spliced : (at v : ℕ) (l : List ℕ) → at < length l → set l at v ≡ spliced at (v ∷ []) l
 unfolding spliced
 set-spliced at v l h = set-split l at v h ∙ rw add-one
@@ -98,7 +98,7 @@ spliced-set at v x l h =
     ∙ ap (λ (s : List ℕ). take at l ++ (x ++ s)) d
     ∙ rw (e, append-assoc x (v ∷ []) (drop (suc n) l))
 
--- What stands in the run, before it and behind it.
+-- What stands in the run, before it and after it.
 pub part-spliced : (at : ℕ) (x l : List ℕ) → at + length x ≤ length l → part at (length x) (spliced at x l) ≡ x
 unfolding spliced
 part-spliced at x l h =

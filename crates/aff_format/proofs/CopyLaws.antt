@@ -21,7 +21,7 @@ module _ {at : ℕ} {text out₀ : List ℕ} where
 
   pub copied-next : {out : List ℕ} {i : ℕ} → at + length text ≤ length out₀ → Copied at text out₀ out i → i < length text
       → Copied at text out₀ (set out (at + i) (getD text i 0)) (i + 1)
-  copied-next {out} {i} room c h =
+  copied-next {out} {i} size c h =
       let n : at + length (take i text) ≡ at + i = ap (λ (k : ℕ). at + k) (length-take-le i text (c .few)) in
       record {
         few = omega arith;

@@ -1,8 +1,6 @@
 -- Laws of the editions' layouts, each proved by the edition. Assumes nothing.
 use mathlib.Core.Path.{_≡_, refl}
-use mathlib.Core.Bool.{Bool, true, false}
-use mathlib.Core.List.{List}
-use Prim.Native.Nat.{ℕ, _+_, _*_, _≤_}
+use Prim.Native.Nat.{_+_, _*_, _≤_}
 use native.Mathlib.Omega.{arith}
 use lib.ListN.{length}
 use Rattle.aff_format.specs.Edition.{editionNumber, editionOf, headerSize, sectionHeaderSize, sectionHeaderAt, sectionSumAt, headerSumAt, signatureText, numberForm}
@@ -10,7 +8,7 @@ use Rattle.aff_format.specs.declared.section.Section.{Section}
 use Rattle.aff_format.specs.declared.section.Section.the-variants.{Symbol, Tree, Data}
 use Rattle.aff_format.specs.declared.edition.Edition.{Edition}
 use Rattle.aff_format.specs.declared.edition.Edition.the-variants.{One, Two}
-use Rattle.aff_format.specs.declared.edition.FoundEdition.the-variants.{Known, Unknown}
+use Rattle.aff_format.specs.declared.edition.FoundEdition.the-variants.{Known}
 
 pub edition-of-number : (e : Edition) → editionOf (editionNumber e) ≡ Known e
 edition-of-number One = refl

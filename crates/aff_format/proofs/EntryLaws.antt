@@ -1,17 +1,17 @@
 -- Tree entries: what is written is read and what is read is written, field by field. Assumes nothing.
-use borrow.Author.Tests.{le-leb, lt-leb, leb-true}
+use borrow.Author.Tests.{le-leb, lt-leb, leb-true, le-ltb, ltb-false}
 use mathlib.Core.Path.{_≡_, refl, sym, ap, _∙_, subst}
-use mathlib.Core.Bool.{Bool, true, false, cond}
+use mathlib.Core.Bool.{Bool, true, false, cond, not, _&&_, _||_, true≢false}
 use mathlib.Core.List.{List, [], _∷_, _++_, append-assoc, append-nil}
-use Prim.Native.Nat.{ℕ, _+_, _-_, _^_, _≤_, _<_}
+use Prim.Native.Nat.{ℕ, _+_, _-_, _^_, _≤_, _<_, _*_}
 use native.Mathlib.Omega.{arith}
-use lib.Dec.{leb}
+use lib.Dec.{leb, ltb}
 use lib.ListN.{length, getD, take, drop, replicate, length-append, length-replicate, drop-of-length-le}
 use lib.Seq.{take-at, drop-drop}
 use Rattle.aff_format.specs.Bytes.{Octets, part}
 use Rattle.aff_format.specs.Number.{beOf, beBytes}
-use Rattle.aff_format.specs.Kind.{kindCode, kindOf, entrySize, isVoid}
-use Rattle.aff_format.specs.Entry.{typeField, parentField, stringField, countField, offsetField, fieldsOf, entryOfKind, entryOf, dataFields, voidOr, entryBytes, slotBytes, Storable}
+use Rattle.aff_format.specs.Kind.{kindCode, kindOf, entrySize, isVoid, elementSize}
+use Rattle.aff_format.specs.Entry.{typeField, parentField, stringField, countField, offsetField, fieldsOf, entryOfKind, entryOf, dataFields, voidOr, entryBytes, slotBytes, Storable, outside}
 use Rattle.aff_format.specs.declared.kind.Kind.{Kind}
 use Rattle.aff_format.specs.declared.kind.FoundKind.{FoundKind}
 use Rattle.aff_format.specs.declared.kind.FoundKind.the-variants.{Known, Unknown}
@@ -20,6 +20,8 @@ use Rattle.aff_format.specs.declared.entry.FoundEntry.the-variants.{Whol
 use Rattle.aff_format.proofs.BytesLaws.{laid, total, part-laid, part-add}
 use Rattle.aff_format.proofs.NumberLaws.{length-beBytes, beOf-beBytes, beBytes-part, beOf-part-bound}
 use Rattle.aff_format.proofs.KindLaws.{kind-of-code, code-of-kind, entry-size-bounds}
+use mathlib.Core.Logic.{_↔_}
+use Rattle.aff_format.proofs.TestLaws.{or-false}
 
 -- An entry whose fields are those of the bytes l is the entry of l.
 pub fields-are : (e : Entry) (l : List ℕ) → e .parent ≡ parentField l → e .string ≡ stringField l
@@ -223,3 +225,16 @@ entry-storable l e h o =
       void-count = whole-void-count l e h;
       void-offset = whole-void-offset l e h;
     }
+
+-- Data are not outside the `size` bytes from `from` on exactly where they lie inside.
+pub data-asks : (from size : ℕ) (e : Entry) → (outside from size e ≡ false)
+    ↔ (isVoid (e .kind) ≡ false → (from ≤ e .offset) × (e .offset + e .count * elementSize (e .kind) ≤ from + size))
+unfolding outside
+data-asks from size e = go (isVoid (e .kind)) (e .offset + e .count * elementSize (e .kind))
+  where
+    go : (v : Bool) (end : ℕ) → ((not v && (ltb (e .offset) from || ltb (from + size) end)) ≡ false) ↔ (v ≡ false → (from ≤ e .offset) × (end ≤ from + size))
+    go true end = (λ h q. absurd (true≢false q), λ h. refl)
+    go false end = (
+      λ h q. let (p, r) = or-false _ _ h in (ltb-false _ _ p, ltb-false _ _ r),
+      λ h. let (p, r) = h refl in rw (le-ltb _ _ p, le-ltb _ _ r),
+    )

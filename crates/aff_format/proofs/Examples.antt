@@ -24,7 +24,7 @@ places : placesOf 172 (stringsOf (97 ∷ 0 ∷ 110 ∷ 0 ∷ [])) ≡ 172 ∷ 17
 unfolding stringsOf placesOf
 places = refl
 
--- Bytes behind the last zero are one more string; a final zero opens none.
+-- Bytes after the last zero are one more string; a final zero opens none.
 unended : stringsOf (97 ∷ 0 ∷ 0 ∷ 110 ∷ []) ≡ (97 ∷ []) ∷ [] ∷ (110 ∷ []) ∷ []
 unfolding stringsOf
 unended = refl
@@ -51,10 +51,10 @@ written : entryBytes (record { kind = kind.Int; parent = 1; string = 1; count = 
 unfolding tree entryBytes beBytes
 written = refl
 
--- The index behind the last.
-behind : decoded kind.Int (0xff ∷ 0xff ∷ 0xff ∷ 0xba ∷ []) 1 ≡ refused (refusal 16)
+-- The index after the last.
+rest : decoded kind.Int (0xff ∷ 0xff ∷ 0xff ∷ 0xba ∷ []) 1 ≡ refused (refusal 16)
 unfolding decoded elementAt
-behind = refl
+rest = refl
 
 -- The path of its node 2, `/a/n`. (Other paths, subkeys and numbers: aff_read's table of cases.)
 worked-path : pathGrammar Two (47 ∷ 97 ∷ 47 ∷ 110 ∷ []) ≡ Sound

@@ -3,10 +3,13 @@ pub mod TestLaws
 pub mod AnswerLaws
 pub mod VerdictLaws
 pub mod LowestLaws
+pub mod RuleLaws
 pub mod EditionLaws
 pub mod BytesLaws
 pub mod CopyLaws
 pub mod SameLaws
+pub mod LaidLaws
+pub mod ClearLaws
 pub mod NumberLaws
 pub mod KindLaws
 pub mod SubkeyLaws
@@ -14,6 +17,7 @@ pub mod PathLaws
 pub mod StringsLaws
 pub mod EntryLaws
 pub mod SlotLaws
+pub mod RecordedLaws
 pub mod ClimbLaws
 pub mod TreeLaws
 pub mod Examples

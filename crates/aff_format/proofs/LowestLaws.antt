@@ -1,8 +1,8 @@
 -- Laws of the lowest number of which a test holds, in the terms of a loop that has passed the first k of n numbers. Assumes nothing.
-use mathlib.Core.Path.{_≡_, refl, sym, _∙_}
+use mathlib.Core.Path.{_≡_, refl, sym}
 use mathlib.Core.Bool.{Bool, true, false, true≢false}
 use mathlib.Core.List.{List, _∷_}
-use mathlib.Core.Logic.{_⊎_, inl, inr, ⊎-elim}
+use mathlib.Core.Logic.{⊎-elim}
 use Prim.Native.Nat.{ℕ, zero, suc, _+_, _-_, _≤_, _<_}
 use native.Mathlib.Nat.{eq-or-lt-of-le}
 use native.Mathlib.Omega.{arith}
@@ -14,7 +14,7 @@ use Rattle.aff_format.specs.declared.lowest.Lowest.the-variants.{Nothing
 use Rattle.aff_format.proofs.AnswerLaws.{Others}
 
 module _ (test : ℕ → Bool) where
-  -- One turn of a loop: the number behind the first k is it, or the rest decides, or there is no rest.
+  -- One turn of a loop: the number after the first k is it, or the rest decides, or there is no rest.
   pub lowest-here : (n k first : ℕ) → k < n → test (k + first) ≡ true → At (k + first) ≡ lowestFrom test (n - k) (k + first)
   unfolding lowestFrom
   lowest-here n k first h e = let z : n - k ≡ suc (n - (k + 1)) = omega arith in rw (z, e)
@@ -86,7 +86,7 @@ pub none-at : (l : Lowest) → isAt l ≡ false → l ≡ Nothing
 none-at Nothing h = refl
 none-at (At k) h = absurd (true≢false h)
 
--- A check that tells the lowest finds nothing wrong where there is none.
+-- A check that reports the lowest finds nothing wrong where there is none.
 pub clear-lowest : (number : ℕ) (l : Lowest) (checks : List Check) → Clear (checkLowest number l ∷ checks) → (l ≡ Nothing) × Clear checks
 clear-lowest number Nothing checks c = (refl, c .1)
 clear-lowest number (At k) checks c = absurd (true≢false (c .0))

@@ -100,7 +100,7 @@ beOf-part-bound at w l o h = rw (length-part at w l h) at (beOf-bound (part at w
 pub beBytes-part : (at w : ℕ) (l : List ℕ) → Octets l → at + w ≤ length l → beBytes w (beOf (part at w l)) ≡ part at w l
 beBytes-part at w l o h = rw (length-part at w l h) at (beBytes-beOf (part at w l) (octets-part at w l o))
 
--- A turn of the loop that writes a number: the low byte of the rest stands behind the bytes still to be written.
+-- A turn of the loop that writes a number: the low byte of the rest stands after the bytes still to be written.
 pub put-turn : (at left rest : ℕ) (l : List ℕ) → 0 < left → at + left ≤ length l
     → spliced at (beBytes (left - 1) (rest / 256)) (set l (at + (left - 1)) (rest % 256)) ≡ spliced at (beBytes left rest) l
 unfolding beBytes

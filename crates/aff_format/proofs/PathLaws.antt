@@ -13,7 +13,7 @@ use lib.Seq.{drop-cons, drop-drop, length-take-le, take-all}
 use borrow.Author.Tests.{eq-eqb, ne-eqb, eqb-true}
 use Rattle.aff_format.specs.Bytes.{part, Without, EachWithout}
 use Rattle.aff_format.specs.Subkey.{subkeyFrom, isSound, isSubkey}
-use Rattle.aff_format.specs.Path.{ahead, betweenSlashes, untilSlash, orElse, partsFrom, behindSlash, pathGrammar, isPath, joinedPath, Subkeys, WellFormed, root, subkeys}
+use Rattle.aff_format.specs.Path.{ahead, betweenSlashes, untilSlash, orElse, partsFrom, afterSlash, pathGrammar, isPath, joinedPath, Subkeys, WellFormed, root, subkeys}
 use Rattle.aff_format.proofs.SubkeyLaws.{subkey-no-slash, sound-shift, sound-is}
 use Rattle.aff_format.specs.declared.edition.Edition.{Edition}
 use Rattle.aff_format.specs.declared.subkey.Grammar.{Grammar}
@@ -43,7 +43,7 @@ until-within (x ∷ l) = go (eqb x 47) (until-within l)
     go true h = omega arith
     go false h = omega arith
 
--- The parts behind the first.
+-- The parts after the first.
 unfoldable pub laterParts : List ℕ → List (List ℕ)
 laterParts [] = []
 laterParts (x ∷ l) = cond (eqb x 47) (betweenSlashes l) (laterParts l)
@@ -197,7 +197,7 @@ pub subkeys-more : (e : Edition) (ks : List (List ℕ)) (k : List ℕ) → Subke
 subkeys-more e [] k s h = (h, tt)
 subkeys-more e (j ∷ ks) k s h = (s .0, subkeys-more e ks k (s .1) h)
 
--- Subkeys are told by their path.
+-- Subkeys are reported by their path.
 pub joined-injective : (e : Edition) (ks js : List (List ℕ)) → Subkeys e ks → Subkeys e js → joinedPath ks ≡ joinedPath js → ks ≡ js
 unfolding joinedPath
 joined-injective e [] [] s t h = refl
@@ -207,7 +207,7 @@ joined-injective e (k ∷ ks) (j ∷ js) s t h =
     let q : k ++ joinedPath ks ≡ j ++ joinedPath js = cc in
     sym (between-joined k ks (subkeys-without e (k ∷ ks) s)) ∙ ap betweenSlashes q ∙ between-joined j js (subkeys-without e (j ∷ js) t)
 
--- What ends in a slash and a text without one is told by its last slash.
+-- What ends in a slash and a text without one is reported by its last slash.
 slash-in : (front text : List ℕ) → Without 47 (front ++ (47 ∷ text)) → ⊥
 slash-in [] text w = true≢false (w .0)
 slash-in (x ∷ front) text w = slash-in front text (w .1)
@@ -248,7 +248,7 @@ unfolding pathGrammar
 path-sound e [] h = absurd (true≢false (sym h))
 path-sound e (x ∷ l) h = go (eqb x 47) refl l h
   where
-    go : (b : Bool) → eqb x 47 ≡ b → (l : List ℕ) → isSound (cond b (behindSlash e l) (BreaksAt 0)) ≡ true → WellFormed e (x ∷ l)
+    go : (b : Bool) → eqb x 47 ≡ b → (l : List ℕ) → isSound (cond b (afterSlash e l) (BreaksAt 0)) ≡ true → WellFormed e (x ∷ l)
     go true q [] s = root (ap (λ (y : ℕ). y ∷ []) (eqb-true x 47 q))
     go true q (y ∷ l) s =
         let f : betweenSlashes (y ∷ l) ≡ take (untilSlash (y ∷ l)) (y ∷ l) ∷ laterParts (y ∷ l) = between-first (y ∷ l) in

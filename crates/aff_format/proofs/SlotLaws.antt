@@ -1,4 +1,4 @@
--- A slot is the entry's bytes written over zeros, one number behind another: laws for the code that writes it. Assumes nothing.
+-- A slot is the entry's bytes written over zeros, one number after another: laws for the code that writes it. Assumes nothing.
 use mathlib.Core.Path.{_≡_, ap, _∙_}
 use mathlib.Core.Bool.{true, false}
 use mathlib.Core.List.{List, _∷_, _++_, append-assoc, append-nil}

@@ -8,12 +8,12 @@ use native.Mathlib.Nat.{add-zero}
 use native.Mathlib.Numerals.{add-one}
 use native.Mathlib.Omega.{arith}
 use lib.Dec.{eqb, ltb, leb·suc-suc}
-use lib.ListN.{length, getD, take, drop, length-append, take-append-drop}
-use lib.Seq.{drop-append-add, drop-append-le, getD-drop, take-append-seam, getD-append-seam, drop-drop, take-nil}
+use lib.ListN.{length, getD, take, drop, length-append}
+use lib.Seq.{drop-append-add, drop-append-le, getD-drop, take-append-seam, getD-append-seam, drop-drop}
 use borrow.Author.Tests.{eqb-true, ltb-true, ltb-false, lt-ltb}
 use Rattle.aff_format.specs.Bytes.{part, sameBytes, Without, EachWithout}
 use Rattle.aff_format.specs.Path.{ahead}
-use Rattle.aff_format.proofs.BytesLaws.{section-is, drop-take}
+use Rattle.aff_format.proofs.BytesLaws.{drop-take}
 use Rattle.aff_format.specs.Strings.{stringsOf, lastOr, endsInZero, placesOf, textOf, upToZero, zerosIn, isIn, indexIn}
 use Rattle.aff_format.proofs.SameLaws.{same-eq, same-refl, same-ne, ne-same}
 
@@ -146,7 +146,7 @@ unfolding upToZero
 upToZero-all [] w = refl
 upToZero-all (x ∷ s) w = rw (w .0, upToZero-all s (w .1))
 
--- What stands behind a zero does not matter, nor whether the last zero is there.
+-- What stands after a zero does not matter, nor whether the last zero is there.
 pub upToZero-append : (s r : List ℕ) → upToZero (s ++ (0 ∷ r)) ≡ upToZero s
 unfolding upToZero
 upToZero-append [] r = refl
@@ -197,7 +197,7 @@ unfolding placesOf
 length-placesOf at [] = refl
 length-placesOf at (s ∷ ss) = ap suc (length-placesOf (at + length s + 1) ss)
 
--- The place of a string is behind the text of those before it.
+-- The place of a string is after the text of those before it.
 pub placesOf-at : (at : ℕ) (ss : List (List ℕ)) (k : ℕ) → k < length ss → getD (placesOf at ss) k 0 ≡ at + length (textOf (take k ss))
 unfolding placesOf textOf
 placesOf-at at [] k h = absurd (omega arith)
@@ -287,7 +287,7 @@ string-at l k h =
     ∙ ap upToZero (sym (drop-append-le p l z w) ∙ t)
     ∙ upToZero-one (getD ss k []) (textOf (drop (suc k) ss) ++ []) (each-at 0 ss k (strings-without-zero l))
 
--- A string of a run that ends in zero and stands at place at of an image: its bytes, with a zero behind them.
+-- A string of a run that ends in zero and stands at place at of an image: its bytes, with a zero after them.
 module _ (image front l back : List ℕ) (at k : ℕ) (is : image ≡ front ++ (l ++ back)) (begins : length front ≡ at) (ended : endsInZero l ≡ true)
     (exists : k < length (stringsOf l)) where
   pub string-stands : drop (getD (placesOf at (stringsOf l)) k 0) image ≡ getD (stringsOf l) k [] ++ (0 ∷ (textOf (drop (suc k) (stringsOf l)) ++ back))

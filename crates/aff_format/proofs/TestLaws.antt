@@ -24,7 +24,7 @@ pub or-false : (a b : Bool) → (a || b) ≡ false → (a ≡ false) × (b ≡ f
 or-false true b h = absurd (true≢false h)
 or-false false b h = (refl, h)
 
--- What is left of n behind `from` is too short exactly where n is: the code compares so, since a sum may not fit its type.
+-- What is left of n after `from` is too short exactly where n is: the code compares so, since a sum may not fit its type.
 pub left-short : (n from size : ℕ) → from ≤ n → ltb (n - from) size ≡ ltb n (from + size)
 left-short n from size h = go (ltb (n - from) size) refl
   where

@@ -3,25 +3,25 @@ use mathlib.Core.Path.{_≡_}
 use mathlib.Core.Bool.{Bool, true, false}
 use mathlib.Core.List.{List, [], _∷_}
 use Prim.Native.Nat.{ℕ}
-use Rattle.aff_format.specs.declared.refusal.Told.{Told}
+use Rattle.aff_format.specs.declared.refusal.RefusalCode.{RefusalCode}
 
--- A refusal that tells its number, and one that tells a place. (The place in a name that 10 tells besides is 0 before request C-18.)
-abbrev pub refusal : ℕ → Told
+-- A refusal that reports its number, and one that reports a place. (The place in a name that 10 reports besides is 0 before request C-18.)
+abbrev pub refusal : ℕ → RefusalCode
 refusal n = record { number = n; place = 0; second = 0 }
 
-abbrev pub refusalAt : ℕ → ℕ → Told
+abbrev pub refusalAt : ℕ → ℕ → RefusalCode
 refusalAt n p = record { number = n; place = p; second = 0 }
 
 -- An accepted call's value, or a refusal.
 pub data Answer (A : Type 0) : Type 0 where
   accepted : A → Answer A
-  refused : Told → Answer A
+  refused : RefusalCode → Answer A
 
--- A check: whether something is wrong, and what is then told.
+-- A check: whether something is wrong, and what is then reported.
 pub data Check : Type 0 where
-  check : Bool → Told → Check
+  check : Bool → RefusalCode → Check
 
-abbrev pub unless : {A : Type 0} → Bool → Told → Answer A → Answer A
+abbrev pub unless : {A : Type 0} → Bool → RefusalCode → Answer A → Answer A
 unless true r next = refused r
 unless false r next = next
 

@@ -34,3 +34,9 @@ EachWithout x (l ∷ ls) = Without x l × EachWithout x ls
 -- Each number of l is a byte.
 abbrev pub Octets : List ℕ → Type 0
 Octets l = (i : ℕ) → getD l i 0 < 256
+
+-- An area with places laid over it from its start; the rest stays.
+unfoldable pub laidOver : List ℕ → List ℕ → List ℕ
+laidOver [] places = []
+laidOver (x ∷ area) [] = x ∷ area
+laidOver (x ∷ area) (p ∷ places) = p ∷ laidOver area places

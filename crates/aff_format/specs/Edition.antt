@@ -1,6 +1,6 @@
 -- The layout of each edition: document 01, 'Layout of a file', and source document 003, sections 6.1 and 6.2.
 use mathlib.Core.Bool.{Bool, true, false, cond}
-use mathlib.Core.List.{List, [], _∷_, _++_}
+use mathlib.Core.List.{List, [], _∷_}
 use Prim.Native.Nat.{ℕ, _+_, _-_, _*_}
 use lib.Dec.{eqb}
 use Rattle.aff_format.specs.declared.section.Section.{Section}

@@ -6,7 +6,7 @@ use lib.ListN.{length, getD}
 use Rattle.aff_format.specs.Answer.{Answer, accepted, refused, check, refusal, firstWrong}
 use Rattle.aff_format.specs.Bytes.{part}
 use Rattle.aff_format.specs.Number.{beOf, twosComplement, realOf}
-use Rattle.aff_format.specs.Refusal.{toldRefusal}
+use Rattle.aff_format.specs.Refusal.{codeOfRefusal}
 use Rattle.aff_format.specs.declared.kind.Kind.{Kind}
 use Rattle.aff_format.specs.declared.kind.Kind.the-variants.{Void, Char, Int, Double, Complex}
 use Rattle.aff_format.specs.declared.element.Element.{Element}
@@ -15,9 +15,9 @@ use Rattle.aff_format.specs.declared.element.ElementAnswer.{ElementAnswe
 use Rattle.aff_format.specs.declared.element.ElementAnswer.the-variants.{Value, Refused}
 
 -- What document 01 hands back in each case of the answer.
-abbrev pub elementTold : ElementAnswer → Answer Element
-elementTold (Value e) = accepted e
-elementTold (Refused r) = refused (toldRefusal r)
+abbrev pub answerOfElement : ElementAnswer → Answer Element
+answerOfElement (Value e) = accepted e
+answerOfElement (Refused r) = refused (codeOfRefusal r)
 
 -- How many elements of a kind a run of bytes holds.
 abbrev pub countIn : Kind → List ℕ → ℕ

@@ -1,19 +1,20 @@
 -- Tree entries: document 01, 'Layout of a file', and source document 003, tables 6 and 7.
-use mathlib.Core.Bool.{Bool, true, false, cond}
+use mathlib.Core.Bool.{Bool, true, false, cond, not, _&&_, _||_}
 use mathlib.Core.List.{List, [], _∷_, _++_}
 use mathlib.Core.Path.{_≡_}
-use Prim.Native.Nat.{ℕ, _-_, _^_, _<_}
-use lib.Dec.{leb}
+use Prim.Native.Nat.{ℕ, _-_, _^_, _<_, _+_, _*_}
+use lib.Dec.{leb, ltb}
 use lib.ListN.{length, getD, replicate}
 use Rattle.aff_format.specs.Bytes.{part}
 use Rattle.aff_format.specs.Number.{beOf, beBytes}
-use Rattle.aff_format.specs.Kind.{kindCode, kindOf, entrySize, isVoid}
+use Rattle.aff_format.specs.Kind.{kindCode, kindOf, entrySize, isVoid, elementSize}
 use Rattle.aff_format.specs.declared.kind.Kind.{Kind}
 use Rattle.aff_format.specs.declared.kind.FoundKind.{FoundKind}
 use Rattle.aff_format.specs.declared.kind.FoundKind.the-variants.{Known, Unknown}
 use Rattle.aff_format.specs.declared.entry.Entry.{Entry}
 use Rattle.aff_format.specs.declared.entry.FoundEntry.{FoundEntry}
 use Rattle.aff_format.specs.declared.entry.FoundEntry.the-variants.{Whole, Broken}
+use Rattle.aff_format.specs.declared.kind.Kind.the-variants.{Void}
 
 -- The fields of the entry with which a run of bytes begins.
 abbrev pub typeField : List ℕ → ℕ
@@ -31,7 +32,7 @@ countField l = beOf (part 13 4 l)
 abbrev pub offsetField : List ℕ → ℕ
 offsetField l = beOf (part 17 8 l)
 
--- The entry of a kind: a Void one has neither count nor data offset, told as 0.
+-- The entry of a kind: a Void one has neither count nor data offset, reported as 0.
 unfoldable pub fieldsOf : Kind → List ℕ → Entry
 fieldsOf k l =
     record {
@@ -74,3 +75,23 @@ pub record Storable (e : Entry) : Type 0 where
   pub offset-fits : e .offset < 256 ^ 8
   pub void-count : isVoid (e .kind) ≡ true → e .count ≡ 0
   pub void-offset : isVoid (e .kind) ≡ true → e .offset ≡ 0
+
+-- The root's entry, which no file has: it is its own parent, and Void.
+abbrev pub noEntry : Entry
+noEntry = record { kind = Void; parent = 0; string = 0; count = 0; offset = 0 }
+
+-- An entry's parent number, or its string number, does not exist.
+abbrev pub noParent : ℕ → Entry → Bool
+noParent nodes e = ltb nodes (e .parent)
+
+abbrev pub noString : ℕ → Entry → Bool
+noString strings e = leb strings (e .string)
+
+-- An entry's data are not inside the `size` bytes from `from` on. A Void node has none.
+unfoldable pub outside : ℕ → ℕ → Entry → Bool
+outside from size e =
+    not (isVoid (e .kind)) && (ltb (e .offset) from || ltb (from + size) (e .offset + e .count * elementSize (e .kind)))
+
+abbrev pub orNone : FoundEntry → Entry
+orNone (Whole e) = e
+orNone Broken = noEntry

@@ -1,6 +1,7 @@
 -- The vocabulary of the format, in the order in which document 01 speaks of it.
 pub mod Bytes
 pub mod Answer
+pub mod Rule
 pub mod Section
 pub mod Edition
 pub mod Kind
@@ -11,6 +12,7 @@ pub mod Subkey
 pub mod Path
 pub mod Strings
 pub mod Entry
+pub mod Recorded
 pub mod Tree
 pub mod Limits
 pub mod Lowest

@@ -1,6 +1,6 @@
 -- The grammar of a path: document 01, 'Reading keys': `/` alone, or one or more times `/` and a subkey.
 use mathlib.Core.Path.{_≡_}
-use mathlib.Core.Bool.{Bool, true, false, cond}
+use mathlib.Core.Bool.{Bool, true, cond}
 use mathlib.Core.List.{List, [], _∷_, _++_}
 use Prim.Native.Nat.{ℕ, _+_}
 use lib.Dec.{eqb}
@@ -36,14 +36,14 @@ partsFrom e at [] = Sound
 partsFrom e at (p ∷ ps) = orElse (subkeyFrom e at p) (partsFrom e (at + length p + 1) ps)
 
 -- What follows the first slash: nothing, or parts that are subkeys.
-abbrev pub behindSlash : Edition → List ℕ → Grammar
-behindSlash e [] = Sound
-behindSlash e (x ∷ l) = partsFrom e 1 (betweenSlashes (x ∷ l))
+abbrev pub afterSlash : Edition → List ℕ → Grammar
+afterSlash e [] = Sound
+afterSlash e (x ∷ l) = partsFrom e 1 (betweenSlashes (x ∷ l))
 
 -- The place of the first byte of a path that breaks the grammar, or at which an empty subkey would begin; 0 where the first slash lacks.
 unfoldable pub pathGrammar : Edition → List ℕ → Grammar
 pathGrammar e [] = BreaksAt 0
-pathGrammar e (x ∷ l) = cond (eqb x 47) (behindSlash e l) (BreaksAt 0)
+pathGrammar e (x ∷ l) = cond (eqb x 47) (afterSlash e l) (BreaksAt 0)
 
 abbrev pub isPath : Edition → List ℕ → Bool
 isPath e l = isSound (pathGrammar e l)

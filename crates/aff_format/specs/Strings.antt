@@ -1,6 +1,6 @@
 -- Strings of a run of bytes: document 01, 'Layout of a file', the symbol table. The reader takes them from the symbol section, the
 -- writer from the used part of its text area.
-use mathlib.Core.Bool.{Bool, true, false, cond, _||_}
+use mathlib.Core.Bool.{Bool, false, cond, _||_}
 use mathlib.Core.List.{List, [], _∷_, _++_}
 use Prim.Native.Nat.{ℕ, _+_}
 use lib.Dec.{eqb}
@@ -8,7 +8,7 @@ use lib.ListN.{length}
 use Rattle.aff_format.specs.Bytes.{sameBytes}
 use Rattle.aff_format.specs.Path.{ahead}
 
--- The strings of a run: each ends at its zero; bytes behind the last zero are one more string. A run of no bytes has none.
+-- The strings of a run: each ends at its zero; bytes after the last zero are one more string. A run of no bytes has none.
 unfoldable pub stringsOf : List ℕ → List (List ℕ)
 stringsOf [] = []
 stringsOf (x ∷ l) = cond (eqb x 0) ([] ∷ stringsOf l) (ahead x (stringsOf l))

@@ -24,7 +24,7 @@ narrowFirst x = isLetter x || (eqb x 95 || eqb x 58)
 unfoldable pub narrowNext : ℕ → Bool
 narrowNext x = narrowFirst x || (isDigit x || (eqb x 46 || eqb x 45))
 
--- Whether a byte may begin a subkey, and whether it may stand behind its first byte.
+-- Whether a byte may begin a subkey, and whether it may stand after its first byte.
 abbrev pub mayBegin : Edition → ℕ → Bool
 mayBegin One x = narrowFirst x
 mayBegin Two x = narrowFirst x
@@ -33,7 +33,7 @@ abbrev pub mayFollow : Edition → ℕ → Bool
 mayFollow One x = narrowNext x
 mayFollow Two x = narrowNext x
 
--- The bytes behind the first, from place at on: the first that breaks the rule.
+-- The bytes after the first, from place at on: the first that breaks the rule.
 unfoldable pub restOfSubkey : Edition → ℕ → List ℕ → Grammar
 restOfSubkey e at [] = Sound
 restOfSubkey e at (x ∷ l) = cond (mayFollow e x) (restOfSubkey e (at + 1) l) (BreaksAt at)

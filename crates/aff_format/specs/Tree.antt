@@ -1,5 +1,5 @@
 -- The tree that a file shows and that the writer's calls describe: document 01, 'Writing keys'.
-use mathlib.Core.Bool.{Bool, true, false, cond}
+use mathlib.Core.Bool.{Bool, true, cond}
 use mathlib.Core.List.{List, [], _∷_, _++_}
 use Prim.Native.Nat.{ℕ, zero, suc}
 use lib.Dec.{eqb}
@@ -22,12 +22,12 @@ Tree = List Node
 abbrev pub root : Node
 root = record { parent = 0; name = []; kind = Void; bytes = [] }
 
-abbrev pub nodeAt : Tree → ℕ → Node
-nodeAt tree n = getD (root ∷ tree) n root
+abbrev pub treeNode : Tree → ℕ → Node
+treeNode tree n = getD (root ∷ tree) n root
 
 -- A node's count: its bytes divided by the element's; 0 of a Void one.
-abbrev pub countAt : Tree → ℕ → ℕ
-countAt tree n = countIn (nodeAt tree n .kind) (nodeAt tree n .bytes)
+abbrev pub treeCount : Tree → ℕ → ℕ
+treeCount tree n = countIn (treeNode tree n .kind) (treeNode tree n .bytes)
 
 -- Whether a climb by parents is at the root after so many steps at most: document 01, 'every climb by parents reaches the root'.
 unfoldable pub reachesBy : (ℕ → ℕ) → ℕ → ℕ → Bool
@@ -45,4 +45,4 @@ pathBy parent name steps n = cond (eqb n 0) (47 ∷ []) (frontBy parent name ste
 
 -- Paths go by parents; a climb takes at most as many steps as there are nodes.
 abbrev pub pathIn : Tree → ℕ → List ℕ
-pathIn tree n = pathBy (λ k. nodeAt tree k .parent) (λ k. nodeAt tree k .name) (length tree) n
+pathIn tree n = pathBy (λ k. treeNode tree k .parent) (λ k. treeNode tree k .name) (length tree) n

@@ -3,9 +3,8 @@ use crate::kind::Kind;
 use crate::number;
 use crate::refusal::Refusal;
 ghost use mathlib.Core.Path.{_≡_};
-ghost use Prim.Native.Nat.{_+_, _*_, _≤_, _<_};
-ghost use lib.ListN.{length};
-ghost use Rattle.aff_format.specs.Element.{elementTold, countIn, elementAt, decoded};
+ghost use Prim.Native.Nat.{_+_, _*_, _<_};
+ghost use Rattle.aff_format.specs.Element.{answerOfElement, countIn, elementAt, decoded};
 
 // A number of a node's data.
 pub enum Element {
@@ -54,7 +53,7 @@ fn element_at(kind: Kind, bytes: &[u8], k: usize) -> Element
 // Element k of a view that the caller holds: `bytes` is the data part of a node of that kind. 16 where there is none. No other check
 // is paid for. Every NaN pattern is returned as the language's one NaN.
 pub fn decode(kind: Kind, bytes: &[u8], k: usize) -> ElementAnswer
-    ensures { λ r. ⌜ elementTold r ≡ decoded kind (now (bytes .entry)) k ⌝ }
+    ensures { λ r. ⌜ answerOfElement r ≡ decoded kind (now (bytes .entry)) k ⌝ }
 {
     if count_in(kind, bytes) <= k {
         return ElementAnswer::Refused(Refusal::IndexTooLarge);

@@ -1,4 +1,4 @@
-// The vocabulary of the AFF format: what opening, reading and writing share, and nothing that knows of a record or a lent area.
+// The vocabulary of the AFF format: what opening, reading and writing share, and nothing that knows of a record or a passed area.
 pub mod section; // the three sections
 pub mod edition; // the layout of each edition
 pub mod kind; // the types of a node
@@ -12,6 +12,8 @@ pub mod element; // one element of a node's data
 pub mod subkey; // the rule for a subkey
 pub mod path; // the grammar of a path
 pub mod entry; // tree entries
+pub mod data; // where an entry's data stand
+pub mod recorded; // strings and entries by their places
 
 pub use edition::Edition;
 pub use edition::FoundEdition;
@@ -23,7 +25,7 @@ pub use kind::FoundKind;
 pub use kind::Kind;
 pub use lowest::Lowest;
 pub use refusal::Refusal;
-pub use refusal::Told;
+pub use refusal::RefusalCode;
 pub use section::Section;
 pub use subkey::Grammar;
 pub use verdict::NumberAnswer;

@@ -1,7 +1,7 @@
 // Numbers in a file.
 ghost use mathlib.Core.Path.{_≡_};
 ghost use Prim.Native.Nat.{_+_, _≤_, _<_};
-ghost use lib.ListN.{length, take, drop};
+ghost use lib.ListN.{length};
 ghost use Rattle.aff_format.specs.Bytes.{part, spliced};
 ghost use Rattle.aff_format.specs.Number.{beOf, beBytes, twosComplement, realOf};
 

@@ -22,7 +22,7 @@ fn next_slash(path: &[u8], from: usize) -> usize
     at
 }
 
-// The first fault of the subkeys behind the first slash.
+// The first fault of the subkeys after the first slash.
 fn parts(edition: Edition, path: &[u8]) -> Grammar
     requires { ⌜ 0 < length (now path) ⌝ }
     ensures { λ r. ⌜ r ≡ partsFrom edition 1 (betweenSlashes (drop 1 (now (path .entry)))) ⌝ }

@@ -2,17 +2,17 @@
 use crate::section::Section;
 ghost use mathlib.Core.Path.{_≡_};
 ghost use Rattle.aff_format.specs.Answer.{refusal, refusalAt};
-ghost use Rattle.aff_format.specs.Refusal.{toldRefusal, numberOf, placeOf, secondOf};
+ghost use Rattle.aff_format.specs.Refusal.{codeOfRefusal, numberOf, placeOf, secondOf};
 
-// A case for each row of the table, with what it tells.
+// A case for each row of the table, with what it reports.
 pub enum Refusal {
-    // A lent area or the 12 bytes has another length, or the image is too long.
-    LentLength,
+    // A passed area or the 12 bytes has another length, or the image is too long.
+    WrongLength,
     // The image is shorter than its edition's header.
     ShortImage,
     // The signature text is none of an edition.
     UnknownText,
-    // The other 12 signature bytes differ from those lent.
+    // The other 12 signature bytes differ from those passed.
     WrongForm,
     // The header sum is wrong.
     WrongHeaderSum,
@@ -46,37 +46,37 @@ pub enum Refusal {
     WrongData,
     // One node or string too many, or text past its area.
     TooMany,
-    // The room is below the least, the finished size passes it, or the output is too short.
-    NoRoom,
+    // The size is below the least, the finished size passes it, or the output is too short.
+    BufferTooSmall,
     // The writer is closed or stopped.
     NotOpen,
     // The allowance is smaller than the stores needed; the stores made.
     AllowanceSpent(usize),
-    // The record does not belong to what is lent.
+    // The record does not belong to what is passed.
     WrongRecord,
 }
 
-// A refusal as it is told: its number, its place, and the place in the name that 10 tells besides.
-pub struct Told {
+// A refusal as it is reported: its number, its place, and the place in the name that 10 reports besides.
+pub struct RefusalCode {
     pub number: u32,
     pub place: usize,
     pub second: usize,
 }
 
-fn alone(number: u32) -> Told
+fn alone(number: u32) -> RefusalCode
     ensures { λ r. ⌜ r ≡ refusal number ⌝ }
 {
-    Told {
+    RefusalCode {
         number,
         place: 0,
         second: 0,
     }
 }
 
-fn with_place(number: u32, place: usize) -> Told
+fn with_place(number: u32, place: usize) -> RefusalCode
     ensures { λ r. ⌜ r ≡ refusalAt number place ⌝ }
 {
-    Told {
+    RefusalCode {
         number,
         place,
         second: 0,
@@ -85,11 +85,11 @@ fn with_place(number: u32, place: usize) -> Told
 
 impl Refusal {
     // The row of the table.
-    pub fn told(self) -> Told
-        ensures { λ r. ⌜ r ≡ toldRefusal self ⌝ }
+    pub fn code(self) -> RefusalCode
+        ensures { λ r. ⌜ r ≡ codeOfRefusal self ⌝ }
     {
         match self {
-            Refusal::LentLength => alone(1),
+            Refusal::WrongLength => alone(1),
             Refusal::ShortImage => alone(2),
             Refusal::UnknownText => alone(3),
             Refusal::WrongForm => alone(4),
@@ -98,7 +98,7 @@ impl Refusal {
             Refusal::WrongSectionSum(section) => with_place(7, section.number()),
             Refusal::BadSymbolTable => alone(8),
             Refusal::BadTreeTable(entry) => with_place(9, entry),
-            Refusal::BadLink(node, in_name) => Told {
+            Refusal::BadLink(node, in_name) => RefusalCode {
                 number: 10,
                 place: node,
                 second: in_name,
@@ -113,7 +113,7 @@ impl Refusal {
             Refusal::DataTaken => alone(18),
             Refusal::WrongData => alone(19),
             Refusal::TooMany => alone(20),
-            Refusal::NoRoom => alone(21),
+            Refusal::BufferTooSmall => alone(21),
             Refusal::NotOpen => alone(22),
             Refusal::AllowanceSpent(made) => with_place(23, made),
             Refusal::WrongRecord => alone(24),
@@ -124,23 +124,23 @@ impl Refusal {
     pub fn number(self) -> u32
         ensures { λ r. ⌜ r ≡ numberOf self ⌝ }
     {
-        let told = self.told();
-        told.number
+        let code = self.code();
+        code.number
     }
 
-    // Column 'Place told'.
+    // Column 'Place reported'.
     pub fn place(self) -> usize
         ensures { λ r. ⌜ r ≡ placeOf self ⌝ }
     {
-        let told = self.told();
-        told.place
+        let code = self.code();
+        code.place
     }
 
-    // The place in the name that 10 tells besides its node.
+    // The place in the name that 10 reports besides its node.
     pub fn second_place(self) -> usize
         ensures { λ r. ⌜ r ≡ secondOf self ⌝ }
     {
-        let told = self.told();
-        told.second
+        let code = self.code();
+        code.second
     }
 }

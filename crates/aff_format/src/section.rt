@@ -10,7 +10,7 @@ pub enum Section {
 }
 
 impl Section {
-    // The number by which a refusal tells the section.
+    // The number by which a refusal reports the section.
     pub fn number(self) -> usize
         ensures { λ r. ⌜ r ≡ sectionNumber self ⌝ }
     {

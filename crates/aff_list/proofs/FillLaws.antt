@@ -13,19 +13,21 @@ use Rattle.aff_format.specs.Bytes.{spliced}
 use Rattle.aff_format.proofs.BytesLaws.{length-spliced, drop-spliced}
 use Rattle.aff_format.proofs.LowestLaws.{none-holds}
 use Rattle.aff_open.specs.declared.reader.Reader.{Reader}
-use Rattle.aff_open.proofs.OrderLaws.{split}
-use Rattle.aff_read.specs.Calls.{order, lineAt, decimal, kindWord}
+use Rattle.aff_tables.proofs.OrderLaws.{split}
+use Rattle.aff_read.specs.ListingOrder.{listingOrder}
+use Rattle.aff_list.specs.Line.{lineAt, decimal, kindWord}
 use Rattle.aff_read.specs.Once.{hit, occurrences}
 use Rattle.aff_read.specs.Recall.{kindAt, countAt, pathAt}
-use Rattle.aff_read.proofs.LineLaws.{tail-length}
+use Rattle.aff_list.proofs.LineLaws.{tail-length}
 use Rattle.aff_read.proofs.OnceLaws.{order-only, order-length}
-use Rattle.aff_list.specs.Lister.{pathLimit, rowLimit, pathTooLong, row, rows, rowsFrom, Ready, Fills, endBehind, putBehind}
-use Rattle.aff_list.proofs.RowLaws.{behind-stays, behind-put}
+use Rattle.aff_list.specs.Lister.{pathLimit, rowLimit, pathTooLong, row, rows, rowsFrom, Ready, Fills}
+use Rattle.aff_list.specs.passes.Block.{endAfter, putAfter}
+use Rattle.aff_list.proofs.RowLaws.{after-stays, after-put}
 
--- Text put behind the first bytes of a block ends where those and the text are.
-taken-behind : (used : ℕ) (text l : List ℕ) → used ≤ length l → take (used + length text) (spliced used text l) ≡ take used l ++ text
+-- Text put after the first bytes of a block ends where those and the text are.
+taken-after : (used : ℕ) (text l : List ℕ) → used ≤ length l → take (used + length text) (spliced used text l) ≡ take used l ++ text
 unfolding spliced
-taken-behind used text l h =
+taken-after used text l h =
     ap (take (used + length text)) (sym (append-assoc (take used l) text (drop (used + length text) l)))
     ∙ take-at (take used l ++ text) _ (used + length text) (length-append (take used l) text ∙ ap (λ (n : ℕ). n + length text) (length-take-le used l h))
 
@@ -48,7 +50,7 @@ pub record Filling (image : List ℕ) (reader : Reader) (strings entries : List 
 
 module _ {image : List ℕ} {reader : Reader} {strings entries numbers : List ℕ} (ready : Ready image reader strings entries numbers) where
   abbrev all : List ℕ
-  all = order image reader strings entries
+  all = listingOrder image reader strings entries
 
   abbrev rowOf : ℕ → List ℕ
   rowOf = row image reader strings entries
@@ -92,13 +94,13 @@ module _ {image : List ℕ} {reader : Reader} {strings entries numbers : List �
           record { more = omega arith; most = v .most; inside = v .inside; text = v .text; stays = v .stays; full = λ q. absurd (omega arith) }
 
       module _ (h : next ≤ reader .nodes) {n end : ℕ} {p : List ℕ} (is : n ≡ getD numbers next 0)
-          (ends : end ≡ endBehind used (rowOf n) block) (puts : p ≡ putBehind used (rowOf n) block) where
+          (ends : end ≡ endAfter used (rowOf n) block) (puts : p ≡ putAfter used (rowOf n) block) where
         within : n ≤ reader .nodes
         within = omega (arith, is, number-within next h)
 
         pub filled-full : rowLimit ≤ length o → end ≡ used → Fills image reader strings entries from next used o p
-        filled-full room e =
-            let kept = behind-stays used (rowOf n) block ends puts (omega (arith, row-length n)) e in
+        filled-full size e =
+            let kept = after-stays used (rowOf n) block ends puts (omega (arith, row-length n)) e in
             record {
               more = ⊎-elim (λ q. q) (λ (q : next ≤ from). absurd (omega (arith, kept .0, v .first q, v .sized, row-small n within))) (split from next);
               most = v .most;
@@ -110,8 +112,8 @@ module _ {image : List ℕ} {reader : Reader} {strings entries numbers : List �
 
         pub filling-next : (end ≡ used → ⊥) → Filling image reader strings entries from o p (next + 1) end
         filling-next other =
-            let (fits, at, area) = behind-put used (rowOf n) block ends puts other in
-            let taken : take end p ≡ take used block ++ rowOf n = rw (area, at) (taken-behind used (rowOf n) block (v .inside)) in
+            let (fits, at, area) = after-put used (rowOf n) block ends puts other in
+            let taken : take end p ≡ take used block ++ rowOf n = rw (area, at) (taken-after used (rowOf n) block (v .inside)) in
             let long : length p ≡ length block = ap length area ∙ length-spliced used (rowOf n) block fits in
             record {
               least = omega (arith, v .least);

@@ -11,14 +11,14 @@ use Rattle.aff_format.specs.Refusal.{numberOf, placeOf}
 use Rattle.aff_format.specs.declared.refusal.Refusal.{Refusal}
 use Rattle.aff_format.specs.declared.verdict.Verdict.{Verdict}
 use Rattle.aff_format.specs.declared.verdict.Verdict.the-variants.{Accepted, Refused}
-use Rattle.aff_open.specs.Opening.{openingTold, verdictOf, readerAfter, stringsAfter, entriesAfter}
+use Rattle.aff_open.specs.Opening.{answerOfOpening, verdictOf, readerAfter, stringsAfter, entriesAfter}
 use Rattle.aff_open.specs.Reader.{noReader}
 use Rattle.aff_open.specs.Sections.{formFor}
 use Rattle.aff_open.specs.declared.opening.Opening.{Opening}
 use Rattle.aff_open.specs.declared.reader.Reader.{Reader}
-use Rattle.aff_read.specs.Written.{Written}
+use Rattle.aff_read.specs.passes.Written.{Written}
 use Rattle.aff_read.proofs.WrittenLaws.{written-front, written-taken}
-use Rattle.aff_list.specs.Lister.{inputLimit, isLong, Ready, Fills, Starts, judged, orderAfter, textOf, refusalLine, tooLongLine, listed, printed, rowsFrom}
+use Rattle.aff_list.specs.Lister.{inputLimit, isLong, Ready, Fills, Starts, judged, orderAfter, printedText, refusalLine, tooLongLine, listed, printed, rowsFrom}
 use Rattle.aff_list.proofs.PrintedLaws.{printed-long, printed-short, rows-end}
 use Rattle.aff_list.proofs.ReadyLaws.{Begun, begun-ready}
 
@@ -54,22 +54,22 @@ starts-lines {image} {reader} {strings} {entries} {text} {numbers} {next} {used}
 
 -- What opening answered for an input that is not too long, and then what was put into the block.
 module _ (image strings entries numbers : List ℕ) (short : length image ≤ inputLimit) (s : length strings ≡ 2048) (e : length entries ≡ 2048)
-    (o : Opening) {ss es ns : List ℕ} (b : Begun image strings entries numbers (openingTold o) (o .reader) ss es ns) where
-  told-is : (v : Verdict) → o .verdict ≡ v → verdictOf v (o .reader) ≡ judged image strings entries
-  told-is v h = ap (λ (w : Verdict). verdictOf w (o .reader)) (sym h) ∙ b .0
+    (o : Opening) {ss es ns : List ℕ} (b : Begun image strings entries numbers (answerOfOpening o) (o .reader) ss es ns) where
+  reported-is : (v : Verdict) → o .verdict ≡ v → verdictOf v (o .reader) ≡ judged image strings entries
+  reported-is v h = ap (λ (w : Verdict). verdictOf w (o .reader)) (sym h) ∙ b .0
 
-  listed-is : (v : Verdict) → o .verdict ≡ v → listed image strings entries ≡ textOf image ss es (verdictOf v (o .reader))
+  listed-is : (v : Verdict) → o .verdict ≡ v → listed image strings entries ≡ printedText image ss es (verdictOf v (o .reader))
   unfolding listed
-  listed-is v h = rw (sym (told-is v h), b .1 .1 .0, b .1 .1 .1 .0)
+  listed-is v h = rw (sym (reported-is v h), b .1 .1 .0, b .1 .1 .1 .0)
 
-  printed-is : (v : Verdict) → o .verdict ≡ v → printed image ≡ textOf image ss es (verdictOf v (o .reader))
+  printed-is : (v : Verdict) → o .verdict ≡ v → printed image ≡ printedText image ss es (verdictOf v (o .reader))
   printed-is v h = printed-short image strings entries short s e ∙ listed-is v h
 
   pub first-refused : (q : Refusal) → o .verdict ≡ Refused q → {used : ℕ} {before after : List ℕ}
       → Written 0 (refusalLine (numberOf q) (placeOf q)) before after used
       → Starts image (o .reader) ss es (printed image) ns 1 used before after
   first-refused q h w =
-      let z : o .reader .nodes ≡ 0 = ap (λ (r : Reader). r .nodes) (b .1 .0 ∙ ap readerAfter (sym (told-is (Refused q) h))) in
+      let z : o .reader .nodes ≡ 0 = ap (λ (r : Reader). r .nodes) (b .1 .0 ∙ ap readerAfter (sym (reported-is (Refused q) h))) in
       rw (printed-is (Refused q) h) (starts-whole z w)
 
   pub first-accepted : o .verdict ≡ Accepted → {next used : ℕ} {before after : List ℕ}

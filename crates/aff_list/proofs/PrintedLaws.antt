@@ -4,22 +4,22 @@ use mathlib.Core.Path.{_≡_, refl, sym, ap, _∙_}
 use mathlib.Core.Bool.{false}
 use mathlib.Core.List.{List, [], _++_, append-nil}
 use mathlib.Core.Logic.{⊎-elim}
-use Prim.Native.Nat.{ℕ, _+_, _≤_, _<_}
+use Prim.Native.Nat.{ℕ, _≤_, _<_}
 use native.Mathlib.Omega.{arith}
 use lib.ListN.{length, take, drop, length-replicate, drop-of-length-le}
 use lib.Seq.{length-take-le, take-all}
 use borrow.Author.Tests.{lt-ltb, le-ltb}
 use Rattle.aff_format.specs.Answer.{Answer, accepted, refused}
 use Rattle.aff_format.proofs.EditionLaws.{length-numberForm}
-use Rattle.aff_open.specs.Belongs.{Belongs}
-use Rattle.aff_open.specs.Opening.{lentWrong, opened, areaAfter, stringPlaces, nodePlaces, stringsAfter, entriesAfter}
+use Rattle.aff_open.specs.Belongs.{ReaderBelongs}
+use Rattle.aff_open.specs.Opening.{lengthsWrong, openAnswer, areaFilled, stringPlaces, nodePlaces, stringsAfter, entriesAfter}
 use Rattle.aff_open.specs.Sections.{editionIn, formFor}
 use Rattle.aff_open.specs.declared.reader.Reader.{Reader}
-use Rattle.aff_open.proofs.FaultLaws.{lent-asks}
-use Rattle.aff_open.proofs.OrderLaws.{split}
-use Rattle.aff_read.specs.Calls.{order}
+use Rattle.aff_open.proofs.FaultLaws.{lengths-asks}
+use Rattle.aff_tables.proofs.OrderLaws.{split}
+use Rattle.aff_read.specs.ListingOrder.{listingOrder}
 use Rattle.aff_read.proofs.OnceLaws.{order-length}
-use Rattle.aff_list.specs.Lister.{inputLimit, rows, rowsFrom, Starts, FilledFrom, none, more, judged, withPaths, textOf, tooLongLine, listed, zeroArea, printed, Printing}
+use Rattle.aff_list.specs.Lister.{inputLimit, rows, rowsFrom, Starts, FilledFrom, none, more, judged, withPaths, printedText, tooLongLine, listed, zeroArea, printed, Printing}
 use Rattle.aff_list.proofs.DigitLaws.{digits-enough}
 
 pub printed-long : (input : List ℕ) → inputLimit < length input → printed input ≡ tooLongLine
@@ -32,23 +32,23 @@ zero-length : length zeroArea ≡ 2048
 unfolding zeroArea
 zero-length = length-replicate {A = ℕ} 2048 0
 
-area-same : (answer : Answer Reader) (area places : List ℕ) → length area ≡ 2048 → areaAfter answer area places ≡ areaAfter answer zeroArea places
+area-same : (answer : Answer Reader) (area places : List ℕ) → length area ≡ 2048 → areaFilled answer area places ≡ areaFilled answer zeroArea places
 area-same (accepted r) area places h = rw (h, zero-length)
 area-same (refused t) area places h = rw (h, zero-length)
 
 module _ (input : List ℕ) where
   abbrev answer : Answer Reader
-  answer = opened input (formFor input) 2048 2048
+  answer = openAnswer input (formFor input) 2048 2048
 
   abbrev ss : List ℕ
-  ss = areaAfter answer zeroArea (stringPlaces (editionIn input) input)
+  ss = areaFilled answer zeroArea (stringPlaces (editionIn input) input)
 
   abbrev es : List ℕ
-  es = areaAfter answer zeroArea (nodePlaces (editionIn input) input)
+  es = areaFilled answer zeroArea (nodePlaces (editionIn input) input)
 
   module _ (short : length input ≤ inputLimit) (strings entries : List ℕ) (s : length strings ≡ 2048) (e : length entries ≡ 2048) where
-    right : lentWrong input (formFor input) (length strings) (length entries) ≡ false
-    right = lent-asks input (formFor input) (length strings) (length entries) .1 (length-numberForm (editionIn input), s, e, omega arith)
+    right : lengthsWrong input (formFor input) (length strings) (length entries) ≡ false
+    right = lengths-asks input (formFor input) (length strings) (length entries) .1 (length-numberForm (editionIn input), s, e, omega arith)
 
     strings-same : stringsAfter input (formFor input) strings entries ≡ ss
     unfolding stringsAfter
@@ -58,7 +58,7 @@ module _ (input : List ℕ) where
     unfolding entriesAfter
     entries-same = rw (right, s, e) (area-same answer entries (nodePlaces (editionIn input) input) e)
 
-    listed-same : listed input strings entries ≡ textOf input ss es (withPaths input ss es answer)
+    listed-same : listed input strings entries ≡ printedText input ss es (withPaths input ss es answer)
     unfolding listed judged
     listed-same = rw (strings-same, entries-same, s, e)
 
@@ -82,13 +82,13 @@ printed-front input size h =
 
 module _ {image : List ℕ} {reader : Reader} {strings entries : List ℕ} where
   -- No line comes after that of the last node.
-  pub rows-end : Belongs image reader strings entries → {k : ℕ} → reader .nodes < k → rowsFrom image reader strings entries k ≡ []
+  pub rows-end : ReaderBelongs image reader strings entries → {k : ℕ} → reader .nodes < k → rowsFrom image reader strings entries k ≡ []
   unfolding rows
   rows-end b {k} h =
-      let e : drop k (order image reader strings entries) ≡ [] = drop-of-length-le (order image reader strings entries) {i = k} (omega (arith, order-length b)) in
+      let e : drop k (listingOrder image reader strings entries) ≡ [] = drop-of-length-le (listingOrder image reader strings entries) {i = k} (omega (arith, order-length b)) in
       rw e
 
-  filled-rows : Belongs image reader strings entries → {from : ℕ} {text : List ℕ} → FilledFrom image reader strings entries from text
+  filled-rows : ReaderBelongs image reader strings entries → {from : ℕ} {text : List ℕ} → FilledFrom image reader strings entries from text
       → text ≡ rowsFrom image reader strings entries from
   filled-rows b (none h) = sym (rows-end b h)
   filled-rows b (more {from} {next} {used} {before} {after} {text} f g) = ap (λ (l : List ℕ). take used after ++ l) (filled-rows b g) ∙ sym (f .text)

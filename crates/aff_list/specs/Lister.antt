@@ -3,17 +3,18 @@ use mathlib.Core.Path.{_≡_}
 use mathlib.Core.Bool.{Bool, cond}
 use mathlib.Core.List.{List, [], _∷_, _++_}
 use Prim.Native.Nat.{ℕ, _+_, _≤_, _<_}
-use lib.Dec.{ltb, leb}
+use lib.Dec.{ltb}
 use lib.ListN.{length, getD, take, drop, replicate}
 use Rattle.aff_format.specs.Answer.{Answer, accepted, refused, Check, check, refusal, firstWrong}
-use Rattle.aff_format.specs.Bytes.{spliced}
 use Rattle.aff_format.specs.Lowest.{lowestFrom, isAt}
 use Rattle.aff_format.specs.declared.lowest.Lowest.the-variants.{Nothing}
-use Rattle.aff_open.specs.Belongs.{Belongs}
-use Rattle.aff_open.specs.Opening.{opened, stringsAfter, entriesAfter}
+use Rattle.aff_open.specs.Belongs.{ReaderBelongs}
+use Rattle.aff_open.specs.Opening.{openAnswer, stringsAfter, entriesAfter}
 use Rattle.aff_open.specs.Sections.{formFor}
 use Rattle.aff_open.specs.declared.reader.Reader.{Reader}
-use Rattle.aff_read.specs.Calls.{frontWritten, order, decimal, lineAt}
+use Rattle.aff_read.specs.Paths.{frontWritten}
+use Rattle.aff_read.specs.ListingOrder.{listingOrder}
+use Rattle.aff_list.specs.Line.{decimal, lineAt}
 use Rattle.aff_read.specs.Recall.{pathAt}
 
 -- The longest input that is listed, and whether an input is longer.
@@ -23,7 +24,7 @@ inputLimit = 65536
 abbrev pub isLong : List ℕ → Bool
 isLong input = ltb inputLimit (length input)
 
--- The longest path that is printed, and the longest line with its line feed: at most 19 bytes stand behind the path.
+-- The longest path that is printed, and the longest line with its line feed: at most 19 bytes follow the path, then the line feed.
 abbrev pub pathLimit : ℕ
 pathLimit = 65536
 
@@ -44,7 +45,7 @@ module _ (image : List ℕ) (reader : Reader) (strings entries : List ℕ) where
 
   -- The line at place k of listing order.
   abbrev pub rowAt : ℕ → List ℕ
-  rowAt k = row (getD (order image reader strings entries) k 0)
+  rowAt k = row (getD (listingOrder image reader strings entries) k 0)
 
   -- The lines of some nodes.
   unfoldable pub rows : List ℕ → List ℕ
@@ -53,14 +54,14 @@ module _ (image : List ℕ) (reader : Reader) (strings entries : List ℕ) where
 
   -- What is printed from the line at place k of listing order on; from place 0 on it is all.
   abbrev pub rowsFrom : ℕ → List ℕ
-  rowsFrom k = rows (drop k (order image reader strings entries))
+  rowsFrom k = rows (drop k (listingOrder image reader strings entries))
 
-  -- Nothing more is to be judged before the first line: the record belongs to what is lent, no path is too long, and listing order stands at
-  -- the front of its area.
+  -- All is ready for the first line: the record belongs to the caller's buffers, no path is too long, and listing order stands at the front of its
+  -- area.
   pub record Ready (numbers : List ℕ) : Type 0 where
-    pub belongs : Belongs image reader strings entries
+    pub belongs : ReaderBelongs image reader strings entries
     pub fits : lowestFrom pathTooLong (reader .nodes + 1) 0 ≡ Nothing
-    pub ordered : take (reader .nodes + 1) numbers ≡ order image reader strings entries
+    pub ordered : take (reader .nodes + 1) numbers ≡ listingOrder image reader strings entries
 
   -- A block is filled from its front with the lines from place `from` of listing order on, one at least, up to place `next`: as many as it has
   -- room for. The rest of it stays.
@@ -98,18 +99,18 @@ withPaths image strings entries (accepted r) = firstWrong (pathChecks image r st
 unfoldable pub judged : List ℕ → List ℕ → List ℕ → Answer Reader
 judged image strings entries =
     withPaths image (stringsAfter image (formFor image) strings entries) (entriesAfter image (formFor image) strings entries)
-    (opened image (formFor image) (length strings) (length entries))
+    (openAnswer image (formFor image) (length strings) (length entries))
 
--- Behind an accepted opening, listing order stands at the front of its area, also where a path is too long; a refused one leaves the area.
+-- After an accepted opening, listing order stands at the front of its area, also where a path is too long; a refused one leaves the area.
 abbrev pub withOrder : List ℕ → List ℕ → List ℕ → List ℕ → Answer Reader → List ℕ
 withOrder image strings entries numbers (refused t) = numbers
-withOrder image strings entries numbers (accepted r) = frontWritten (accepted (r .nodes + 1)) (order image r strings entries) numbers
+withOrder image strings entries numbers (accepted r) = frontWritten (accepted (r .nodes + 1)) (listingOrder image r strings entries) numbers
 
 -- The area for listing order, before the first line is printed.
 unfoldable pub orderAfter : List ℕ → List ℕ → List ℕ → List ℕ → List ℕ
 orderAfter image strings entries numbers =
     withOrder image (stringsAfter image (formFor image) strings entries) (entriesAfter image (formFor image) strings entries) numbers
-    (opened image (formFor image) (length strings) (length entries))
+    (openAnswer image (formFor image) (length strings) (length entries))
 
 -- ---- The whole text that `list` prints.
 
@@ -129,14 +130,14 @@ unfoldable pub refusalLine : ℕ → ℕ → List ℕ
 refusalLine number place = refusedWord ++ (inDecimal number ++ (32 ∷ (inDecimal place ++ (10 ∷ []))))
 
 -- What is printed once all is decided: the line of a refusal, or the line of each node in listing order.
-abbrev pub textOf : List ℕ → List ℕ → List ℕ → Answer Reader → List ℕ
-textOf image strings entries (refused t) = refusalLine (t .number) (t .place)
-textOf image strings entries (accepted r) = rows image r strings entries (order image r strings entries)
+abbrev pub printedText : List ℕ → List ℕ → List ℕ → Answer Reader → List ℕ
+printedText image strings entries (refused t) = refusalLine (t .number) (t .place)
+printedText image strings entries (accepted r) = rows image r strings entries (listingOrder image r strings entries)
 
 -- What is printed of an input that is not too long, opened with work areas that hold these numbers before.
 unfoldable pub listed : List ℕ → List ℕ → List ℕ → List ℕ
 listed input strings entries =
-    textOf input (stringsAfter input (formFor input) strings entries) (entriesAfter input (formFor input) strings entries) (judged input strings entries)
+    printedText input (stringsAfter input (formFor input) strings entries) (entriesAfter input (formFor input) strings entries) (judged input strings entries)
 
 -- A work area: 2,048 zeros.
 unfoldable pub zeroArea : List ℕ
@@ -163,10 +164,3 @@ pub record Printing : Type 0 where
   pub in-order : {input : List ℕ} {reader : Reader} {strings entries numbers : List ℕ} {next used : ℕ} {before after rest : List ℕ}
       → Starts input reader strings entries (printed input) numbers next used before after → FilledFrom input reader strings entries next rest
       → take used after ++ rest ≡ printed input
-
--- Text put behind the first `used` bytes of a block, where the block has room for it: where it ends, and the block after it.
-unfoldable pub endBehind : ℕ → List ℕ → List ℕ → ℕ
-endBehind used text block = cond (leb (used + length text) (length block)) (used + length text) used
-
-unfoldable pub putBehind : ℕ → List ℕ → List ℕ → List ℕ
-putBehind used text block = cond (leb (used + length text) (length block)) (spliced used text block) block

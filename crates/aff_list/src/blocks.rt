@@ -1,42 +1,44 @@
 // What is printed of an input, block by block. The image is opened and every path measured before the first line; then one block is filled after
 // another. The first is `first_block`'s, the others are `fill`'s.
+use crate::line;
 use crate::refusal_line;
 use aff_format::NumberAnswer;
 use aff_format::Refusal;
 use aff_format::Verdict;
+use aff_format::recorded;
 use aff_open::Opening;
 use aff_open::Reader;
-use aff_open::recorded;
-use aff_read::lister;
+use aff_read::listing;
 use aff_read::paths;
 ghost use mathlib.Core.Path.{_≡_};
 ghost use mathlib.Core.Bool.{cond};
 ghost use Prim.Native.Nat.{_≤_};
 ghost use lib.ListN.{length};
 ghost use Rattle.aff_format.specs.Answer.{accepted, firstWrong};
-ghost use Rattle.aff_format.specs.Verdict.{verdictTold};
-ghost use Rattle.aff_open.specs.Belongs.{Belongs};
-ghost use Rattle.aff_open.specs.Opening.{openingTold, readerAfter, stringsAfter, entriesAfter};
+ghost use Rattle.aff_format.specs.Verdict.{answerOfVerdict};
+ghost use Rattle.aff_open.specs.Belongs.{ReaderBelongs};
+ghost use Rattle.aff_open.specs.Opening.{answerOfOpening, readerAfter, stringsAfter, entriesAfter};
 ghost use Rattle.aff_open.specs.Reader.{noReader};
 ghost use Rattle.aff_open.specs.Sections.{formFor};
-ghost use Rattle.aff_list.specs.Lister.{pathChecks, row, Ready, Fills, Starts, inputLimit, isLong, judged, withOrder, orderAfter, printed, endBehind, putBehind};
+ghost use Rattle.aff_list.specs.Lister.{pathChecks, row, Ready, Fills, Starts, inputLimit, isLong, judged, withOrder, orderAfter, printed};
+ghost use Rattle.aff_list.specs.passes.Block.{endAfter, putAfter};
 
 // 21 where a path is above 65,536 bytes, for a record that belongs. One climb a node.
 fn measure(image: &[u8], reader: Reader, strings: &[u32], entries: &[u32]) -> Verdict
-    requires { ⌜ Belongs (now image) reader (now strings) (now entries) ⌝ }
-    ensures { λ r. ⌜ verdictTold r ≡ firstWrong (pathChecks (now (image .entry)) reader (now (strings .entry)) (now (entries .entry))) tt ⌝ }
+    requires { ⌜ ReaderBelongs (now image) reader (now strings) (now entries) ⌝ }
+    ensures { λ r. ⌜ answerOfVerdict r ≡ firstWrong (pathChecks (now (image .entry)) reader (now (strings .entry)) (now (entries .entry))) tt ⌝ }
 {
     let mut k: usize = 0;
     while k <= reader.nodes {
         if 65536 < paths::path_length(image, reader, strings, entries, k, 65536) {
-            return Verdict::Refused(Refusal::NoRoom);
+            return Verdict::Refused(Refusal::BufferTooSmall);
         }
         k += 1;
     }
     Verdict::Accepted
 }
 
-// Behind an accepted opening: writes listing order, and measures the paths. A path that is too long makes it a refused opening, whose record
+// After an accepted opening: writes listing order, and measures the paths. A path that is too long makes it a refused opening, whose record
 // is all zero.
 fn prepare(
     image: &[u8],
@@ -45,12 +47,12 @@ fn prepare(
     entries: &[u32],
     order: &mut [u32; 2049],
 ) -> Opening
-    requires { ⌜ Belongs (now image) reader (now strings) (now entries) ⌝ }
-    ensures answer { λ r. ⌜ openingTold r ≡ firstWrong (pathChecks (now (image .entry)) reader (now (strings .entry)) (now (entries .entry))) reader ⌝ }
-    ensures record { λ r. ⌜ r .reader ≡ readerAfter (openingTold r) ⌝ }
+    requires { ⌜ ReaderBelongs (now image) reader (now strings) (now entries) ⌝ }
+    ensures answer { λ r. ⌜ answerOfOpening r ≡ firstWrong (pathChecks (now (image .entry)) reader (now (strings .entry)) (now (entries .entry))) reader ⌝ }
+    ensures record { λ r. ⌜ r .reader ≡ readerAfter (answerOfOpening r) ⌝ }
     ensures order { λ _. ⌜ now (order .exit) ≡ withOrder (now (image .entry)) (now (strings .entry)) (now (entries .entry)) (now (order .entry)) (accepted reader) ⌝ }
 {
-    lister::listing_of(image, reader, strings, entries, order);
+    listing::listing_of(image, reader, strings, entries, order);
     let none = Reader::none();
     match measure(image, reader, strings, entries) {
         Verdict::Refused(refusal) => Opening {
@@ -73,7 +75,7 @@ pub fn begin(
     entries: &mut [u32],
     order: &mut [u32; 2049],
 ) -> Opening
-    ensures answer { λ r. ⌜ openingTold r ≡ judged (now (image .entry)) (now (strings .entry)) (now (entries .entry)) ⌝ }
+    ensures answer { λ r. ⌜ answerOfOpening r ≡ judged (now (image .entry)) (now (strings .entry)) (now (entries .entry)) ⌝ }
     ensures record { λ r. ⌜ r .reader ≡ readerAfter (judged (now (image .entry)) (now (strings .entry)) (now (entries .entry))) ⌝ }
     ensures strings { λ _. ⌜ now (strings .exit) ≡ stringsAfter (now (image .entry)) (formFor (now (image .entry))) (now (strings .entry)) (now (entries .entry)) ⌝ }
     ensures entries { λ _. ⌜ now (entries .exit) ≡ entriesAfter (now (image .entry)) (formFor (now (image .entry))) (now (strings .entry)) (now (entries .entry)) ⌝ }
@@ -92,8 +94,8 @@ pub fn begin(
     }
 }
 
-// Puts a node's line and a line feed behind the first `used` bytes of a block, and answers where they end. A block that has no room for
-// them stays, and `used` is the answer.
+// Puts a node's line and a line feed after the first `used` bytes of a block, and returns where they end. A block that has no size for them
+// stays, and `used` is returned.
 fn put_row(
     image: &[u8],
     reader: Reader,
@@ -103,16 +105,16 @@ fn put_row(
     used: usize,
     block: &mut [u8],
 ) -> usize
-    requires { ⌜ Belongs (now image) reader (now strings) (now entries) × (node ≤ reader .nodes) × (used ≤ length (now block)) ⌝ }
-    ensures { λ r. ⌜ r ≡ endBehind used (row (now (image .entry)) reader (now (strings .entry)) (now (entries .entry)) node) (now (block .entry)) ⌝ }
-    ensures { λ r. ⌜ now (block .exit) ≡ putBehind used (row (now (image .entry)) reader (now (strings .entry)) (now (entries .entry)) node) (now (block .entry)) ⌝ }
+    requires { ⌜ ReaderBelongs (now image) reader (now strings) (now entries) × (node ≤ reader .nodes) × (used ≤ length (now block)) ⌝ }
+    ensures { λ r. ⌜ r ≡ endAfter used (row (now (image .entry)) reader (now (strings .entry)) (now (entries .entry)) node) (now (block .entry)) ⌝ }
+    ensures { λ r. ⌜ now (block .exit) ≡ putAfter used (row (now (image .entry)) reader (now (strings .entry)) (now (entries .entry)) node) (now (block .entry)) ⌝ }
 {
-    let room = block.len();
-    if room == used {
+    let size = block.len();
+    if size == used {
         return used;
     }
-    let last = room - 1;
-    match lister::line_of(
+    let last = size - 1;
+    match line::line_of(
         image,
         reader,
         strings,
@@ -135,7 +137,7 @@ pub struct Filled {
     pub used: usize,
 }
 
-// Fills a block from its front with the lines from a place in listing order on, one at least and as many as it has room for; the rest of it
+// Fills a block from its front with the lines from a place in listing order on, one at least and as many as it has size for; the rest of it
 // stays.
 pub fn fill(
     image: &[u8],

@@ -1,4 +1,6 @@
 // What the program `list` prints of an image.
+pub mod decimal; // numbers in decimal digits
+pub mod line; // a node's line
 pub mod refusal_line; // the line `refused N P`
 pub mod blocks; // the text, block by block
 pub mod output; // on standard output

@@ -11,7 +11,7 @@ use borrow.Author.Tests.{eqb-true, leb-true, eq-eqb, le-leb, not-true, not-false
 use Rattle.aff_format.specs.Edition.{editionOf}
 use Rattle.aff_format.specs.Kind.{entrySize}
 use Rattle.aff_format.specs.Limits.{imageLimit, stringLimit, nodeLimit}
-use Rattle.aff_format.specs.Lowest.{lowestFrom, isAt}
+use Rattle.aff_format.specs.Lowest.{lowestFrom, isAt, noneFrom}
 use Rattle.aff_format.specs.Tree.{reachesBy}
 use Rattle.aff_format.specs.declared.edition.Edition.{Edition}
 use Rattle.aff_format.specs.declared.edition.FoundEdition.{FoundEdition}
@@ -23,16 +23,18 @@ use Rattle.aff_format.proofs.EntryLaws.{entry-inside}
 use Rattle.aff_format.proofs.KindLaws.{entry-size-bounds}
 use Rattle.aff_format.proofs.LowestLaws.{none-holds, holds-none, none-at}
 use Rattle.aff_format.proofs.TestLaws.{both, all-seven}
-use Rattle.aff_open.specs.Belongs.{belongs, Belongs, sizesBelong, spanInside, sectionsInside, stringLost, nodeLost, noneLost, climbsBelong, nodesBelong, tablesBelong, ParentsCopied}
-use Rattle.aff_open.specs.Climb.{parentAt, Linked}
-use Rattle.aff_open.specs.Nodes.{climbEndless}
+use Rattle.aff_open.specs.Belongs.{readerBelongs, ReaderBelongs, sizesBelong, spanInside, stringLost, nodeLost, climbsBelong}
+use Rattle.aff_open.specs.passes.Belongs.{sectionsInside, nodesBelong, tablesBelong, ParentsCopied}
+use Rattle.aff_tables.specs.passes.Climb.{copiedParent, ParentsExist}
+use Rattle.aff_tables.specs.Nodes.{climbEndless}
 use Rattle.aff_open.specs.Reader.{noReader}
-use Rattle.aff_open.specs.Recorded.{foundEntry, recordedEntry, recordedString}
+use Rattle.aff_format.specs.Recorded.{foundEntry, recordedEntry, recordedString}
 use Rattle.aff_open.specs.Sections.{isKnown}
 use Rattle.aff_open.specs.declared.reader.Span.{Span}
 use Rattle.aff_open.specs.declared.reader.Reader.{Reader}
-use Rattle.aff_open.proofs.LostLaws.{Kept, stringEnd, string-kept, kept-string, name-until, name-zero, entry-kept, kept-entry, recorded-found}
-use Rattle.aff_open.proofs.ParentLaws.{copied-climbs, copied-linked}
+use Rattle.aff_open.proofs.LostLaws.{Kept, stringEnd, string-kept, kept-string, name-until, name-zero, entry-kept, kept-entry}
+use Rattle.aff_format.proofs.RecordedLaws.{recorded-found}
+use Rattle.aff_tables.proofs.ParentLaws.{copied-climbs, copied-linked}
 
 known : (f : FoundEdition) → isKnown f ≡ true → (e : Edition) × (f ≡ Known e)
 known (Known e) h = (e, refl)
@@ -40,19 +42,19 @@ known Unknown h = absurd (false≢true h)
 
 module _ (image : List ℕ) (reader : Reader) (strings entries : List ℕ) where
   -- The test in the order of the passes.
-  pub belongs-parts : belongs image reader strings entries
+  pub belongs-parts : readerBelongs image reader strings entries
       ≡ (sizesBelong image reader strings entries && (sectionsInside image reader && tablesBelong image reader strings entries))
-  unfolding belongs sectionsInside nodesBelong tablesBelong
+  unfolding readerBelongs sectionsInside nodesBelong tablesBelong
   belongs-parts = simp and-assoc
 
-  pub sizes-decide : sizesBelong image reader strings entries ≡ false → belongs image reader strings entries ≡ false
+  pub sizes-decide : sizesBelong image reader strings entries ≡ false → readerBelongs image reader strings entries ≡ false
   sizes-decide h = belongs-parts ∙ rw h
 
-  pub sections-decide : sectionsInside image reader ≡ false → belongs image reader strings entries ≡ false
+  pub sections-decide : sectionsInside image reader ≡ false → readerBelongs image reader strings entries ≡ false
   sections-decide h = belongs-parts ∙ rw (h, and-false)
 
   pub tables-decide : sizesBelong image reader strings entries ≡ true → sectionsInside image reader ≡ true
-      → belongs image reader strings entries ≡ tablesBelong image reader strings entries
+      → readerBelongs image reader strings entries ≡ tablesBelong image reader strings entries
   tables-decide h g = belongs-parts ∙ rw (h, g)
 
   pub edition-decides : length image ≡ reader .length → reader .length ≤ imageLimit → length strings ≡ stringLimit → length entries ≡ nodeLimit
@@ -107,14 +109,14 @@ module _ (image : List ℕ) (strings nodes : ℕ) (entries : List ℕ) (none : l
   parents-kept : (k : ℕ) → 0 < k → k ≤ nodes → recordedEntry image entries k .parent ≤ nodes
   parents-kept k l h = nodes-kept k l h .1 .parent
 
-  pub nodes-linked : {parents : List ℕ} → ParentsCopied (recordedEntry image entries) nodes parents → nodes ≤ nodeLimit → nodes < length parents → Linked parents nodes
+  pub nodes-linked : {parents : List ℕ} → ParentsCopied (recordedEntry image entries) nodes parents → nodes ≤ nodeLimit → nodes < length parents → ParentsExist parents nodes
   nodes-linked {parents} copied = copied-linked (recordedEntry image entries) nodes parents (copied .parent) parents-kept
 
 -- The climbs by copied parents decide.
 pub climbs-decide : (image : List ℕ) (reader : Reader) (entries : List ℕ) {parents : List ℕ}
     → lowestFrom (nodeLost image (reader .strings) (reader .nodes) entries) (reader .nodes) 1 ≡ Nothing
     → ParentsCopied (recordedEntry image entries) (reader .nodes) parents
-    → (l : Lowest) → lowestFrom (λ k. not (reachesBy (parentAt parents) (reader .nodes) k)) (reader .nodes) 1 ≡ l
+    → (l : Lowest) → lowestFrom (λ k. not (reachesBy (copiedParent parents) (reader .nodes) k)) (reader .nodes) 1 ≡ l
     → nodesBelong image reader entries ≡ not (isAt l)
 unfolding nodesBelong
 climbs-decide image reader entries {parents} none copied l e =
@@ -128,14 +130,14 @@ climbs-decide image reader entries {parents} none copied l e =
 -- ---- The test and the clauses.
 
 pub belongs-record : {image : List ℕ} {reader : Reader} {strings entries : List ℕ}
-    → belongs image reader strings entries ≡ true → Belongs image reader strings entries
+    → readerBelongs image reader strings entries ≡ true → ReaderBelongs image reader strings entries
 unfolding climbEndless nodesBelong tablesBelong
 belongs-record {image} {reader} {strings} {entries} h =
     let p = both (sizesBelong image reader strings entries) (sectionsInside image reader && tablesBelong image reader strings entries)
     (sym (belongs-parts image reader strings entries) ∙ h) in
     let q = both (sectionsInside image reader) (tablesBelong image reader strings entries) (p .1) in
-    let t = both (noneLost (stringLost image (reader .symbols) strings) (reader .strings) 0) (nodesBelong image reader entries) (q .1) in
-    let n = both (noneLost (nodeLost image (reader .strings) (reader .nodes) entries) (reader .nodes) 1) (climbsBelong image reader entries) (t .1) in
+    let t = both (noneFrom (stringLost image (reader .symbols) strings) (reader .strings) 0) (nodesBelong image reader entries) (q .1) in
+    let n = both (noneFrom (nodeLost image (reader .strings) (reader .nodes) entries) (reader .nodes) 1) (climbsBelong image reader entries) (t .1) in
     let s = sizes-hold image reader strings entries (p .0) in
     let e = known (editionOf (reader .edition)) (s .6) in
     let d = sections-hold image reader (q .0) in
@@ -168,7 +170,7 @@ belongs-record {image} {reader} {strings} {entries} h =
           not-false _ (none-holds (climbEndless (reader .nodes) (recordedEntry image entries)) (reader .nodes) 1 (none-at _ (not-true _ (n .1))) k (omega arith) (omega arith));
     }
 
-module _ {image : List ℕ} {reader : Reader} {strings entries : List ℕ} (b : Belongs image reader strings entries) where
+module _ {image : List ℕ} {reader : Reader} {strings entries : List ℕ} (b : ReaderBelongs image reader strings entries) where
   sizes-true : sizesBelong image reader strings entries ≡ true
   sizes-true =
       edition-decides image reader strings entries (b .length-recorded) (b .length-allowed) (b .strings-area) (b .entries-area) (b .few-strings) (b .few-nodes)
@@ -198,18 +200,18 @@ module _ {image : List ℕ} {reader : Reader} {strings entries : List ℕ} (b : 
   unfolding climbEndless
   climbs-none = holds-none _ (reader .nodes) 1 (λ k l m. rw (b .climb-ends k l (omega arith)))
 
-  pub record-belongs : belongs image reader strings entries ≡ true
+  pub record-belongs : readerBelongs image reader strings entries ≡ true
   unfolding nodesBelong tablesBelong
   record-belongs = tables-decide image reader strings entries sizes-true sections-true ∙ rw (strings-none, nodes-none, climbs-none)
 
 -- The all-zero record never belongs: there is no edition 0.
-pub none-belongs : (image strings entries : List ℕ) → belongs image noReader strings entries ≡ false
+pub none-belongs : (image strings entries : List ℕ) → readerBelongs image noReader strings entries ≡ false
 unfolding sizesBelong
 none-belongs image strings entries = sizes-decide image noReader strings entries (simp and-false)
 
 -- ---- What a call that passes 24 knows.
 
-module _ {image : List ℕ} {reader : Reader} {strings entries : List ℕ} (b : Belongs image reader strings entries) where
+module _ {image : List ℕ} {reader : Reader} {strings entries : List ℕ} (b : ReaderBelongs image reader strings entries) where
   -- A string ends, and so begins, before the end of the symbol section, which is inside the image (`symbols-inside`). There stands a zero.
   pub string-within : (i : ℕ) → i < reader .strings
       → getD strings i 0 + length (recordedString image (reader .symbols .offset + reader .symbols .size) strings i) < reader .symbols .offset + reader .symbols .size

@@ -7,7 +7,7 @@ use mathlib.Core.Logic.{_↔_}
 use Prim.Native.Nat.{ℕ, _+_, _-_, _≤_}
 use native.Mathlib.Omega.{arith}
 use lib.Dec.{eqb, ltb}
-use lib.ListN.{length, getD, take}
+use lib.ListN.{length, take}
 use borrow.Author.Tests.{eqb-true, eq-eqb, ltb-false, le-ltb, not-false}
 use Rattle.md5.specs.Md5.{md5}
 use Rattle.aff_format.specs.Answer.{accepted, refused}
@@ -20,23 +20,25 @@ use Rattle.aff_format.specs.declared.section.Section.{Section}
 use Rattle.aff_format.specs.declared.section.Section.the-variants.{Symbol, Tree, Data}
 use Rattle.aff_format.specs.declared.edition.Edition.{Edition}
 use Rattle.aff_format.specs.declared.entry.Entry.{Entry}
-use Rattle.aff_format.specs.declared.refusal.Told.{Told}
+use Rattle.aff_format.specs.declared.refusal.RefusalCode.{RefusalCode}
 use Rattle.aff_format.proofs.ClimbLaws.{reaches-within}
 use Rattle.aff_format.proofs.LowestLaws.{none-holds, holds-none, none-at}
 use Rattle.aff_format.proofs.SameLaws.{same-eq, same-refl, ne-same}
 use Rattle.aff_format.proofs.StringsLaws.{endsInZero-textOf, textOf-stringsOf}
-use Rattle.aff_open.specs.Faults.{AllHold, FirstFails, Settled, Inside, Summed, Counted, Distinct, Linked, Climbs, NameFree, DataInside, nodeRules, tableRules, sectionRules, editionRules, rules}
-use Rattle.aff_open.specs.Nodes.{nodeEntry, linkWrong, climbEndless, nameTaken, sameSite, dataOutside}
-use Rattle.aff_open.specs.Opening.{isEmpty, lentWrong, nodesChecked, tableChecks, formChecks, bodyChecks, openChecks, opened, readerFor, stringIn, entryIn}
-use Rattle.aff_open.specs.Sections.{textEdition, isKnown, editionIn, sectionOffset, sectionSize, sectionRecords, sectionBytes, headerSumWrong, endsPast, sumWrong, countDiffers}
-use Rattle.aff_open.specs.Tables.{repeats, stringsIn, nodesIn, behindNodes}
+use Rattle.aff_format.specs.Rule.{AllHold, FirstFails, Settled}
+use Rattle.aff_open.specs.Rules.{Inside, Summed, Counted, Distinct, Linked, Climbs, NameFree, DataInside}
+use Rattle.aff_open.specs.Faults.{nodeRules, tableRules, sectionRules, editionRules, rules}
+use Rattle.aff_tables.specs.Tables.{nodeEntry, isEmpty, countDiffers, repeats}
+use Rattle.aff_tables.specs.Nodes.{Contents, contentsOf, linkWrong, climbEndless, nameTaken, sameSite, dataOutside}
+use Rattle.aff_open.specs.Opening.{lengthsWrong, nodesChecked, tableChecks, formChecks, bodyChecks, upToTables, openChecks, openAnswer, readerFor, entryIn, contentsIn}
+use Rattle.aff_open.specs.Sections.{textEdition, isKnown, editionIn, sectionOffset, sectionSize, sectionRecords, sectionBytes, headerSumWrong, endsPast, sumWrong, stringsIn, nodesIn, bytesAfterNodes}
 use Rattle.aff_open.specs.declared.reader.Reader.{Reader}
-use Rattle.aff_open.proofs.LinkLaws.{link-asks, distinct-by-repeats, repeats-by-distinct}
-use Rattle.aff_open.proofs.LostLaws.{data-asks}
-use Rattle.aff_open.proofs.OpeningLaws.{lent-right}
-use Rattle.aff_open.proofs.RuleLaws.{AskFor, none, one, each, Each, settled, all-accept, first-refuses}
+use Rattle.aff_tables.proofs.LinkLaws.{link-asks, distinct-by-repeats, repeats-by-distinct}
+use Rattle.aff_format.proofs.EntryLaws.{data-asks}
+use Rattle.aff_open.proofs.TablesLaws.{lengths-right}
+use Rattle.aff_format.proofs.RuleLaws.{AskFor, none, one, each, Each, settled, all-accept, first-refuses}
 use Rattle.aff_open.proofs.SectionLaws.{known-is, text-known, known-text}
-use Rattle.aff_open.proofs.TreeTableLaws.{empty-is}
+use Rattle.aff_tables.proofs.TreeTableLaws.{empty-is}
 
 -- A law `..-asks`: a test finds nothing wrong exactly where its rule holds.
 
@@ -54,11 +56,11 @@ lowest-asks test left k = (λ h. none-holds test left k (none-at _ h), λ h. ap 
 
 -- ---- The header and the sections: 1 to 7.
 
-pub lent-asks : (image form : List ℕ) (strings entries : ℕ)
-    → (lentWrong image form strings entries ≡ false) ↔ ((length form ≡ 12) × (strings ≡ stringLimit) × (entries ≡ nodeLimit) × (length image ≤ imageLimit))
-unfolding lentWrong
-lent-asks image form strings entries = (
-  λ h. let (f, s, e, i) = lent-right image form strings entries h in (f, s, e, omega arith),
+pub lengths-asks : (image form : List ℕ) (strings entries : ℕ)
+    → (lengthsWrong image form strings entries ≡ false) ↔ ((length form ≡ 12) × (strings ≡ stringLimit) × (entries ≡ nodeLimit) × (length image ≤ imageLimit))
+unfolding lengthsWrong
+lengths-asks image form strings entries = (
+  λ h. let (f, s, e, i) = lengths-right image form strings entries h in (f, s, e, omega arith),
   λ (f, s, e, i). rw (eq-eqb (length form) 12 f, eq-eqb strings stringLimit s, eq-eqb entries nodeLimit e, le-ltb imageLimit (length image) i),
 )
 
@@ -75,7 +77,7 @@ module _ (e : Edition) (s : Section) (image : List ℕ) where
   unfolding sumWrong
   sum-asks = same-asks _ _
 
-  count-asks : (n : ℕ) → (countDiffers e s image n ≡ false) ↔ Counted e s image n
+  count-asks : (n : ℕ) → (countDiffers e (sectionRecords e s image) n ≡ false) ↔ Counted e s image n
   unfolding countDiffers
   count-asks n = go (hasCounts e)
     where
@@ -110,10 +112,10 @@ climb-asks e strings entries linked k lo hi = (
 )
 
 name-asks : (strings : List (List ℕ)) (entries : List Entry) (k : ℕ)
-    → (nameTaken (λ i. getD strings i []) (nodeEntry entries) k ≡ false) ↔ NameFree strings entries k
+    → (nameTaken (contentsOf strings entries) k ≡ false) ↔ NameFree strings entries k
 unfolding nameTaken
 name-asks strings entries k =
-    let none = lowest-asks (sameSite (λ i. getD strings i []) (nodeEntry entries) k) (k - 1) 1 in (
+    let none = lowest-asks (sameSite (contentsOf strings entries) k) (k - 1) 1 in (
       λ h j lo hi. site _ _ _ _ .0 (none .0 h j lo (omega arith)),
       λ h. none .1 (λ j lo hi. site _ _ _ _ .1 (h j lo (omega arith))),
     )
@@ -134,31 +136,32 @@ module _ (e : Edition) (image : List ℕ) where
   abbrev nodes : ℕ
   nodes = length (nodesIn e image)
 
+  abbrev contents : Contents
+  contents = contentsIn e image
+
   nodes-ask : AskFor (nodesChecked e image) (nodeRules e image (stringsIn e image) (nodesIn e image))
   nodes-ask =
-      each 10 (linkWrong e (length (stringsIn e image)) (stringIn e image) nodes (entryIn e image)) (Linked e (stringsIn e image) (nodesIn e image)) nodes 1
-      (λ k lo hi. link-asks e (length (stringsIn e image)) (stringIn e image) nodes (entryIn e image) k)
+      each 10 (linkWrong e contents) (Linked e (stringsIn e image) (nodesIn e image)) nodes 1 (λ k lo hi. link-asks e contents k)
       (λ linked.
       each 11 (climbEndless nodes (entryIn e image)) (Climbs (nodesIn e image)) nodes 1 (climb-asks e (stringsIn e image) (nodesIn e image) linked)
       (λ climbs.
-      each 12 (nameTaken (stringIn e image) (entryIn e image)) (NameFree (stringsIn e image) (nodesIn e image)) nodes 1
-      (λ k lo hi. name-asks (stringsIn e image) (nodesIn e image) k)
+      each 12 (nameTaken contents) (NameFree (stringsIn e image) (nodesIn e image)) nodes 1 (λ k lo hi. name-asks (stringsIn e image) (nodesIn e image) k)
       (λ free.
       each 13 (dataOutside (sectionOffset e Data image) (sectionSize e Data image) (entryIn e image)) (DataInside e image (nodesIn e image)) nodes 1
       (λ k lo hi. data-asks (sectionOffset e Data image) (sectionSize e Data image) (entryIn e image k))
       (λ inside. none))))
 
-  tables-ask : AskFor (tableChecks e image) (tableRules e image (stringsIn e image) (nodesIn e image))
+  tables-ask : AskFor (tableChecks e image ++ nodesChecked e image) (tableRules e image (stringsIn e image) (nodesIn e image))
   tables-ask =
       one (ends-asks (sectionBytes e Symbol image))
       (λ h. one (below-asks stringLimit (length (stringsIn e image)))
       (λ h. one (count-asks e Symbol image (length (stringsIn e image)))
       (λ h. one (distinct-asks (stringsIn e image))
-      (λ h. one (empty-asks (behindNodes e image))
+      (λ h. one (empty-asks (bytesAfterNodes e image))
       (λ h. one (count-asks e Tree image (length (nodesIn e image)))
       (λ h. nodes-ask))))))
 
-  sections-ask : AskFor (bodyChecks e image) (sectionRules e image)
+  sections-ask : AskFor (bodyChecks e image ++ nodesChecked e image) (sectionRules e image)
   sections-ask =
       one (inside-asks e Symbol image)
       (λ h. one (inside-asks e Tree image)
@@ -168,7 +171,7 @@ module _ (e : Edition) (image : List ℕ) where
       (λ h. one (sum-asks e Data image)
       (λ h. tables-ask))))))
 
-  edition-asks : (form : List ℕ) → AskFor (formChecks e image form ++ bodyChecks e image) (editionRules e image form)
+  edition-asks : (form : List ℕ) → AskFor (formChecks e image form ++ (bodyChecks e image ++ nodesChecked e image)) (editionRules e image form)
   unfolding headerSumWrong
   edition-asks form =
       one (below-asks (length image) (headerSize e))
@@ -178,27 +181,27 @@ module _ (e : Edition) (image : List ℕ) where
 
 module _ (image form : List ℕ) (strings entries : ℕ) where
   opening-asks : AskFor (openChecks image form strings entries) (rules image form strings entries)
-  unfolding openChecks rules
+  unfolding openChecks upToTables rules
   opening-asks =
-      one (lent-asks image form strings entries)
+      one (lengths-asks image form strings entries)
       (λ h. one (below-asks (length image) 144)
       (λ h. one (text-asks image)
       (λ h. edition-asks (editionIn image) image form)))
 
   -- The rules settle the answer of an opening.
-  pub opening-settled : Settled (rules image form strings entries) (readerFor (editionIn image) image) (opened image form strings entries)
+  pub opening-settled : Settled (rules image form strings entries) (readerFor (editionIn image) image) (openAnswer image form strings entries)
   opening-settled = settled (readerFor (editionIn image) image) opening-asks
 
-  -- So a refused opening tells number and place of the first rule that fails, and back.
-  pub refused-first : {t : Told} → opened image form strings entries ≡ refused t → FirstFails (rules image form strings entries) t
+  -- So a refused opening reports number and place of the first rule that fails, and back.
+  pub refused-first : {t : RefusalCode} → openAnswer image form strings entries ≡ refused t → FirstFails (rules image form strings entries) t
   refused-first h = subst (Settled (rules image form strings entries) (readerFor (editionIn image) image)) h opening-settled
 
-  pub first-refused : {t : Told} → FirstFails (rules image form strings entries) t → opened image form strings entries ≡ refused t
-  first-refused f = first-refuses (rules image form strings entries) _ (opened image form strings entries) opening-settled f
+  pub first-refused : {t : RefusalCode} → FirstFails (rules image form strings entries) t → openAnswer image form strings entries ≡ refused t
+  first-refused f = first-refuses (rules image form strings entries) _ (openAnswer image form strings entries) opening-settled f
 
   -- And it is accepted where all rules hold, and back.
-  pub accepted-hold : {r : Reader} → opened image form strings entries ≡ accepted r → AllHold (rules image form strings entries)
+  pub accepted-hold : {r : Reader} → openAnswer image form strings entries ≡ accepted r → AllHold (rules image form strings entries)
   accepted-hold h = subst (Settled (rules image form strings entries) (readerFor (editionIn image) image)) h opening-settled .0
 
-  pub hold-accepted : AllHold (rules image form strings entries) → opened image form strings entries ≡ accepted (readerFor (editionIn image) image)
-  hold-accepted h = all-accept (rules image form strings entries) _ (opened image form strings entries) opening-settled h
+  pub hold-accepted : AllHold (rules image form strings entries) → openAnswer image form strings entries ≡ accepted (readerFor (editionIn image) image)
+  hold-accepted h = all-accept (rules image form strings entries) _ (openAnswer image form strings entries) opening-settled h

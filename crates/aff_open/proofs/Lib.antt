@@ -1,24 +1,7 @@
 -- Laws of the definitions in specs/, which proofs of this crate and of those above cite.
-pub mod ParentLaws
-pub mod MarkLaws
-pub mod OrderLaws
-pub mod SortedLaws
-pub mod ShiftLaws
-pub mod SearchLaws
-pub mod EndLaws
-pub mod RepeatLaws
-pub mod SiblingLaws
 pub mod SectionLaws
-pub mod RecordedLaws
-pub mod LinkLaws
-pub mod TableLaws
-pub mod SplitLaws
-pub mod SymbolLaws
-pub mod WalkLaws
-pub mod TreeTableLaws
-pub mod NodeLaws
+pub mod TablesLaws
 pub mod OpeningLaws
-pub mod RuleLaws
 pub mod FaultLaws
 pub mod ObeysLaws
 pub mod LostLaws

@@ -1,16 +1,16 @@
 -- What 24 asks of one string and of one node, in the terms of the passes that look for the lowest one lost: the zeros of the symbol section
 -- and the entries found. Assumes nothing.
 use mathlib.Core.Path.{_≡_, refl, sym, _∙_}
-use mathlib.Core.Bool.{Bool, true, false, cond, not, _&&_, _||_, true≢false}
+use mathlib.Core.Bool.{Bool, true, false, cond, _||_, true≢false}
 use mathlib.Core.List.{List, [], _∷_}
-use mathlib.Core.Logic.{⊎-elim, _↔_}
+use mathlib.Core.Logic.{⊎-elim}
 use Prim.Native.Nat.{ℕ, zero, suc, _+_, _-_, _*_, _≤_, _<_}
 use native.Mathlib.Nat.{eq-or-lt-of-le}
 use native.Mathlib.Omega.{arith}
 use lib.Dec.{eqb, ltb, leb}
 use lib.ListN.{length, getD, drop, set}
 use lib.Seq.{getD-take, getD-drop, getD-set-same, getD-set-other}
-use borrow.Author.Tests.{lt-ltb, le-ltb, lt-leb, ltb-true, ltb-false, leb-true, leb-false, ne-eqb}
+use borrow.Author.Tests.{lt-ltb, le-ltb, lt-leb, ltb-true, ltb-false, leb-true, leb-false}
 use Rattle.aff_format.specs.Bytes.{part}
 use Rattle.aff_format.specs.Kind.{elementSize, isVoid}
 use Rattle.aff_format.specs.Strings.{upToZero}
@@ -20,11 +20,13 @@ use Rattle.aff_format.specs.declared.entry.FoundEntry.the-variants.{Whole, Brok
 use Rattle.aff_format.proofs.BytesLaws.{length-part}
 use Rattle.aff_format.proofs.StringsLaws.{upToZero-ends}
 use Rattle.aff_format.proofs.TestLaws.{or-false}
-use Rattle.aff_open.specs.Belongs.{stringLost, entryLost, nodeLost, LastZero, placeOutside, ParentsCopied}
-use Rattle.aff_open.specs.Nodes.{outside}
-use Rattle.aff_open.specs.Recorded.{foundEntry, recordedEntry, recordedString, orNone}
-use Rattle.aff_open.specs.Tables.{nameFrom}
+use Rattle.aff_open.specs.Belongs.{stringLost, entryLost, nodeLost}
+use Rattle.aff_open.specs.passes.Belongs.{LastZero, placeOutside, ParentsCopied}
+use Rattle.aff_format.specs.Entry.{orNone}
+use Rattle.aff_format.specs.Recorded.{foundEntry, recordedEntry, recordedString, nameFrom}
 use Rattle.aff_open.specs.declared.reader.Span.{Span}
+use Rattle.aff_format.proofs.EntryLaws.{data-asks}
+use Rattle.aff_format.proofs.RecordedLaws.{recorded-found}
 
 -- ---- Strings.
 
@@ -46,7 +48,7 @@ module _ (image : List ℕ) (end p : ℕ) (inside : end ≤ length image) where
   run-at : (i : ℕ) → i < end - p → getD (part p (end - p) image) i 0 ≡ getD image (p + i) 0
   run-at i h = getD-take (end - p) (drop p image) i 0 h ∙ getD-drop p image i 0
 
-  -- A zero behind its start ends the string there or before; where it ends inside the section stands a zero.
+  -- A zero after its start ends the string there or before; where it ends inside the section stands a zero.
   pub name-until : (z : ℕ) → p ≤ z → z < end → getD image z 0 ≡ 0 → p + length (nameFrom image end p) ≤ z
   unfolding nameFrom
   name-until z l h e =
@@ -91,25 +93,25 @@ module _ (image : List ℕ) (symbols : Span) (strings : List ℕ) (i : ℕ) wher
         let u = name-until image (endOf symbols) (getD strings i 0) inside z l m e in
         rw (le-ltb (getD strings i 0) (symbols .offset) h, lt-leb (endOf symbols) (stringEnd image symbols strings i) (omega arith))
 
-    -- By the place behind the last zero.
+    -- By the place after the last zero.
     module _ {r : ℕ} (last : LastZero image (symbols .offset) (endOf symbols) r) where
       string-within : symbols .offset ≤ getD strings i 0 → getD strings i 0 < r → stringLost image symbols strings i ≡ false
       string-within h l =
           let m = last .most in
           kept-string h (r - 1) (omega arith) (omega arith) (last .is-zero (omega arith))
 
-      string-behind : r ≤ getD strings i 0 → stringLost image symbols strings i ≡ true
-      string-behind l = go (stringLost image symbols strings i) refl
+      string-after : r ≤ getD strings i 0 → stringLost image symbols strings i ≡ true
+      string-after l = go (stringLost image symbols strings i) refl
         where
           go : (b : Bool) → stringLost image symbols strings i ≡ b → stringLost image symbols strings i ≡ true
           go true e = e
           go false e =
               let k = string-kept e in
-              absurd (last .none-behind (stringEnd image symbols strings i) (omega arith) (k .1) (name-zero image (endOf symbols) (getD strings i 0) inside (k .1)))
+              absurd (last .none-after (stringEnd image symbols strings i) (omega arith) (k .1) (name-zero image (endOf symbols) (getD strings i 0) inside (k .1)))
 
       string-by : (b d : Bool) → ltb (getD strings i 0) (symbols .offset) ≡ b → leb r (getD strings i 0) ≡ d → stringLost image symbols strings i ≡ (b || d)
       string-by true d t u = string-before (ltb-true _ _ t)
-      string-by false true t u = string-behind (leb-true _ _ u)
+      string-by false true t u = string-after (leb-true _ _ u)
       string-by false false t u = string-within (ltb-false _ _ t) (leb-false _ _ u)
 
       pub string-by-zero : stringLost image symbols strings i ≡ placeOutside (symbols .offset) r strings i
@@ -124,19 +126,6 @@ pub record Kept (size strings nodes : ℕ) (e : Entry) : Type 0 where
   pub string : e .string < strings
   pub inside : isVoid (e .kind) ≡ false → e .offset + e .count * elementSize (e .kind) ≤ size
 
--- Data are not outside the `size` bytes from `from` on exactly where they lie inside.
-pub data-asks : (from size : ℕ) (e : Entry) → (outside from size e ≡ false)
-    ↔ (isVoid (e .kind) ≡ false → (from ≤ e .offset) × (e .offset + e .count * elementSize (e .kind) ≤ from + size))
-unfolding outside
-data-asks from size e = go (isVoid (e .kind)) (e .offset + e .count * elementSize (e .kind))
-  where
-    go : (v : Bool) (end : ℕ) → ((not v && (ltb (e .offset) from || ltb (from + size) end)) ≡ false) ↔ (v ≡ false → (from ≤ e .offset) × (end ≤ from + size))
-    go true end = (λ h q. absurd (true≢false q), λ h. refl)
-    go false end = (
-      λ h q. let (p, r) = or-false _ _ h in (ltb-false _ _ p, ltb-false _ _ r),
-      λ h. let (p, r) = h refl in rw (le-ltb _ _ p, le-ltb _ _ r),
-    )
-
 pub kept-entry : (size strings nodes : ℕ) (e : Entry) (f : FoundEntry) → f ≡ Whole e → Kept size strings nodes e → entryLost size strings nodes f ≡ false
 kept-entry size strings nodes e f q k =
     rw (q, le-ltb nodes (e .parent) (k .parent), lt-leb strings (e .string) (k .string))
@@ -149,11 +138,6 @@ entry-kept size strings nodes (Whole e) h =
     let (p, r) = or-false _ _ h in
     let (s, d) = or-false _ _ r in
     (refl, record { parent = ltb-false _ _ p; string = leb-false _ _ s; inside = λ v. let w = data-asks 0 size e .0 d v .1 in omega arith })
-
--- The entry of a node is the one found.
-pub recorded-found : (image entries : List ℕ) (k : ℕ) → 0 < k → recordedEntry image entries k ≡ orNone (foundEntry image entries k)
-unfolding recordedEntry
-recorded-found image entries k h = rw (ne-eqb k 0 (λ q. omega arith))
 
 module _ (image entries : List ℕ) (k : ℕ) {f : FoundEntry} (found : f ≡ foundEntry image entries k) where
   pub node-broken : (strings nodes : ℕ) → f ≡ Broken → nodeLost image strings nodes entries k ≡ true

@@ -18,16 +18,17 @@ use Rattle.aff_format.specs.declared.entry.Entry.{Entry}
 use Rattle.aff_format.proofs.BytesLaws.{length-part, octets-part}
 use Rattle.aff_format.proofs.EditionLaws.{header-least}
 use Rattle.aff_format.proofs.StringsLaws.{stringsOf-textOf, strings-without-zero, each-at}
-use Rattle.aff_open.specs.Faults.{Rule, AllHold, eachNode, Inside, Summed, Linked, Climbs, NameFree, DataInside, nodeRules, tableRules, sectionRules, rules}
+use Rattle.aff_format.specs.Rule.{Rule, AllHold, eachFrom}
+use Rattle.aff_open.specs.Rules.{Inside, Summed, Linked, Climbs, NameFree, DataInside}
+use Rattle.aff_open.specs.Faults.{nodeRules, tableRules, sectionRules, rules}
 use Rattle.aff_open.specs.Obeys.{Obeys}
-use Rattle.aff_open.specs.Opening.{opened, readerFor}
-use Rattle.aff_open.specs.Sections.{orTwo, editionIn, sectionOffset, sectionSize, sectionBytes}
-use Rattle.aff_open.specs.Tables.{stringsIn, nodesIn, behindNodes}
+use Rattle.aff_open.specs.Opening.{openAnswer, readerFor}
+use Rattle.aff_open.specs.Sections.{orTwo, editionIn, sectionOffset, sectionSize, sectionBytes, stringsIn, nodesIn, bytesAfterNodes}
 use Rattle.aff_open.specs.declared.reader.Reader.{Reader}
 use Rattle.aff_open.proofs.FaultLaws.{accepted-hold, hold-accepted}
-use Rattle.aff_open.proofs.RuleLaws.{Each, each-hold, hold-each}
+use Rattle.aff_format.proofs.RuleLaws.{Each, each-hold, hold-each}
 use Rattle.aff_open.proofs.SectionLaws.{known-text}
-use Rattle.aff_open.proofs.TreeTableLaws.{tree-bytes, bytes-tree, entries-storable, entries-few}
+use Rattle.aff_tables.proofs.TreeTableLaws.{tree-bytes, bytes-tree, entries-storable, entries-few}
 
 -- ---- Strings without a zero byte, byte by byte.
 
@@ -55,13 +56,13 @@ module _ (e : Edition) (image : List ℕ) (strings : List (List ℕ)) (entries :
   NodesHold = Each (Linked e strings entries) n 1 × Each (Climbs entries) n 1 × Each (NameFree strings entries) n 1 × Each (DataInside e image entries) n 1
 
   abbrev from-13 : List Rule
-  from-13 = eachNode 13 (DataInside e image entries) n 1 []
+  from-13 = eachFrom 13 (DataInside e image entries) n 1 []
 
   abbrev from-12 : List Rule
-  from-12 = eachNode 12 (NameFree strings entries) n 1 from-13
+  from-12 = eachFrom 12 (NameFree strings entries) n 1 from-13
 
   abbrev from-11 : List Rule
-  from-11 = eachNode 11 (Climbs entries) n 1 from-12
+  from-11 = eachFrom 11 (Climbs entries) n 1 from-12
 
   nodes-hold : AllHold (nodeRules e image strings entries) → NodesHold
   nodes-hold h =
@@ -90,7 +91,7 @@ hold-obeys image form o h =
     let e = editionIn image in
     let ((_, _, _, size), (_, ((d, text), (whole, (form-is, (sum, sections)))))) = h in
     let (in-symbol, (in-tree, (in-data, (sum-symbol, (sum-tree, (sum-data, tables)))))) = sections in
-    let (symbols, (few, (count, (distinct, (behind, (number, nodes)))))) = tables in
+    let (symbols, (few, (count, (distinct, (rest, (number, nodes)))))) = tables in
     let (linked, climbs, free, inside) = nodes-hold e image (stringsIn e image) (nodesIn e image) nodes in
     record {
       edition = e;
@@ -108,15 +109,13 @@ hold-obeys image form o h =
       string-count = count;
       distinct = distinct;
       entries = nodesIn e image;
-      tree-table = tree-bytes nodeLimit (sectionBytes e Tree image) behind (octets-section e Tree image o);
+      tree-table = tree-bytes nodeLimit (sectionBytes e Tree image) rest (octets-section e Tree image o);
       storable = entries-storable nodeLimit (sectionBytes e Tree image) (octets-section e Tree image o);
       few-nodes = entries-few nodeLimit (sectionBytes e Tree image);
       node-count = number;
-      parent = λ k lo hi. linked k lo (omega arith) .0;
-      string = λ k lo hi. linked k lo (omega arith) .1;
-      subkey = λ k lo hi. linked k lo (omega arith) .2;
-      climb = λ k lo hi. climbs k lo (omega arith);
-      siblings = λ j k lo l hi. free k (omega arith) (omega arith) j lo l;
+      linked = λ k lo hi. linked k lo (omega arith);
+      climbs = λ k lo hi. climbs k lo (omega arith);
+      name-free = λ k lo hi. free k lo (omega arith);
       data-inside = λ k lo hi. inside k lo (omega arith);
     }
   where
@@ -135,7 +134,7 @@ module _ {image form : List ℕ} (o : Obeys image form) where
   pub strings-found : stringsIn (o .edition) image ≡ o .strings
   strings-found = ap stringsOf (o .symbol-table) ∙ stringsOf-textOf (o .strings) (each-without (o .strings) (o .no-zero))
 
-  tree-found : (nodesIn (o .edition) image ≡ o .entries) × (behindNodes (o .edition) image ≡ [])
+  tree-found : (nodesIn (o .edition) image ≡ o .entries) × (bytesAfterNodes (o .edition) image ≡ [])
   tree-found = rw (o .tree-table) (bytes-tree (o .entries) nodeLimit (o .storable) (o .few-nodes))
 
   pub entries-found : nodesIn (o .edition) image ≡ o .entries
@@ -144,9 +143,9 @@ module _ {image form : List ℕ} (o : Obeys image form) where
   tables-hold : AllHold (tableRules (o .edition) image (stringsIn (o .edition) image) (nodesIn (o .edition) image))
   tables-hold =
       let nodes = hold-nodes (o .edition) image (o .strings) (o .entries) (
-        λ k lo hi. (o .parent k lo (omega arith), o .string k lo (omega arith), o .subkey k lo (omega arith)),
-        λ k lo hi. o .climb k lo (omega arith),
-        λ k lo hi j l h. o .siblings j k l h (omega arith),
+        λ k lo hi. o .linked k lo (omega arith),
+        λ k lo hi. o .climbs k lo (omega arith),
+        λ k lo hi. o .name-free k lo (omega arith),
         λ k lo hi. o .data-inside k lo (omega arith),
       ) in
       rw (strings-found, entries-found) (o .symbol-table, (o .few-strings, (o .string-count, (o .distinct, (tree-found .1, (o .node-count, nodes))))))
@@ -164,14 +163,14 @@ module _ {image form : List ℕ} (o : Obeys image form) where
 
 -- ---- An opening is accepted exactly where the file obeys.
 
-pub accepted-obeys : (image form : List ℕ) → Octets image → {r : Reader} → opened image form stringLimit nodeLimit ≡ accepted r → Obeys image form
+pub accepted-obeys : (image form : List ℕ) → Octets image → {r : Reader} → openAnswer image form stringLimit nodeLimit ≡ accepted r → Obeys image form
 accepted-obeys image form o h = hold-obeys image form o (accepted-hold image form stringLimit nodeLimit h)
 
-pub obeys-accepted : (image form : List ℕ) → Obeys image form → opened image form stringLimit nodeLimit ≡ accepted (readerFor (editionIn image) image)
+pub obeys-accepted : (image form : List ℕ) → Obeys image form → openAnswer image form stringLimit nodeLimit ≡ accepted (readerFor (editionIn image) image)
 obeys-accepted image form o = hold-accepted image form stringLimit nodeLimit (obeys-hold o)
 
 -- The rules of its nodes, in areas of any length.
-pub accepted-nodes : (image form : List ℕ) (strings entries : ℕ) {r : Reader} → opened image form strings entries ≡ accepted r
+pub accepted-nodes : (image form : List ℕ) (strings entries : ℕ) {r : Reader} → openAnswer image form strings entries ≡ accepted r
     → NodesHold (editionIn image) image (stringsIn (editionIn image) image) (nodesIn (editionIn image) image)
 unfolding rules
 accepted-nodes image form strings entries h =

@@ -2,7 +2,7 @@
 use mathlib.Core.Path.{_≡_, refl}
 use mathlib.Core.Bool.{Bool, true, false, cond, not, true≢false}
 use mathlib.Core.List.{List}
-use Prim.Native.Nat.{ℕ, _+_, _-_, _≤_, _<_}
+use Prim.Native.Nat.{ℕ, _+_, _≤_, _<_}
 use native.Mathlib.Omega.{arith}
 use lib.Dec.{ltb}
 use lib.ListN.{length, take}
@@ -52,7 +52,7 @@ pub sum-inside : (e : Edition) (s : Section) (image : List ℕ) → headerSize e
 sum-inside One s image h = omega (arith, section-header-most One s, section-sum-last One s)
 sum-inside Two s image h = omega (arith, section-header-most Two s, section-sum-last Two s)
 
--- Whether `size` from `from` on end past `length`, told without their sum.
+-- Whether `size` from `from` on end past `length`, reported without their sum.
 pub begins-past : (from size length : ℕ) → length < from → ltb length (from + size) ≡ true
 begins-past from size length h = lt-ltb length (from + size) (omega arith)
 
@@ -61,7 +61,7 @@ pub ends-inside : (e : Edition) (s : Section) (image : List ℕ) → endsPast e 
 unfolding endsPast
 ends-inside e s image h = ltb-false _ _ h
 
--- What is known behind accepted checks: those of the header, 6, and 6 and 7.
+-- What is known after accepted checks: those of the header, 6, and 6 and 7.
 pub known-is : (f : FoundEdition) → not (isKnown f) ≡ false → f ≡ Known (orTwo f)
 known-is (Known e) h = refl
 known-is Unknown h = absurd (true≢false h)

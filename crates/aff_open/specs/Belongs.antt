@@ -1,22 +1,22 @@
--- 24 for the reader: document 01, 'Numbers handed back', the paragraph behind the table. All that is recorded is judged, and nothing else.
+-- 24 for the reader: document 01, 'Numbers handed back', the paragraph after the table. All that is recorded is judged, and nothing else.
 use mathlib.Core.Path.{_≡_}
-use mathlib.Core.Bool.{Bool, true, false, not, _&&_, _||_}
+use mathlib.Core.Bool.{Bool, true, false, _&&_, _||_}
 use mathlib.Core.List.{List}
-use Prim.Native.Nat.{ℕ, _+_, _-_, _*_, _≤_, _<_}
+use Prim.Native.Nat.{ℕ, _+_, _*_, _≤_, _<_}
 use lib.Dec.{eqb, ltb, leb}
 use lib.ListN.{length, getD}
 use Rattle.aff_format.specs.Edition.{editionOf}
 use Rattle.aff_format.specs.Kind.{elementSize, isVoid}
 use Rattle.aff_format.specs.Limits.{imageLimit, stringLimit, nodeLimit}
-use Rattle.aff_format.specs.Lowest.{lowestFrom, isAt}
+use Rattle.aff_format.specs.Lowest.{noneFrom}
 use Rattle.aff_format.specs.Tree.{reachesBy}
 use Rattle.aff_format.specs.declared.edition.Edition.{Edition}
 use Rattle.aff_format.specs.declared.edition.FoundEdition.the-variants.{Known}
-use Rattle.aff_format.specs.declared.entry.Entry.{Entry}
 use Rattle.aff_format.specs.declared.entry.FoundEntry.{FoundEntry}
 use Rattle.aff_format.specs.declared.entry.FoundEntry.the-variants.{Whole, Broken}
-use Rattle.aff_open.specs.Nodes.{noParent, noString, outside, climbEndless}
-use Rattle.aff_open.specs.Recorded.{foundEntry, recordedEntry, recordedString}
+use Rattle.aff_format.specs.Entry.{noParent, noString, outside}
+use Rattle.aff_tables.specs.Nodes.{climbEndless}
+use Rattle.aff_format.specs.Recorded.{foundEntry, recordedEntry, recordedString}
 use Rattle.aff_open.specs.Sections.{isKnown}
 use Rattle.aff_open.specs.declared.reader.Span.{Span}
 use Rattle.aff_open.specs.declared.reader.Reader.{Reader}
@@ -51,29 +51,26 @@ entryLost size strings nodes (Whole e) = noParent nodes e || (noString strings e
 unfoldable pub nodeLost : List ℕ → ℕ → ℕ → List ℕ → ℕ → Bool
 nodeLost image strings nodes entries k = entryLost (length image) strings nodes (foundEntry image entries k)
 
-abbrev pub noneLost : (ℕ → Bool) → ℕ → ℕ → Bool
-noneLost test n first = not (isAt (lowestFrom test n first))
-
 -- Sections, strings and entries.
 abbrev pub placesBelong : List ℕ → Reader → List ℕ → List ℕ → Bool
 placesBelong image reader strings entries =
     spanInside image (reader .symbols)
     && (spanInside image (reader .tree)
     && (spanInside image (reader .«data»)
-    && (noneLost (stringLost image (reader .symbols) strings) (reader .strings) 0
-    && noneLost (nodeLost image (reader .strings) (reader .nodes) entries) (reader .nodes) 1)))
+    && (noneFrom (stringLost image (reader .symbols) strings) (reader .strings) 0
+    && noneFrom (nodeLost image (reader .strings) (reader .nodes) entries) (reader .nodes) 1)))
 
 -- No climb takes more steps than there are nodes.
 abbrev pub climbsBelong : List ℕ → Reader → List ℕ → Bool
-climbsBelong image reader entries = noneLost (climbEndless (reader .nodes) (recordedEntry image entries)) (reader .nodes) 1
+climbsBelong image reader entries = noneFrom (climbEndless (reader .nodes) (recordedEntry image entries)) (reader .nodes) 1
 
-unfoldable pub belongs : List ℕ → Reader → List ℕ → List ℕ → Bool
-belongs image reader strings entries =
+unfoldable pub readerBelongs : List ℕ → Reader → List ℕ → List ℕ → Bool
+readerBelongs image reader strings entries =
     sizesBelong image reader strings entries && (placesBelong image reader strings entries && climbsBelong image reader entries)
 
 -- ---- As document 01's clauses: the test is true exactly when this holds (`belongs-record`, `record-belongs`).
 
-pub record Belongs (image : List ℕ) (reader : Reader) (strings entries : List ℕ) : Type 0 where
+pub record ReaderBelongs (image : List ℕ) (reader : Reader) (strings entries : List ℕ) : Type 0 where
   -- Both sides: the image's length, the areas' sizes, the counts.
   pub length-recorded : length image ≡ reader .length
   pub length-allowed : reader .length ≤ imageLimit
@@ -100,32 +97,3 @@ pub record Belongs (image : List ℕ) (reader : Reader) (strings entries : List 
       → recordedEntry image entries k .offset + recordedEntry image entries k .count * elementSize (recordedEntry image entries k .kind) ≤ length image
   -- A climb takes no more steps than there are nodes.
   pub climb-ends : (k : ℕ) → 0 < k → k ≤ reader .nodes → reachesBy (λ j. recordedEntry image entries j .parent) (reader .nodes) k ≡ true
-
--- ---- What the passes behind the test tell.
-
-unfoldable pub sectionsInside : List ℕ → Reader → Bool
-sectionsInside image reader = spanInside image (reader .symbols) && (spanInside image (reader .tree) && spanInside image (reader .«data»))
-
--- Entries, then climbs; before them strings.
-unfoldable pub nodesBelong : List ℕ → Reader → List ℕ → Bool
-nodesBelong image reader entries =
-    noneLost (nodeLost image (reader .strings) (reader .nodes) entries) (reader .nodes) 1 && climbsBelong image reader entries
-
-unfoldable pub tablesBelong : List ℕ → Reader → List ℕ → List ℕ → Bool
-tablesBelong image reader strings entries =
-    noneLost (stringLost image (reader .symbols) strings) (reader .strings) 0 && nodesBelong image reader entries
-
--- r is the place behind the last zero from `from` to `end`, or `from` where there is none.
-pub record LastZero (image : List ℕ) (from end r : ℕ) : Type 0 where
-  pub least : from ≤ r
-  pub most : r ≤ end
-  pub is-zero : from < r → getD image (r - 1) 0 ≡ 0
-  pub none-behind : (z : ℕ) → r ≤ z → z < end → getD image z 0 ≡ 0 → ⊥
-
--- Number i of some places is not one from `from` on and below `end`.
-unfoldable pub placeOutside : ℕ → ℕ → List ℕ → ℕ → Bool
-placeOutside from end places i = ltb (getD places i 0) from || leb end (getD places i 0)
-
--- Parents of the nodes 1 to n, copied.
-pub record ParentsCopied (entry : ℕ → Entry) (n : ℕ) (parents : List ℕ) : Type 0 where
-  pub parent : (k : ℕ) → 0 < k → k ≤ n → getD parents k 0 ≡ entry k .parent

@@ -1,33 +1,35 @@
 -- Opening: document 01, 'Numbers handed back', 1 to 13, and 'Order'.
-use mathlib.Core.Bool.{Bool, true, false, cond, not, _||_}
+use mathlib.Core.Bool.{Bool, cond, not, _||_}
 use mathlib.Core.List.{List, [], _∷_, _++_}
-use Prim.Native.Nat.{ℕ, _+_, _-_}
-use lib.Dec.{eqb, ltb, leb}
+use Prim.Native.Nat.{ℕ}
+use lib.Dec.{eqb, ltb}
 use lib.ListN.{length, getD, replicate}
 use Rattle.aff_format.specs.Answer.{Answer, accepted, refused, Check, check, refusal, refusalAt, firstWrong}
-use Rattle.aff_format.specs.Bytes.{part, sameBytes}
+use Rattle.aff_format.specs.Bytes.{part, sameBytes, laidOver}
 use Rattle.aff_format.specs.Edition.{headerSize, editionNumber}
 use Rattle.aff_format.specs.Limits.{imageLimit, stringLimit, nodeLimit}
-use Rattle.aff_format.specs.Lowest.{lowestFrom, checkLowest, isAt}
-use Rattle.aff_format.specs.Strings.{endsInZero, placesOf}
+use Rattle.aff_format.specs.Refusal.{codeOfRefusal}
+use Rattle.aff_format.specs.Strings.{placesOf}
 use Rattle.aff_format.specs.declared.section.Section.{Section}
 use Rattle.aff_format.specs.declared.section.Section.the-variants.{Symbol, Tree, Data}
 use Rattle.aff_format.specs.declared.edition.Edition.{Edition}
 use Rattle.aff_format.specs.declared.entry.Entry.{Entry}
-use Rattle.aff_open.specs.Reader.{noReader}
-use Rattle.aff_open.specs.Sections.{textEdition, isKnown, editionIn, sectionOffset, sectionSize, sectionRecords, sectionBytes, headerSumWrong, endsPast, sumWrong, countDiffers}
-use Rattle.aff_open.specs.Tables.{repeats, entryPlaces, laidOver, stringsIn, nodesIn, behindNodes}
-use Rattle.aff_open.specs.Nodes.{nodeEntry, linkWrong, climbEndless, nameTaken, dataOutside}
-use Rattle.aff_format.specs.Refusal.{toldRefusal}
 use Rattle.aff_format.specs.declared.verdict.Verdict.{Verdict}
 use Rattle.aff_format.specs.declared.verdict.Verdict.the-variants.{Accepted, Refused}
+use Rattle.aff_tables.specs.Nodes.{Contents, contentsOf, nodeChecks}
+use Rattle.aff_tables.specs.Tables.{entryPlaces, nodeEntry, symbolChecks, treeChecks}
+use Rattle.aff_open.specs.Reader.{noReader}
+use Rattle.aff_open.specs.Sections.{textEdition, isKnown, editionIn, sectionOffset, sectionSize, sectionRecords, sectionBytes, headerSumWrong, endsPast, sumWrong, stringsIn, nodesIn}
 use Rattle.aff_open.specs.declared.opening.Opening.{Opening}
 use Rattle.aff_open.specs.declared.reader.Span.{Span}
 use Rattle.aff_open.specs.declared.reader.Reader.{Reader}
+use Rattle.aff_open.specs.declared.tables.OpenedTables.{OpenedTables}
+use Rattle.aff_open.specs.declared.tables.OpenedTables.the-variants as tables
+use Rattle.aff_open.specs.declared.tables.TableSizes.{TableSizes}
 
 -- 1: an area is not 2,048 numbers, the form not 12 bytes, or the image too long.
-unfoldable pub lentWrong : List ℕ → List ℕ → ℕ → ℕ → Bool
-lentWrong image form strings entries =
+unfoldable pub lengthsWrong : List ℕ → List ℕ → ℕ → ℕ → Bool
+lengthsWrong image form strings entries =
     not (eqb (length form) 12) || (not (eqb strings stringLimit) || (not (eqb entries nodeLimit) || ltb imageLimit (length image)))
 
 -- 2, 4, 5 in an edition.
@@ -64,64 +66,53 @@ sumChecks e image =
 abbrev pub sectionChecks : Edition → List ℕ → List Check
 sectionChecks e image = insideChecks e image ++ sumChecks e image
 
--- 8: not ended by zero, above 2,048, count differs, a string twice.
-abbrev pub symbolChecks : Edition → List ℕ → List Check
-symbolChecks e image =
-    check (not (endsInZero (sectionBytes e Symbol image))) (refusal 8)
-    ∷ check (ltb stringLimit (length (stringsIn e image))) (refusal 8)
-    ∷ check (countDiffers e Symbol image (length (stringsIn e image))) (refusal 8)
-    ∷ check (isAt (lowestFrom (repeats (stringsIn e image)) (length (stringsIn e image)) 0)) (refusal 8)
-    ∷ []
+-- 8, then 9, of the two tables.
+abbrev pub symbolsChecked : Edition → List ℕ → List Check
+symbolsChecked e image = symbolChecks e (sectionRecords e Symbol image) (sectionBytes e Symbol image)
 
-abbrev pub isEmpty : List ℕ → Bool
-isEmpty [] = true
-isEmpty (x ∷ l) = false
+abbrev pub treeChecked : Edition → List ℕ → List Check
+treeChecked e image = treeChecks e (sectionRecords e Tree image) (sectionBytes e Tree image)
 
--- 9: what stands behind the last whole entry is one that is cut short, of no type, or number 2,049; then the count.
-abbrev pub treeChecks : Edition → List ℕ → List Check
-treeChecks e image =
-    check (not (isEmpty (behindNodes e image))) (refusalAt 9 (length (nodesIn e image) + 1))
-    ∷ check (countDiffers e Tree image (length (nodesIn e image))) (refusal 9)
-    ∷ []
+abbrev pub tableChecks : Edition → List ℕ → List Check
+tableChecks e image = symbolsChecked e image ++ treeChecked e image
 
--- 11 to 13, each over all nodes before the next, with the lowest node; then 10 before them. The data section is `size` bytes from `from` on.
-abbrev pub linkedChecks : ℕ → ℕ → (ℕ → List ℕ) → ℕ → (ℕ → Entry) → List Check
-linkedChecks from size string nodes entry =
-    checkLowest 11 (lowestFrom (climbEndless nodes entry) nodes 1)
-    ∷ checkLowest 12 (lowestFrom (nameTaken string entry) nodes 1)
-    ∷ checkLowest 13 (lowestFrom (dataOutside from size entry) nodes 1)
-    ∷ []
+-- 6 to 9: all that is asked after the header and before the nodes.
+abbrev pub bodyChecks : Edition → List ℕ → List Check
+bodyChecks e image = sectionChecks e image ++ tableChecks e image
 
-abbrev pub nodeChecks : Edition → ℕ → ℕ → ℕ → (ℕ → List ℕ) → ℕ → (ℕ → Entry) → List Check
-nodeChecks e from size strings string nodes entry =
-    checkLowest 10 (lowestFrom (linkWrong e strings string nodes entry) nodes 1) ∷ linkedChecks from size string nodes entry
-
--- String i and the entry of node k, by the tables.
+-- String i and the entry of node k, by the tables; all of them.
 abbrev pub stringIn : Edition → List ℕ → ℕ → List ℕ
 stringIn e image i = getD (stringsIn e image) i []
 
 abbrev pub entryIn : Edition → List ℕ → ℕ → Entry
 entryIn e image k = nodeEntry (nodesIn e image) k
 
--- 10 to 13 of an image, by its tables.
+abbrev pub contentsIn : Edition → List ℕ → Contents
+contentsIn e image = contentsOf (stringsIn e image) (nodesIn e image)
+
+-- 10 to 13.
 abbrev pub nodesChecked : Edition → List ℕ → List Check
-nodesChecked e image =
-    nodeChecks e (sectionOffset e Data image) (sectionSize e Data image)
-    (length (stringsIn e image)) (stringIn e image) (length (nodesIn e image)) (entryIn e image)
+nodesChecked e image = nodeChecks e (sectionOffset e Data image) (sectionSize e Data image) (contentsIn e image)
 
--- Behind the sums, in the image's edition: the two tables, then the nodes.
-abbrev pub tableChecks : Edition → List ℕ → List Check
-tableChecks e image =
-    symbolChecks e image ++ (treeChecks e image ++ nodesChecked e image)
-
--- Behind the header.
-abbrev pub bodyChecks : Edition → List ℕ → List Check
-bodyChecks e image = sectionChecks e image ++ tableChecks e image
+-- 1, then 2, text 3, edition 2's length 2, then 4 to 9: up to the tables.
+unfoldable pub upToTables : List ℕ → List ℕ → ℕ → ℕ → List Check
+upToTables image form strings entries =
+    check (lengthsWrong image form strings entries) (refusal 1) ∷ (headerChecks image form ++ bodyChecks (editionIn image) image)
 
 -- Order: 1, then 2, text 3, edition 2's length 2, then 4 to 13.
 unfoldable pub openChecks : List ℕ → List ℕ → ℕ → ℕ → List Check
-openChecks image form strings entries =
-    check (lentWrong image form strings entries) (refusal 1) ∷ (headerChecks image form ++ bodyChecks (editionIn image) image)
+openChecks image form strings entries = upToTables image form strings entries ++ nodesChecked (editionIn image) image
+
+-- What is known of an image that passes 1 to 9: its edition, and how many strings and nodes its tables have; and the answer up to there.
+abbrev pub sizesIn : Edition → List ℕ → TableSizes
+sizesIn e image = record { edition = e; strings = length (stringsIn e image); nodes = length (nodesIn e image) }
+
+abbrev pub tablesAnswer : List ℕ → List ℕ → ℕ → ℕ → Answer TableSizes
+tablesAnswer image form strings entries = firstWrong (upToTables image form strings entries) (sizesIn (editionIn image) image)
+
+abbrev pub answerOfTables : OpenedTables → Answer TableSizes
+answerOfTables (tables.Found s) = accepted s
+answerOfTables (tables.Refused r) = refused (codeOfRefusal r)
 
 abbrev pub spanOf : Edition → Section → List ℕ → Span
 spanOf e s image = record { offset = sectionOffset e s image; size = sectionSize e s image }
@@ -144,16 +135,16 @@ abbrev pub readerFor : Edition → List ℕ → Reader
 readerFor e image = readerWith e image (length (stringsIn e image)) (length (nodesIn e image))
 
 -- The answer.
-abbrev pub opened : List ℕ → List ℕ → ℕ → ℕ → Answer Reader
-opened image form strings entries = firstWrong (openChecks image form strings entries) (readerFor (editionIn image) image)
+abbrev pub openAnswer : List ℕ → List ℕ → ℕ → ℕ → Answer Reader
+openAnswer image form strings entries = firstWrong (openChecks image form strings entries) (readerFor (editionIn image) image)
 
 abbrev pub verdictOf : Verdict → Reader → Answer Reader
 verdictOf Accepted r = accepted r
-verdictOf (Refused q) r = refused (toldRefusal q)
+verdictOf (Refused q) r = refused (codeOfRefusal q)
 
 -- What document 01 hands back in each case.
-abbrev pub openingTold : Opening → Answer Reader
-openingTold o = verdictOf (o .verdict) (o .reader)
+abbrev pub answerOfOpening : Opening → Answer Reader
+answerOfOpening o = verdictOf (o .verdict) (o .reader)
 
 -- The record: all zero after a refusal.
 abbrev pub readerAfter : Answer Reader → Reader
@@ -167,18 +158,30 @@ stringPlaces e image = placesOf (sectionOffset e Symbol image) (stringsIn e imag
 abbrev pub nodePlaces : Edition → List ℕ → List ℕ
 nodePlaces e image = entryPlaces (sectionOffset e Tree image) (nodesIn e image)
 
--- An area: after acceptance the places, and zero behind them; after a refusal all zero.
-abbrev pub areaAfter : Answer Reader → List ℕ → List ℕ → List ℕ
-areaAfter (accepted r) area places = laidOver (replicate (length area) 0) places
-areaAfter (refused t) area places = replicate (length area) 0
+-- An area: after acceptance the places, and zero after them; after a refusal all zero.
+abbrev pub areaFilled : {A : Type 0} → Answer A → List ℕ → List ℕ → List ℕ
+areaFilled (accepted a) area places = laidOver (replicate (length area) 0) places
+areaFilled (refused t) area places = replicate (length area) 0
 
--- The two areas. After 1 nothing changed.
-unfoldable pub stringsAfter : List ℕ → List ℕ → List ℕ → List ℕ → List ℕ
-stringsAfter image form strings entries =
-    cond (lentWrong image form (length strings) (length entries)) strings
-    (areaAfter (opened image form (length strings) (length entries)) strings (stringPlaces (editionIn image) image))
+module _ (image form strings entries : List ℕ) where
+  -- The two areas where opening stops after the tables. After 1 nothing changed.
+  unfoldable pub stringsFilled : List ℕ
+  stringsFilled =
+      cond (lengthsWrong image form (length strings) (length entries)) strings
+      (areaFilled (tablesAnswer image form (length strings) (length entries)) strings (stringPlaces (editionIn image) image))
 
-unfoldable pub entriesAfter : List ℕ → List ℕ → List ℕ → List ℕ → List ℕ
-entriesAfter image form strings entries =
-    cond (lentWrong image form (length strings) (length entries)) entries
-    (areaAfter (opened image form (length strings) (length entries)) entries (nodePlaces (editionIn image) image))
+  unfoldable pub entriesFilled : List ℕ
+  entriesFilled =
+      cond (lengthsWrong image form (length strings) (length entries)) entries
+      (areaFilled (tablesAnswer image form (length strings) (length entries)) entries (nodePlaces (editionIn image) image))
+
+  -- The two areas after the whole opening. After 1 nothing changed.
+  unfoldable pub stringsAfter : List ℕ
+  stringsAfter =
+      cond (lengthsWrong image form (length strings) (length entries)) strings
+      (areaFilled (openAnswer image form (length strings) (length entries)) strings (stringPlaces (editionIn image) image))
+
+  unfoldable pub entriesAfter : List ℕ
+  entriesAfter =
+      cond (lengthsWrong image form (length strings) (length entries)) entries
+      (areaFilled (openAnswer image form (length strings) (length entries)) entries (nodePlaces (editionIn image) image))

@@ -1,5 +1,4 @@
 -- The record of an opened image.
-use Prim.Native.Nat.{ℕ}
 use Rattle.aff_open.specs.declared.reader.Span.{Span}
 use Rattle.aff_open.specs.declared.reader.Reader.{Reader}
 

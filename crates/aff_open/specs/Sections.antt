@@ -1,8 +1,8 @@
 -- Header and sections of an image: document 01, 'Layout of a file'. Numbers are exact: no sum wraps.
-use mathlib.Core.Bool.{Bool, true, false, cond, not, _&&_}
-use mathlib.Core.List.{List, [], _∷_}
+use mathlib.Core.Bool.{Bool, true, false, cond, not}
+use mathlib.Core.List.{List}
 use Prim.Native.Nat.{ℕ, _+_}
-use lib.Dec.{eqb, ltb}
+use lib.Dec.{ltb}
 use lib.ListN.{length, take}
 use Rattle.md5.specs.Md5.{md5}
 use Rattle.aff_format.specs.Bytes.{part, sameBytes}
@@ -13,6 +13,11 @@ use Rattle.aff_format.specs.declared.edition.Edition.{Edition}
 use Rattle.aff_format.specs.declared.edition.Edition.the-variants.{One, Two}
 use Rattle.aff_format.specs.declared.edition.FoundEdition.{FoundEdition}
 use Rattle.aff_format.specs.declared.edition.FoundEdition.the-variants.{Known, Unknown}
+use Rattle.aff_format.specs.Strings.{stringsOf}
+use Rattle.aff_format.specs.Limits.{nodeLimit}
+use Rattle.aff_format.specs.declared.section.Section.the-variants.{Symbol, Tree}
+use Rattle.aff_format.specs.declared.entry.Entry.{Entry}
+use Rattle.aff_tables.specs.Tables.{bytesAfterEntries, entriesIn}
 
 -- The edition whose text an image begins with.
 unfoldable pub textEdition : List ℕ → FoundEdition
@@ -24,7 +29,7 @@ abbrev pub isKnown : FoundEdition → Bool
 isKnown (Known e) = true
 isKnown Unknown = false
 
--- Edition 2 stands for no edition: its form is the one lent for such a text, and nothing else of it is asked behind refusal 3.
+-- Edition 2 stands for no edition: its form is the one passed for such a text, and nothing else of it is asked after refusal 3.
 abbrev pub orTwo : FoundEdition → Edition
 orTwo (Known e) = e
 orTwo Unknown = Two
@@ -36,7 +41,7 @@ editionIn image = orTwo (textEdition image)
 abbrev pub formFor : List ℕ → List ℕ
 formFor image = numberForm (editionIn image)
 
--- The fields of a section header. Edition 1 has no record count; it is told as 0.
+-- The fields of a section header. Edition 1 has no record count; it is reported as 0.
 unfoldable pub sectionOffset : Edition → Section → List ℕ → ℕ
 sectionOffset e s image = beOf (part (sectionHeaderAt e s) 8 image)
 
@@ -65,6 +70,12 @@ endsPast e s image = ltb (length image) (sectionOffset e s image + sectionSize e
 unfoldable pub sumWrong : Edition → Section → List ℕ → Bool
 sumWrong e s image = not (sameBytes (sectionSum e s image) (md5 (sectionBytes e s image)))
 
--- 8 and 9: the record count of a section, where the edition has one, is not n.
-unfoldable pub countDiffers : Edition → Section → List ℕ → ℕ → Bool
-countDiffers e s image n = hasCounts e && not (eqb (sectionRecords e s image) n)
+-- The strings and the entries of an image.
+abbrev pub stringsIn : Edition → List ℕ → List (List ℕ)
+stringsIn e image = stringsOf (sectionBytes e Symbol image)
+
+abbrev pub nodesIn : Edition → List ℕ → List Entry
+nodesIn e image = entriesIn nodeLimit (sectionBytes e Tree image)
+
+abbrev pub bytesAfterNodes : Edition → List ℕ → List ℕ
+bytesAfterNodes e image = bytesAfterEntries nodeLimit (sectionBytes e Tree image)

@@ -1,15 +1,15 @@
-// Whether a record belongs to what is lent with it (24). Linear in the symbol section, the strings and the nodes.
-use crate::climb;
-use crate::data;
+// Whether a record belongs to what is passed with it (24). Linear in the symbol section, the strings and the nodes.
 use crate::reader::Reader;
 use crate::reader::Span;
-use crate::recorded;
 use aff_format::Edition;
 use aff_format::Entry;
 use aff_format::FoundEdition;
 use aff_format::FoundEntry;
 use aff_format::Lowest;
+use aff_format::data;
 use aff_format::limits;
+use aff_format::recorded;
+use aff_tables::climb;
 ghost use mathlib.Core.Path.{_≡_};
 ghost use Prim.Native.Nat.{_+_, _≤_, _<_};
 ghost use lib.ListN.{length};
@@ -18,8 +18,9 @@ ghost use Rattle.aff_format.specs.Limits.{imageLimit, nodeLimit};
 ghost use Rattle.aff_format.specs.Lowest.{lowestFrom};
 ghost use Rattle.aff_format.specs.declared.entry.FoundEntry.the-variants.{Whole};
 ghost use Rattle.aff_format.specs.declared.lowest.Lowest.the-variants.{Nothing};
-ghost use Rattle.aff_open.specs.Belongs.{belongs as belongsOf, sizesBelong, spanInside, sectionsInside, stringLost, entryLost, nodeLost, nodesBelong, tablesBelong, LastZero, placeOutside, ParentsCopied};
-ghost use Rattle.aff_open.specs.Recorded.{recordedEntry};
+ghost use Rattle.aff_open.specs.Belongs.{readerBelongs as belongsOf, sizesBelong, spanInside, stringLost, entryLost, nodeLost};
+ghost use Rattle.aff_open.specs.passes.Belongs.{sectionsInside, nodesBelong, tablesBelong, LastZero, placeOutside, ParentsCopied};
+ghost use Rattle.aff_format.specs.Recorded.{recordedEntry};
 ghost use Rattle.aff_open.specs.Sections.{isKnown};
 
 fn is_edition(number: u32) -> bool
@@ -82,8 +83,8 @@ fn sections_inside(image: &[u8], reader: Reader) -> bool
     span_inside(image, data)
 }
 
-// The place behind the last zero from `from` to `end`; `from` where there is none. One pass backwards, up to that zero.
-fn behind_zero(image: &[u8], from: usize, end: usize) -> usize
+// The place after the last zero from `from` to `end`; `from` where there is none. One pass backwards, up to that zero.
+fn after_zero(image: &[u8], from: usize, end: usize) -> usize
     requires { ⌜ (from ≤ end) × (end ≤ length (now image)) ⌝ }
     ensures { λ r. ⌜ LastZero (now (image .entry)) from end r ⌝ }
 {
@@ -116,13 +117,13 @@ fn outside_place(places: &[u32], count: usize, from: usize, end: usize) -> Lowes
     Lowest::Nothing
 }
 
-// The lowest string that begins outside the symbol section or behind its last zero. That zero is searched once.
+// The lowest string that begins outside the symbol section or after its last zero. That zero is searched once.
 fn lost_string(image: &[u8], symbols: Span, strings: &[u32], count: usize) -> Lowest
     requires { ⌜ symbols .offset + symbols .size ≤ length (now image) ⌝ }
     ensures { λ r. ⌜ r ≡ lowestFrom (stringLost (now (image .entry)) symbols (now (strings .entry))) count 0 ⌝ }
 {
     let from = symbols.offset;
-    let end = behind_zero(image, from, from + symbols.size);
+    let end = after_zero(image, from, from + symbols.size);
     outside_place(strings, count, from, end)
 }
 

@@ -13,11 +13,11 @@ ghost use Rattle.aff_format.specs.Bytes.{part, sameBytes};
 ghost use Rattle.aff_format.specs.Edition.{headerSize, signatureText};
 ghost use Rattle.aff_open.specs.Sections.{textEdition, editionIn, formFor, headerSumWrong};
 ghost use Rattle.aff_open.specs.Opening.{headerChecks, formChecks};
-ghost use Rattle.aff_open.specs.Passes.{signedTold};
+ghost use Rattle.aff_open.specs.passes.Opening.{answerOfHeader};
 
 // The edition of an image whose header is sound.
-pub enum Signed {
-    By(Edition),
+pub enum HeaderResult {
+    Found(Edition),
     Refused(Refusal),
 }
 
@@ -45,7 +45,7 @@ pub fn text_edition(image: &[u8]) -> FoundEdition
     FoundEdition::Unknown
 }
 
-// The 12 bytes that our programs expect behind the text of an image: edition 1's where the text is edition 1's, else edition 2's.
+// The 12 bytes that our programs expect after the text of an image: edition 1's where the text is edition 1's, else edition 2's.
 pub fn form_for(image: &[u8]) -> [u8; 12]
     ensures { λ r. ⌜ r ≡ formFor (now (image .entry)) ⌝ }
 {
@@ -72,32 +72,32 @@ fn header_sum_wrong(image: &[u8], edition: Edition) -> bool
     sum_differs(image, at, 0, at)
 }
 
-// Behind the text: 2, 4, 5.
-fn header_of(image: &[u8], form: &[u8], edition: Edition) -> Signed
+// After the text: 2, 4, 5.
+fn header_of(image: &[u8], form: &[u8], edition: Edition) -> HeaderResult
     requires { ⌜ 144 ≤ length (now image) ⌝ }
-    ensures { λ r. ⌜ signedTold r ≡ firstWrong (formChecks edition (now (image .entry)) (now (form .entry))) edition ⌝ }
+    ensures { λ r. ⌜ answerOfHeader r ≡ firstWrong (formChecks edition (now (image .entry)) (now (form .entry))) edition ⌝ }
 {
     if image.len() < edition.header_size() {
-        return Signed::Refused(Refusal::ShortImage);
+        return HeaderResult::Refused(Refusal::ShortImage);
     }
     if !bytes::same(&image[20..32], form) {
-        return Signed::Refused(Refusal::WrongForm);
+        return HeaderResult::Refused(Refusal::WrongForm);
     }
     if header_sum_wrong(image, edition) {
-        return Signed::Refused(Refusal::WrongHeaderSum);
+        return HeaderResult::Refused(Refusal::WrongHeaderSum);
     }
-    Signed::By(edition)
+    HeaderResult::Found(edition)
 }
 
 // 2, 3, 2, 4, 5.
-pub fn header(image: &[u8], form: &[u8]) -> Signed
-    ensures { λ r. ⌜ signedTold r ≡ firstWrong (headerChecks (now (image .entry)) (now (form .entry))) (editionIn (now (image .entry))) ⌝ }
+pub fn header(image: &[u8], form: &[u8]) -> HeaderResult
+    ensures { λ r. ⌜ answerOfHeader r ≡ firstWrong (headerChecks (now (image .entry)) (now (form .entry))) (editionIn (now (image .entry))) ⌝ }
 {
     if image.len() < 144 {
-        return Signed::Refused(Refusal::ShortImage);
+        return HeaderResult::Refused(Refusal::ShortImage);
     }
     match text_edition(image) {
         FoundEdition::Known(edition) => header_of(image, form, edition),
-        FoundEdition::Unknown => Signed::Refused(Refusal::UnknownText),
+        FoundEdition::Unknown => HeaderResult::Refused(Refusal::UnknownText),
     }
 }

@@ -8,7 +8,7 @@ pub struct Span {
     pub size: usize,
 }
 
-// What an accepted opening found. It belongs to the image and the two areas that were lent.
+// What an accepted opening found. It belongs to the image and the two areas that were passed.
 pub struct Reader {
     pub length: usize,
     pub edition: u32,

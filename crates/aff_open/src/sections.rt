@@ -14,12 +14,12 @@ ghost use Rattle.aff_format.specs.Answer.{firstWrong};
 ghost use Rattle.aff_format.specs.Bytes.{part};
 ghost use Rattle.aff_format.specs.Edition.{headerSize, sectionHeaderAt};
 ghost use Rattle.aff_format.specs.Number.{beOf};
-ghost use Rattle.aff_format.specs.Verdict.{verdictTold};
-ghost use Rattle.aff_open.specs.Sections.{sectionOffset, sectionSize, sectionRecords, endsPast, sumWrong, countDiffers};
-ghost use Rattle.aff_open.specs.Passes.{Readable};
+ghost use Rattle.aff_format.specs.Verdict.{answerOfVerdict};
+ghost use Rattle.aff_open.specs.Sections.{sectionOffset, sectionSize, sectionRecords, endsPast, sumWrong};
+ghost use Rattle.aff_open.specs.passes.Opening.{Readable};
 ghost use Rattle.aff_open.specs.Opening.{insideChecks, sumChecks, sectionChecks, spanOf};
 
-// The 8 bytes that stand `at` bytes behind the start of a section header.
+// The 8 bytes that stand `at` bytes after the start of a section header.
 fn field(image: &[u8], edition: Edition, section: Section, at: usize) -> u64
     requires { ⌜ (headerSize edition ≤ length (now image)) × (at ≤ 16) ⌝ }
     ensures { λ r. ⌜ r ≡ beOf (part (sectionHeaderAt edition section + at) 8 (now (image .entry))) ⌝ }
@@ -50,18 +50,6 @@ pub fn records(image: &[u8], edition: Edition, section: Section) -> u64
         field(image, edition, section, 16)
     } else {
         0
-    }
-}
-
-// Whether the record count of a section, where the edition has one, is not n.
-pub fn count_differs(image: &[u8], edition: Edition, section: Section, n: usize) -> bool
-    requires { ⌜ headerSize edition ≤ length (now image) ⌝ }
-    ensures { λ r. ⌜ r ≡ countDiffers edition section (now (image .entry)) n ⌝ }
-{
-    if edition.has_counts() {
-        records(image, edition, section) != n as u64
-    } else {
-        false
     }
 }
 
@@ -105,7 +93,7 @@ fn sum_wrong(image: &[u8], edition: Edition, section: Section) -> bool
 // 6 over the three sections.
 fn inside(image: &[u8], edition: Edition) -> Verdict
     requires { ⌜ headerSize edition ≤ length (now image) ⌝ }
-    ensures { λ r. ⌜ verdictTold r ≡ firstWrong (insideChecks edition (now (image .entry))) tt ⌝ }
+    ensures { λ r. ⌜ answerOfVerdict r ≡ firstWrong (insideChecks edition (now (image .entry))) tt ⌝ }
 {
     if ends_past(image, edition, Section::Symbol) {
         return Verdict::Refused(Refusal::SectionOutside(Section::Symbol));
@@ -122,7 +110,7 @@ fn inside(image: &[u8], edition: Edition) -> Verdict
 // 7 over the three sections. One pass over each.
 fn sums(image: &[u8], edition: Edition) -> Verdict
     requires { ⌜ Readable edition (now image) ⌝ }
-    ensures { λ r. ⌜ verdictTold r ≡ firstWrong (sumChecks edition (now (image .entry))) tt ⌝ }
+    ensures { λ r. ⌜ answerOfVerdict r ≡ firstWrong (sumChecks edition (now (image .entry))) tt ⌝ }
 {
     if sum_wrong(image, edition, Section::Symbol) {
         return Verdict::Refused(Refusal::WrongSectionSum(Section::Symbol));
@@ -139,7 +127,7 @@ fn sums(image: &[u8], edition: Edition) -> Verdict
 // 6, then 7.
 pub fn sections(image: &[u8], edition: Edition) -> Verdict
     requires { ⌜ (headerSize edition ≤ length (now image)) × (length (now image) < 2147483648) ⌝ }
-    ensures { λ r. ⌜ verdictTold r ≡ firstWrong (sectionChecks edition (now (image .entry))) tt ⌝ }
+    ensures { λ r. ⌜ answerOfVerdict r ≡ firstWrong (sectionChecks edition (now (image .entry))) tt ⌝ }
 {
     match inside(image, edition) {
         Verdict::Refused(refusal) => Verdict::Refused(refusal),

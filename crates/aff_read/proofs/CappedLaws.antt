@@ -11,8 +11,8 @@ use lib.Seq.{take-take}
 use borrow.Author.Tests.{leb-true, leb-false, le-leb, lt-leb}
 use Rattle.aff_format.specs.Bytes.{part}
 use Rattle.aff_format.specs.Strings.{upToZero}
-use Rattle.aff_open.specs.Tables.{nameFrom}
-use Rattle.aff_read.specs.Calls.{capped}
+use Rattle.aff_format.specs.Recorded.{nameFrom}
+use Rattle.aff_read.specs.passes.Capped.{capped}
 
 pub capped-within : (limit n : ℕ) → n ≤ limit → capped limit n ≡ n
 capped-within limit n h = rw (le-leb n limit h)

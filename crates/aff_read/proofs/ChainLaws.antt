@@ -10,17 +10,17 @@ use lib.ListN.{length, getD, set, length-set}
 use lib.Seq.{getD-set-same, getD-set-other}
 use Rattle.aff_format.specs.Tree.{reachesBy}
 use Rattle.aff_format.specs.declared.entry.Entry.{Entry}
-use Rattle.aff_open.specs.Belongs.{Belongs}
-use Rattle.aff_open.specs.Recorded.{recordedEntry}
+use Rattle.aff_open.specs.Belongs.{ReaderBelongs}
+use Rattle.aff_format.specs.Recorded.{recordedEntry}
 use Rattle.aff_open.specs.declared.reader.Reader.{Reader}
 use Rattle.aff_open.proofs.BelongsLaws.{parent-within}
-use Rattle.aff_read.specs.Fit.{fitAt, Settled, Climbable, Chain}
+use Rattle.aff_read.specs.passes.Fit.{fitAt, FitsSettled, Climbable, Chain}
 use Rattle.aff_read.specs.Recall.{parentAt}
 use Rattle.aff_read.proofs.FitLaws.{climb-left}
 
 -- Each node of a record that belongs, other than the root.
-pub climbable : {image : List ℕ} {reader : Reader} {strings entries path fits : List ℕ} → Belongs image reader strings entries
-    → Settled image reader strings entries path fits → (node : ℕ) → 0 < node → node ≤ reader .nodes → Climbable image entries fits (reader .nodes) node
+pub climbable : {image : List ℕ} {reader : Reader} {strings entries path fits : List ℕ} → ReaderBelongs image reader strings entries
+    → FitsSettled image reader strings entries path fits → (node : ℕ) → 0 < node → node ≤ reader .nodes → Climbable image entries fits (reader .nodes) node
 climbable b s node other there =
     record {
       few = b .few-nodes;
@@ -122,13 +122,13 @@ module _ {image entries fits : List ℕ} {nodes node : ℕ} (c : Climbable image
             }
 
 -- The way down: node j of the chain has its fit when that of node j + 1, its parent, is there.
-module _ {image : List ℕ} {reader : Reader} {strings entries path chain names fits : List ℕ} {count : ℕ} (s : Settled image reader strings entries path fits)
+module _ {image : List ℕ} {reader : Reader} {strings entries path chain names fits : List ℕ} {count : ℕ} (s : FitsSettled image reader strings entries path fits)
     (c : Chain image entries (reader .nodes) chain names count) where
   pub top-fit : {top : ℕ} → top ≡ getD chain count 0 → (getD fits (getD chain count 0) 0 ≡ 0 → ⊥) → getD fits top 0 ≡ fitAt image reader strings entries path (getD chain count 0)
-  top-fit is settled = rw is (s .told (getD chain count 0) (c .exist count (omega arith)) settled)
+  top-fit is settled = rw is (s .reported (getD chain count 0) (c .exist count (omega arith)) settled)
 
-  module _ {k fit : ℕ} (few : k ≤ count) (more : 0 < k) (told : fit ≡ fitAt image reader strings entries path (getD chain k 0)) where
+  module _ {k fit : ℕ} (few : k ≤ count) (more : 0 < k) (reported : fit ≡ fitAt image reader strings entries path (getD chain k 0)) where
     pub parent-fit : fit ≡ fitAt image reader strings entries path (parentAt image entries (getD chain (k - 1) 0))
     parent-fit =
         let z : k ≡ k - 1 + 1 = omega arith in
-        told ∙ ap (fitAt image reader strings entries path) (ap (λ (j : ℕ). getD chain j 0) z ∙ c .parents (k - 1) (omega arith))
+        reported ∙ ap (fitAt image reader strings entries path) (ap (λ (j : ℕ). getD chain j 0) z ∙ c .parents (k - 1) (omega arith))

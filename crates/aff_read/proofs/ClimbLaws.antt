@@ -14,10 +14,10 @@ use Rattle.aff_format.specs.Bytes.{part}
 use Rattle.aff_format.specs.Limits.{nodeLimit}
 use Rattle.aff_format.specs.Tree.{frontBy}
 use Rattle.aff_format.proofs.TreeLaws.{front-step}
-use Rattle.aff_open.specs.Belongs.{Belongs}
+use Rattle.aff_open.specs.Belongs.{ReaderBelongs}
 use Rattle.aff_open.specs.declared.reader.Reader.{Reader}
 use Rattle.aff_open.proofs.BelongsLaws.{parent-within}
-use Rattle.aff_read.specs.Climb.{above, tableParent, tableFrom, tableEnd, tableFront, TableInside, Noted, NotedMore, ClimbNoted}
+use Rattle.aff_read.specs.passes.Climb.{above, tableParent, tableFrom, tableEnd, tableFront, TableInside, Noted, NotedMore, ClimbNoted}
 use Rattle.aff_read.specs.Recall.{parentAt, nameAt, nameSpan}
 use Rattle.aff_read.proofs.FrontLaws.{frontAt, name-size, name-bytes}
 use Rattle.aff_read.proofs.SpanLaws.{name-within}
@@ -82,7 +82,7 @@ module _ (table : List ℕ) (k p f e : ℕ) (long : 3 * k + 2 < length table) wh
   stored-all Q q j h = stored-by Q q j h (eqb j k) refl
 
 -- A node stored as the record has it.
-module _ {image : List ℕ} {reader : Reader} {strings entries : List ℕ} (b : Belongs image reader strings entries) {table : List ℕ} (inside : TableInside image table)
+module _ {image : List ℕ} {reader : Reader} {strings entries : List ℕ} (b : ReaderBelongs image reader strings entries) {table : List ℕ} (inside : TableInside image table)
     (node : ℕ) (there : node ≤ reader .nodes) (p f e : ℕ) (up : p ≡ parentAt image entries node)
     (from : f ≡ nameSpan image reader strings entries node .offset) (end : e ≡ f + length (nameAt image reader strings entries node)) where
   wide : 3 * node + 2 < length table
@@ -148,7 +148,7 @@ module _ {image : List ℕ} {reader : Reader} {strings entries : List ℕ} {node
   pub climbing-done : at ≡ 0 → ClimbNoted image reader strings entries table node
   climbing-done z = record { inside = c .inside; steps = c .steps; ends = c .is ∙ z; noted = c .noted }
 
-  module _ (b : Belongs image reader strings entries) (other : at ≡ 0 → ⊥) (p : ℕ) (up : p ≡ parentAt image entries at) where
+  module _ (b : ReaderBelongs image reader strings entries) (other : at ≡ 0 → ⊥) (p : ℕ) (up : p ≡ parentAt image entries at) where
     pub climbing-less : length (frontAt image reader strings entries p) < length (frontAt image reader strings entries at)
     climbing-less =
         let q =

@@ -1,24 +1,23 @@
 -- The decoding of a node's data counts its elements as the entry does. Assumes nothing.
-use mathlib.Core.Path.{_≡_, refl, sym, ap, _∙_}
+use mathlib.Core.Path.{_≡_, refl, sym, _∙_}
 use mathlib.Core.Bool.{Bool, true, false}
 use mathlib.Core.List.{List, [], _∷_}
-use Prim.Native.Nat.{ℕ, _+_, _-_, _*_, _/_, _≤_, _<_}
+use Prim.Native.Nat.{ℕ, _-_, _*_, _≤_, _<_}
 use native.Mathlib.Omega.{arith}
 use lib.Dec.{leb}
 use lib.ListN.{length, getD, drop}
 use mathlib.Core.Logic.{⊎-elim}
 use Rattle.aff_format.proofs.ClimbLaws.{at-zero}
 use Rattle.aff_format.proofs.EntryLaws.{whole-void-count}
-use Rattle.aff_format.specs.Answer.{Answer, check, refusal, firstWrong}
-use Rattle.aff_format.specs.Bytes.{part}
+use Rattle.aff_format.specs.Answer.{check, refusal, firstWrong}
 use Rattle.aff_format.specs.Element.{countIn, elementAt, decoded}
 use Rattle.aff_format.specs.Kind.{elementSize, isVoid}
 use Rattle.aff_format.specs.declared.kind.Kind.{Kind}
 use Rattle.aff_format.specs.declared.kind.Kind.the-variants.{Void, Char, Int, Double, Complex}
 use Rattle.aff_format.proofs.BytesLaws.{length-part}
 use Rattle.aff_format.proofs.KindLaws.{countIn-void}
-use Rattle.aff_open.specs.Belongs.{Belongs}
-use Rattle.aff_open.specs.Recorded.{recordedEntry}
+use Rattle.aff_open.specs.Belongs.{ReaderBelongs}
+use Rattle.aff_format.specs.Recorded.{recordedEntry}
 use Rattle.aff_open.specs.declared.reader.Reader.{Reader}
 use Rattle.aff_read.specs.Recall.{kindAt, countAt, dataSpan, bytesAt}
 use Rattle.aff_read.proofs.SpanLaws.{data-ends}
@@ -31,7 +30,7 @@ counted Int n l v h = omega arith
 counted Double n l v h = omega arith
 counted Complex n l v h = omega arith
 
-module _ {image : List ℕ} {reader : Reader} {strings entries : List ℕ} (b : Belongs image reader strings entries) (node : ℕ) (there : node ≤ reader .nodes) where
+module _ {image : List ℕ} {reader : Reader} {strings entries : List ℕ} (b : ReaderBelongs image reader strings entries) (node : ℕ) (there : node ≤ reader .nodes) where
   -- A Void node's count is 0.
   pub void-count : isVoid (kindAt image entries node) ≡ true → countAt image entries node ≡ 0
   unfolding recordedEntry

@@ -17,10 +17,10 @@ use Rattle.aff_format.specs.Tree.{reachesBy}
 use Rattle.aff_format.proofs.BytesLaws.{part-cons, part-empty}
 use Rattle.aff_format.proofs.ClimbLaws.{at-zero, reaches-up}
 use Rattle.aff_format.proofs.TreeLaws.{front-root, front-step}
-use Rattle.aff_open.specs.Belongs.{Belongs}
-use Rattle.aff_open.specs.Tables.{nameFrom}
+use Rattle.aff_open.specs.Belongs.{ReaderBelongs}
+use Rattle.aff_format.specs.Recorded.{nameFrom}
 use Rattle.aff_open.specs.declared.reader.Reader.{Reader}
-use Rattle.aff_read.specs.Fit.{fitFrom, fitAt, Settled}
+use Rattle.aff_read.specs.passes.Fit.{fitFrom, fitAt, FitsSettled}
 use Rattle.aff_read.specs.Recall.{parentAt, nameAt, pathAt}
 use Rattle.aff_read.proofs.FrontLaws.{frontAt, path-other}
 
@@ -111,8 +111,8 @@ module _ (image : List ℕ) (end k : ℕ) where
             → fitFrom (nameFrom image end (k + 1)) (drop (n + 1) path) (n + 1) ≡ fitFrom (nameFrom image end k) (drop n path) n
         name-goes-on h e = rw (name-on within inside more) (fit-on _ _ path n h e)
 
--- What begins with a text whose fit is told.
-module _ (front more path : List ℕ) (above : ℕ) (told : above ≡ fitFrom front path 0) where
+-- What begins with a text whose fit is known.
+module _ (front more path : List ℕ) (above : ℕ) (reported : above ≡ fitFrom front path 0) where
   fit-none : above ≤ 1 → 1 ≡ fitFrom (front ++ more) path 0
   fit-none h = go (fit-of front path 0)
     where
@@ -128,18 +128,18 @@ module _ (front more path : List ℕ) (above : ℕ) (told : above ≡ fitFrom fr
       go (fits few e f) = let a : length front ≡ above - 2 = omega arith in (omega arith, rw (← a) (f more ∙ ap (fitFrom more (drop (length front) path)) (zero-add (length front))))
 
 -- The fit of a node that is not the root, by its parent's.
-module _ {image : List ℕ} {reader : Reader} {strings entries : List ℕ} (b : Belongs image reader strings entries)
+module _ {image : List ℕ} {reader : Reader} {strings entries : List ℕ} (b : ReaderBelongs image reader strings entries)
     (path : List ℕ) (node : ℕ) (there : node ≤ reader .nodes) (other-node : 0 < node) (above : ℕ)
-    (told : above ≡ fitAt image reader strings entries path (parentAt image entries node)) where
+    (reported : above ≡ fitAt image reader strings entries path (parentAt image entries node)) where
   abbrev front : List ℕ
   front = frontAt image reader strings entries (parentAt image entries node)
 
   abbrev own : List ℕ
   own = nameAt image reader strings entries node
 
-  front-told : above ≡ fitFrom front path 0
+  front-reported : above ≡ fitFrom front path 0
   unfolding fitAt
-  front-told = told
+  front-reported = reported
 
   fit-is : fitAt image reader strings entries path node ≡ fitFrom (front ++ (47 ∷ own)) path 0
   unfolding fitAt
@@ -148,11 +148,11 @@ module _ {image : List ℕ} {reader : Reader} {strings entries : List ℕ} (b : 
       (front-step (parentAt image entries) (nameAt image reader strings entries) (reader .nodes) node (λ q. omega arith) (b .climb-ends node other-node there))
 
   pub below-none : above ≤ 1 → 1 ≡ fitAt image reader strings entries path node
-  below-none h = fit-none front (47 ∷ own) path above front-told h ∙ sym fit-is
+  below-none h = fit-none front (47 ∷ own) path above front-reported h ∙ sym fit-is
 
   module _ (some : 1 < above) where
     below-more : (above - 2 ≤ length path) × (fitFrom (front ++ (47 ∷ own)) path 0 ≡ fitFrom (47 ∷ own) (drop (above - 2) path) (above - 2))
-    below-more = fit-more front (47 ∷ own) path above front-told some
+    below-more = fit-more front (47 ∷ own) path above front-reported some
 
     pub below-end : length path ≤ above - 2 → 1 ≡ fitAt image reader strings entries path node
     below-end h = fit-end 47 own path (above - 2) h ∙ sym (below-more .1) ∙ sym fit-is
@@ -197,7 +197,7 @@ module _ (image : List ℕ) (reader : Reader) (strings entries path : List ℕ) 
       rw (is, path-other image reader strings entries node n) (fits-whole (frontAt image reader strings entries node) path 0 (length path + 2) (omega arith))
 
   -- At first the root alone is settled.
-  pub settled-first : (n : ℕ) → reader .nodes < n → Settled image reader strings entries path (set (replicate n 0) 0 2)
+  pub settled-first : (n : ℕ) → reader .nodes < n → FitsSettled image reader strings entries path (set (replicate n 0) 0 2)
   unfolding fitAt fitFrom
   settled-first n h =
       let zeros : List ℕ = replicate n 0 in
@@ -206,7 +206,7 @@ module _ (image : List ℕ) (reader : Reader) (strings entries path : List ℕ) 
       record {
         wide = omega (arith, length-set zeros 0 2);
         root = λ q. omega arith;
-        told = λ k m f.
+        reported = λ k m f.
             ⊎-elim (λ (z : k ≡ 0). rw (z, front-root (parentAt image entries) (nameAt image reader strings entries) (reader .nodes)) first)
             (λ (l : 0 < k). absurd (f (getD-set-other zeros 0 k 2 0 (λ q. omega arith) ∙ getD-replicate {A = ℕ} n k 0 0 (omega arith))))
             (at-zero (λ j. j) k);
@@ -221,24 +221,24 @@ climb-left parent (suc left) node p h up e =
     let s : suc left - 1 ≡ left = omega arith in
     (omega arith, rw (s, up) (sym (reaches-up parent left node (λ q. omega arith)) ∙ e))
 
-module _ {image : List ℕ} {reader : Reader} {strings entries path fits : List ℕ} (s : Settled image reader strings entries path fits) (node : ℕ) where
+module _ {image : List ℕ} {reader : Reader} {strings entries path fits : List ℕ} (s : FitsSettled image reader strings entries path fits) (node : ℕ) where
   module _ (there : node ≤ reader .nodes) (after : List ℕ) (other-node : 0 < node) (is : after ≡ set fits node (fitAt image reader strings entries path node)) where
-    told-next : getD after node 0 ≡ fitAt image reader strings entries path node
-    told-next = rw is (getD-set-same fits node (fitAt image reader strings entries path node) 0 (omega (arith, s .wide)))
+    reported-next : getD after node 0 ≡ fitAt image reader strings entries path node
+    reported-next = rw is (getD-set-same fits node (fitAt image reader strings entries path node) 0 (omega (arith, s .wide)))
 
     kept-next : (k : ℕ) → (k ≡ node → ⊥) → getD after k 0 ≡ getD fits k 0
     kept-next k n = rw is (getD-set-other fits node k (fitAt image reader strings entries path node) 0 n)
 
-    told-one : (k : ℕ) → k ≤ reader .nodes → (getD after k 0 ≡ 0 → ⊥) → (b : Bool) → eqb k node ≡ b → getD after k 0 ≡ fitAt image reader strings entries path k
-    told-one k m f true e = rw (eqb-true k node e) told-next
-    told-one k m f false e =
+    reported-one : (k : ℕ) → k ≤ reader .nodes → (getD after k 0 ≡ 0 → ⊥) → (b : Bool) → eqb k node ≡ b → getD after k 0 ≡ fitAt image reader strings entries path k
+    reported-one k m f true e = rw (eqb-true k node e) reported-next
+    reported-one k m f false e =
         let q = kept-next k (eqb-false k node e) in
-        q ∙ s .told k m (λ z. f (q ∙ z))
+        q ∙ s .reported k m (λ z. f (q ∙ z))
 
-    pub settled-next : Settled image reader strings entries path after
+    pub settled-next : FitsSettled image reader strings entries path after
     settled-next =
         record {
           wide = omega (arith, s .wide, ap length is, length-set fits node (fitAt image reader strings entries path node));
           root = λ q. s .root (sym (kept-next 0 (λ z. omega arith)) ∙ q);
-          told = λ k m f. told-one k m f (eqb k node) refl;
+          reported = λ k m f. reported-one k m f (eqb k node) refl;
         }

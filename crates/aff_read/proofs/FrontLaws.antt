@@ -7,18 +7,15 @@ use Prim.Native.Nat.{ℕ, zero, suc, _+_, _-_, _≤_, _<_}
 use native.Mathlib.Omega.{arith}
 use lib.ListN.{length, getD}
 use borrow.Author.Tests.{eq-eqb, ne-eqb}
-use Rattle.aff_format.specs.Bytes.{part}
 use Rattle.aff_format.specs.Tree.{frontBy}
 use Rattle.aff_format.specs.declared.entry.Entry.{Entry}
 use Rattle.aff_format.proofs.ClimbLaws.{at-zero}
 use Rattle.aff_format.proofs.TreeLaws.{front-root, front-up, front-step}
 use Rattle.aff_format.proofs.TreeLaws as tree
-use Rattle.aff_open.specs.Belongs.{Belongs}
-use Rattle.aff_open.specs.Recorded.{recordedEntry}
-use Rattle.aff_open.specs.Tables.{nameFrom}
+use Rattle.aff_open.specs.Belongs.{ReaderBelongs}
+use Rattle.aff_format.specs.Recorded.{recordedEntry, nameFrom}
 use Rattle.aff_open.specs.declared.reader.Reader.{Reader}
-use Rattle.aff_open.specs.declared.reader.Span.{Span}
-use Rattle.aff_open.proofs.RecordedLaws.{name-part}
+use Rattle.aff_format.proofs.RecordedLaws.{name-part}
 use Rattle.aff_read.specs.Recall.{symbolsEnd, parentAt, nameAt, nameSpan, spanBytes, pathAt}
 use Rattle.aff_read.proofs.WrittenLaws.{Parted}
 use Rattle.aff_read.proofs.SpanLaws.{part-between, name-from}
@@ -60,10 +57,7 @@ module _ (image : List ℕ) (reader : Reader) (strings entries : List ℕ) where
   name-size node =
       ⊎-elim (λ (z : node ≡ 0). rw (eq-eqb node 0 z)) (λ (h : 0 < node). rw (ne-eqb node 0 (λ q. omega arith))) (at-zero (λ k. k) node)
 
-  pub span-size : (node : ℕ) (s : Span) → s ≡ nameSpan image reader strings entries node → s .size ≡ length (nameAt image reader strings entries node)
-  span-size node s is = rw is (name-size node)
-
-  module _ (b : Belongs image reader strings entries) (node : ℕ) (there : node ≤ reader .nodes) where
+  module _ (b : ReaderBelongs image reader strings entries) (node : ℕ) (there : node ≤ reader .nodes) where
     pub path-front : (p : ℕ) → p ≡ parentAt image entries node → pathAt image reader strings entries node ≡ frontAt p ++ (47 ∷ nameAt image reader strings entries node)
     path-front p up =
         rw up

@@ -14,4 +14,4 @@ pub mod ListingLaws
 pub mod OnceLaws
 pub mod UniqueLaws
 pub mod WholeLaws
-pub mod LineLaws
+pub mod OutputLaws

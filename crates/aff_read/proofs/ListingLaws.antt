@@ -1,5 +1,5 @@
 -- Laws of listing order, in the terms of the passes that write it. Assumes nothing.
-use mathlib.Core.Path.{_≡_, refl, ap}
+use mathlib.Core.Path.{_≡_, refl, sym, ap}
 use mathlib.Core.List.{List, [], _∷_, _++_}
 use mathlib.Core.Logic.{⊎-elim}
 use Prim.Native.Nat.{ℕ, zero, suc, _+_, _-_, _≤_, _<_}
@@ -8,18 +8,29 @@ use native.Mathlib.Numerals.{add-one, sub-one}
 use native.Mathlib.Omega.{arith}
 use borrow.Author.Tests.{eq-eqb, ne-eqb}
 use lib.ListN.{length, length-append}
-use Rattle.aff_read.specs.Calls.{childOf, childrenTo, preorder}
-use Rattle.aff_read.specs.Written.{Written}
-use Rattle.aff_read.proofs.WrittenLaws.{written-same, written-more, written-length}
+use Rattle.aff_read.specs.ListingOrder.{childOf, childrenTo, preorder}
+use Rattle.aff_read.specs.passes.Written.{Written}
+use Rattle.aff_read.proofs.WrittenLaws.{written-none, written-same, written-more, written-length}
 
 module _ (f : ℕ → List ℕ) (parent : ℕ → ℕ) (n : ℕ) where
-  pub child-yes : (k : ℕ) → 0 < k → parent k ≡ n → childOf f parent n k ≡ f k
-  unfolding childOf
-  child-yes k z e = rw (ne-eqb k 0 (λ q. omega arith), eq-eqb (parent k) n e)
+  -- The subtree of k where k is a child of n, and nothing else.
+  module _ (k : ℕ) (z : 0 < k) where
+    child-yes : parent k ≡ n → childOf f parent n k ≡ f k
+    unfolding childOf
+    child-yes e = rw (ne-eqb k 0 (λ q. omega arith), eq-eqb (parent k) n e)
 
-  pub child-no : (k : ℕ) → 0 < k → (parent k ≡ n → ⊥) → childOf f parent n k ≡ []
-  unfolding childOf
-  child-no k z e = rw (ne-eqb k 0 (λ q. omega arith), ne-eqb (parent k) n e)
+    child-no : (parent k ≡ n → ⊥) → childOf f parent n k ≡ []
+    unfolding childOf
+    child-no e = rw (ne-eqb k 0 (λ q. omega arith), ne-eqb (parent k) n e)
+
+    pub child-size : (at size : ℕ) → parent k ≡ n → at + length (childOf f parent n k) ≤ size → at + length (f k) ≤ size
+    child-size at size e h = rw (child-yes e) at h
+
+    pub child-written : {at end : ℕ} {o p : List ℕ} → parent k ≡ n → Written at (f k) o p end → Written at (childOf f parent n k) o p end
+    child-written e w = written-same (sym (child-yes e)) w
+
+    pub other-written : (at : ℕ) (o : List ℕ) → (parent k ≡ n → ⊥) → Written at (childOf f parent n k) o o at
+    other-written at o e = written-none at _ o (child-no e)
 
   -- The root is no child.
   pub children-none : childrenTo f parent n 1 ≡ []
@@ -71,7 +82,7 @@ module _ (p q : ℕ → ℕ) where
 
 -- Children written one after the other, in an area with room for all below m.
 module _ (f : ℕ → List ℕ) (parent : ℕ → ℕ) (n m at : ℕ) (o : List ℕ) (fits : at + length (childrenTo f parent n m) ≤ length o) where
-  module _ {k mid : ℕ} {p : List ℕ} (h : k < m) (w : Written at (childrenTo f parent n k) o p mid) where
+  module _ {k mid : ℕ} {p : List ℕ} (w : Written at (childrenTo f parent n k) o p mid) (h : k < m) where
     front-fits : at + length (childrenTo f parent n k) ≤ length o
     front-fits = omega (arith, children-fit f parent n k m h)
 
@@ -81,17 +92,20 @@ module _ (f : ℕ → List ℕ) (parent : ℕ → ℕ) (n m at : ℕ) (o : List 
     pub children-next : {end : ℕ} {q : List ℕ} → Written mid (childOf f parent n k) p q end → Written at (childrenTo f parent n (k + 1)) o q end
     children-next v = written-same (children-more f parent n k) (written-more w front-fits v)
 
--- A node written, and its children behind it.
+-- A node written, and its children after it.
 module _ (parent : ℕ → ℕ) (all depth n at : ℕ) (o : List ℕ) (more : depth ≡ 0 → ⊥) (fits : at + length (preorder parent all depth n) ≤ length o) where
-  pub node-fits : at + 1 + length (childrenTo (preorder parent all (depth - 1)) parent n all) ≤ length o
+  node-fits : at + 1 + length (childrenTo (preorder parent all (depth - 1)) parent n all) ≤ length o
   node-fits = omega (arith, ap length (preorder-step parent all depth n more))
+
+  pub node-size : at < length o
+  node-size = omega (arith, node-fits)
 
   module _ {mid : ℕ} {p : List ℕ} (w : Written at (n ∷ []) o p mid) where
     one-fits : at + length (n ∷ []) ≤ length o
-    one-fits = omega (arith, node-fits)
+    one-fits = omega (arith, node-size)
 
-    pub children-room : mid + length (childrenTo (preorder parent all (depth - 1)) parent n all) ≤ length p
-    children-room = omega (arith, w .ends, written-length w one-fits, node-fits)
+    pub children-size : mid + length (childrenTo (preorder parent all (depth - 1)) parent n all) ≤ length p
+    children-size = omega (arith, w .ends, written-length w one-fits, node-fits)
 
     pub node-next : {end : ℕ} {q : List ℕ} → Written mid (childrenTo (preorder parent all (depth - 1)) parent n all) p q end → Written at (preorder parent all depth n) o q end
     node-next v = written-same (preorder-step parent all depth n more) (written-more w one-fits v)

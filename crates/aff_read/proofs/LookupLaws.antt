@@ -11,25 +11,26 @@ use borrow.Author.Tests.{ltb-true, ltb-false}
 use Rattle.aff_format.specs.Answer.{accepted, refused, refusal}
 use Rattle.aff_format.specs.Bytes.{sameBytes}
 use Rattle.aff_format.specs.Path.{isPath}
+use Rattle.aff_format.specs.declared.edition.Edition.{Edition}
 use Rattle.aff_format.specs.declared.lowest.Lowest.{Lowest}
 use Rattle.aff_format.specs.declared.lowest.Lowest.the-variants.{Nothing, At}
 use Rattle.aff_format.proofs.AnswerLaws.{not-both}
 use Rattle.aff_format.proofs.LowestLaws.{lowest-is, none-holds}
 use Rattle.aff_format.proofs.SameLaws.{same-eq, same-ne}
-use Rattle.aff_open.specs.Belongs.{Belongs, belongs}
+use Rattle.aff_open.specs.Belongs.{ReaderBelongs, readerBelongs}
 use Rattle.aff_open.specs.declared.reader.Reader.{Reader}
 use Rattle.aff_open.proofs.BelongsLaws.{record-belongs}
-use Rattle.aff_read.specs.Calls.{found, editionBy, lookupAnswer}
+use Rattle.aff_read.specs.Paths.{found, editionBy, lookupAnswer}
 use Rattle.aff_read.specs.Lookup.{LowestWith, NoneWith}
 use Rattle.aff_read.specs.Recall.{pathAt}
 
 module _ (image : List ℕ) (reader : Reader) (strings entries path : List ℕ) where
   -- Each check in its turn.
-  pub lookup-wrong : belongs image reader strings entries ≡ false → refused (refusal 24) ≡ lookupAnswer image reader strings entries path
+  pub lookup-wrong : readerBelongs image reader strings entries ≡ false → refused (refusal 24) ≡ lookupAnswer image reader strings entries path
   unfolding lookupAnswer
   lookup-wrong h = rw h
 
-  module _ (b : belongs image reader strings entries ≡ true) where
+  module _ (b : readerBelongs image reader strings entries ≡ true) where
     pub lookup-malformed : isPath (editionBy reader) path ≡ false → refused (refusal 14) ≡ lookupAnswer image reader strings entries path
     unfolding lookupAnswer
     lookup-malformed h = rw (b, h)
@@ -42,6 +43,10 @@ module _ (image : List ℕ) (reader : Reader) (strings entries path : List ℕ) 
       pub lookup-at : (n : ℕ) → found image reader strings entries path ≡ At n → accepted n ≡ lookupAnswer image reader strings entries path
       unfolding lookupAnswer
       lookup-at n h = rw (b, p, h)
+
+-- The grammar by an edition that was computed.
+pub grammar-by : (path : List ℕ) {e d : Edition} {sound : Bool} → sound ≡ isPath e path → e ≡ d → sound ≡ isPath d path
+grammar-by path {d = d} g e = rw e at g
 
 -- There is one lowest at most.
 lowest-least : {image : List ℕ} {reader : Reader} {strings entries path : List ℕ} {m n : ℕ}
@@ -70,7 +75,7 @@ module _ (image : List ℕ) (reader : Reader) (strings entries path : List ℕ) 
   unfolding found
   found-none h = λ k m. same-ne _ _ (none-holds hasPath (reader .nodes + 1) 0 h k (omega arith) (omega arith))
 
-  module _ (b : Belongs image reader strings entries) (p : isPath (editionBy reader) path ≡ true) where
+  module _ (b : ReaderBelongs image reader strings entries) (p : isPath (editionBy reader) path ≡ true) where
     -- What is answered, by what is found.
     data Looked : Type 0 where
       at : (n : ℕ) → accepted n ≡ lookupAnswer image reader strings entries path → LowestWith image reader strings entries path n → Looked

@@ -13,15 +13,16 @@ use lib.Dec.{eqb}
 use lib.ListN.{length, drop}
 use Rattle.aff_format.specs.Tree.{reachesBy}
 use Rattle.aff_format.proofs.ClimbLaws.{absurd-bool, reaches-root, reaches-up}
-use Rattle.aff_open.specs.Belongs.{Belongs, ParentsCopied}
-use Rattle.aff_open.specs.Climb.{parentAt as parentIn}
-use Rattle.aff_open.specs.Recorded.{recordedEntry}
+use Rattle.aff_open.specs.Belongs.{ReaderBelongs}
+use Rattle.aff_open.specs.passes.Belongs.{ParentsCopied}
+use Rattle.aff_tables.specs.passes.Climb.{copiedParent as parentIn}
+use Rattle.aff_format.specs.Recorded.{recordedEntry}
 use Rattle.aff_open.specs.declared.reader.Reader.{Reader}
-use Rattle.aff_open.proofs.OrderLaws.{split}
-use Rattle.aff_read.specs.Calls.{childOf, childrenTo, preorder, order}
+use Rattle.aff_tables.proofs.OrderLaws.{split}
+use Rattle.aff_read.specs.ListingOrder.{childOf, childrenTo, preorder, listingOrder}
 use Rattle.aff_read.specs.Once.{hit, occurrences}
 use Rattle.aff_read.specs.Recall.{parentAt}
-use Rattle.aff_read.specs.Written.{Written}
+use Rattle.aff_read.specs.passes.Written.{Written}
 use Rattle.aff_read.proofs.ListingLaws.{preorder-same}
 use Rattle.aff_read.proofs.WrittenLaws.{written-same, written-front}
 
@@ -212,7 +213,7 @@ module _ (parent : ℕ → ℕ) where
 
 -- ---- Listing order.
 
-module _ {image : List ℕ} {reader : Reader} {strings entries : List ℕ} (b : Belongs image reader strings entries) where
+module _ {image : List ℕ} {reader : Reader} {strings entries : List ℕ} (b : ReaderBelongs image reader strings entries) where
   pub linked : (k : ℕ) → 0 < k → k < reader .nodes + 1 → parentAt image entries k < reader .nodes + 1
   linked k z h = let p = b .parent-exists k z (omega arith) in omega arith
 
@@ -221,28 +222,28 @@ module _ {image : List ℕ} {reader : Reader} {strings entries : List ℕ} (b : 
   reached (suc k) h = b .climb-ends (suc k) (omega arith) h
 
   -- Each node exactly once.
-  pub order-once : (k : ℕ) → k ≤ reader .nodes → occurrences k (order image reader strings entries) ≡ 1
+  pub order-once : (k : ℕ) → k ≤ reader .nodes → occurrences k (listingOrder image reader strings entries) ≡ 1
   order-once k h =
       ap (λ (d : ℕ). occurrences k (preorder (parentAt image entries) (reader .nodes + 1) d 0)) (add-one (reader .nodes))
       ∙ climbed-once (parentAt image entries) (reader .nodes + 1) linked (reader .nodes) k (omega arith) (reached k h)
 
   -- No other number.
-  pub order-only : (k : ℕ) → reader .nodes < k → occurrences k (order image reader strings entries) ≡ 0
+  pub order-only : (k : ℕ) → reader .nodes < k → occurrences k (listingOrder image reader strings entries) ≡ 0
   order-only k h = only-nodes (parentAt image entries) (reader .nodes + 1) (reader .nodes + 1) 0 (omega arith) k (omega arith)
 
-  pub order-length : length (order image reader strings entries) ≡ reader .nodes + 1
+  pub order-length : length (listingOrder image reader strings entries) ≡ reader .nodes + 1
   order-length =
-      total-length (reader .nodes + 1) (order image reader strings entries) (λ k g. order-only k (omega arith))
-      ∙ total-once (reader .nodes + 1) (order image reader strings entries) (λ k g. order-once k (omega arith))
+      total-length (reader .nodes + 1) (listingOrder image reader strings entries) (λ k g. order-only k (omega arith))
+      ∙ total-once (reader .nodes + 1) (listingOrder image reader strings entries) (λ k g. order-once k (omega arith))
 
   -- By parents copied once: it has room in an area of more numbers than nodes, and as many numbers as there are nodes are written.
   module _ {parents : List ℕ} (copied : ParentsCopied (recordedEntry image entries) (reader .nodes) parents) where
-    copied-order : preorder (parentIn parents) (reader .nodes + 1) (reader .nodes + 1) 0 ≡ order image reader strings entries
+    copied-order : preorder (parentIn parents) (reader .nodes + 1) (reader .nodes + 1) 0 ≡ listingOrder image reader strings entries
     copied-order = preorder-same (parentIn parents) (parentAt image entries) (reader .nodes + 1) (reader .nodes + 1) 0 (λ k z h. copied .parent k z (omega arith))
 
     pub order-fits : (o : List ℕ) → reader .nodes < length o → 0 + length (preorder (parentIn parents) (reader .nodes + 1) (reader .nodes + 1) 0) ≤ length o
     order-fits o h = omega (arith, ap length copied-order, order-length)
 
     pub order-written : {o p : List ℕ} {end : ℕ} → Written 0 (preorder (parentIn parents) (reader .nodes + 1) (reader .nodes + 1) 0) o p end
-        → (end ≡ reader .nodes + 1) × (p ≡ order image reader strings entries ++ drop (length (order image reader strings entries)) o)
+        → (end ≡ reader .nodes + 1) × (p ≡ listingOrder image reader strings entries ++ drop (length (listingOrder image reader strings entries)) o)
     order-written w = let f = written-front (written-same copied-order w) in (f .0 ∙ order-length, f .1)

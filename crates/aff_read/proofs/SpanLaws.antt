@@ -1,25 +1,23 @@
 -- Where name and data of a node stand, and that they lie inside the image. Assumes nothing.
 use mathlib.Core.Path.{_≡_, refl, sym, ap, _∙_}
 use mathlib.Core.Bool.{Bool, true, false}
-use mathlib.Core.List.{List, [], _∷_}
+use mathlib.Core.List.{List}
 use Prim.Native.Nat.{ℕ, _+_, _-_, _*_, _^_, _≤_, _<_}
 use native.Mathlib.Omega.{arith}
 use lib.ListN.{length, getD}
 use borrow.Author.Tests.{eq-eqb, ne-eqb}
-use mathlib.Core.Logic.{_⊎_, inl, inr, ⊎-elim}
+use mathlib.Core.Logic.{⊎-elim}
 use Rattle.aff_format.proofs.ClimbLaws.{absurd-bool, at-zero}
-use Rattle.aff_open.specs.Tables.{nameFrom}
+use Rattle.aff_format.specs.Recorded.{nameFrom, recordedEntry}
 use Rattle.aff_open.proofs.BelongsLaws.{place-within, string-within}
 use Rattle.aff_format.specs.Bytes.{part}
 use Rattle.aff_format.specs.Kind.{elementSize, isVoid}
 use Rattle.aff_format.specs.declared.entry.Entry.{Entry}
-use Rattle.aff_format.specs.declared.kind.Kind.{Kind}
-use Rattle.aff_open.specs.Belongs.{Belongs}
+use Rattle.aff_open.specs.Belongs.{ReaderBelongs}
 use Rattle.aff_open.specs.Reader.{noSpan}
-use Rattle.aff_open.specs.Recorded.{recordedEntry, recordedString}
 use Rattle.aff_open.specs.declared.reader.Span.{Span}
 use Rattle.aff_open.specs.declared.reader.Reader.{Reader}
-use Rattle.aff_read.specs.Recall.{symbolsEnd, nameAt, nameSpan, dataSpan, spanBytes}
+use Rattle.aff_read.specs.Recall.{symbolsEnd, nameAt, nameSpan, dataSpan}
 
 pub part-between : (image : List ℕ) (from size : ℕ) → part from (from + size - from) image ≡ part from size image
 part-between image from size = let e : from + size - from ≡ size = omega arith in rw e
@@ -35,7 +33,7 @@ module _ (image entries : List ℕ) (node : ℕ) (e : Entry) (is : e ≡ recorde
   data-full v size h = rw (ap (λ (x : Entry). isVoid (x .kind)) (sym is) ∙ v, h, is)
 
 -- For a record that belongs, both lie inside the image.
-module _ {image : List ℕ} {reader : Reader} {strings entries : List ℕ} (b : Belongs image reader strings entries) (node : ℕ) (there : node ≤ reader .nodes) where
+module _ {image : List ℕ} {reader : Reader} {strings entries : List ℕ} (b : ReaderBelongs image reader strings entries) (node : ℕ) (there : node ≤ reader .nodes) where
   -- The root is Void.
   not-root : isVoid (recordedEntry image entries node .kind) ≡ false → 0 < node
   unfolding recordedEntry

@@ -4,10 +4,10 @@ use mathlib.Core.List.{List, _∷_}
 use Prim.Native.Nat.{ℕ, _+_, _-_, _≤_, _<_}
 use native.Mathlib.Omega.{arith}
 use lib.ListN.{length, length-append}
-use Rattle.aff_open.specs.Belongs.{Belongs}
+use Rattle.aff_open.specs.Belongs.{ReaderBelongs}
 use Rattle.aff_open.specs.declared.reader.Reader.{Reader}
 use Rattle.aff_open.proofs.BelongsLaws.{parent-within}
-use Rattle.aff_read.specs.Calls.{capped}
+use Rattle.aff_read.specs.passes.Capped.{capped}
 use Rattle.aff_read.specs.Recall.{parentAt, nameAt, pathAt}
 use Rattle.aff_read.proofs.CappedLaws.{capped-within, capped-past, capped-over, capped-exact}
 use Rattle.aff_read.proofs.FrontLaws.{frontAt, front-root-at, path-other, path-front}
@@ -18,7 +18,7 @@ pub record Measured (image : List ℕ) (reader : Reader) (strings entries : List
   pub few : left ≤ limit
   pub counted : limit - left + length (pathAt image reader strings entries at) ≡ length (pathAt image reader strings entries node)
 
-module _ {image : List ℕ} {reader : Reader} {strings entries : List ℕ} (b : Belongs image reader strings entries) where
+module _ {image : List ℕ} {reader : Reader} {strings entries : List ℕ} (b : ReaderBelongs image reader strings entries) where
   path-length : (at p : ℕ) → at ≤ reader .nodes → p ≡ parentAt image entries at
       → length (pathAt image reader strings entries at) ≡ length (frontAt image reader strings entries p) + (length (nameAt image reader strings entries at) + 1)
   path-length at p there up =

@@ -1,5 +1,5 @@
--- Document 01, 'Reading keys': after an accepted opening a path names one node at most. Names are subkeys, which hold no slash, so a path tells its
--- last name and its parent's path; no two siblings have one name. So a lookup answers the only node with its path, and each node is found by its
+-- Document 01, 'Reading keys': after an accepted opening a path names one node at most. Names are subkeys, which hold no slash, so a path determines its
+-- last name and its parent's path; no two siblings have one name. So a lookup returns the only node with its path, and each node is found by its
 -- path. Assumes nothing.
 use mathlib.Core.Path.{_≡_, refl, sym, ap, _∙_}
 use mathlib.Core.Bool.{true}
@@ -16,20 +16,19 @@ use Rattle.aff_format.specs.declared.edition.Edition.{Edition}
 use Rattle.aff_format.specs.declared.entry.Entry.{Entry}
 use Rattle.aff_format.proofs.EditionLaws.{edition-of-number}
 use Rattle.aff_format.proofs.TreeLaws.{path-formed, path-unique}
-use Rattle.aff_open.specs.Belongs.{Belongs}
-use Rattle.aff_open.specs.Opening.{opened, stringsAfter, entriesAfter, stringIn, entryIn}
-use Rattle.aff_open.specs.Sections.{orTwo, editionIn}
-use Rattle.aff_open.specs.Tables.{stringsIn, nodesIn}
+use Rattle.aff_open.specs.Belongs.{ReaderBelongs}
+use Rattle.aff_open.specs.Opening.{openAnswer, stringsAfter, entriesAfter, stringIn, entryIn}
+use Rattle.aff_open.specs.Sections.{orTwo, editionIn, stringsIn, nodesIn}
 use Rattle.aff_open.specs.declared.reader.Reader.{Reader}
 use Rattle.aff_open.proofs.BelongsLaws.{belongs-record}
 use Rattle.aff_open.proofs.ObeysLaws.{NodesHold, accepted-nodes}
 use Rattle.aff_open.proofs.OpenedLaws.{OpenedShape, opened-shape, opened-belongs}
-use Rattle.aff_read.specs.Calls.{editionBy, lookupAnswer}
+use Rattle.aff_read.specs.Paths.{editionBy, lookupAnswer}
 use Rattle.aff_read.specs.Lookup.{OnlyWith}
 use Rattle.aff_read.specs.Recall.{parentAt, nameAt, pathAt}
 use Rattle.aff_read.proofs.LookupLaws.{lookup-accepts}
 
-module _ (image form strings entries : List ℕ) {r : Reader} (h : opened image form (length strings) (length entries) ≡ accepted r) where
+module _ (image form strings entries : List ℕ) {r : Reader} (h : openAnswer image form (length strings) (length entries) ≡ accepted r) where
   abbrev e : Edition
   e = editionIn image
 
@@ -42,7 +41,7 @@ module _ (image form strings entries : List ℕ) {r : Reader} (h : opened image 
   shape : OpenedShape image form strings entries r
   shape = opened-shape image form strings entries h
 
-  shown : Belongs image r ss es
+  shown : ReaderBelongs image r ss es
   shown = belongs-record (opened-belongs image form strings entries h)
 
   -- The rules of the nodes, which the record counts.
@@ -74,7 +73,7 @@ module _ (image form strings entries : List ℕ) {r : Reader} (h : opened image 
   pub unique-path : (i j : ℕ) → i ≤ r .nodes → j ≤ r .nodes → pathAt image r ss es i ≡ pathAt image r ss es j → i ≡ j
   unique-path = path-unique e (parentAt image es) (nameAt image r ss es) (r .nodes) (shown .parent-exists) (shown .climb-ends) subkey siblings
 
-  -- A lookup answers n exactly where n is the one node with the path.
+  -- A lookup returns n exactly where n is the one node with the path.
   pub lookup-only : (path : List ℕ) → isPath (editionBy r) path ≡ true → (n : ℕ)
       → (lookupAnswer image r ss es path ≡ accepted n) ↔ OnlyWith image r ss es path n
   lookup-only path p n =
@@ -93,7 +92,7 @@ module _ (image form strings entries : List ℕ) {r : Reader} (h : opened image 
   edition-is : editionBy r ≡ e
   edition-is = ap editionBy (shape .reader) ∙ ap orTwo (edition-of-number e)
 
-  -- Each node's path is a path, and its lookup answers the node.
+  -- Each node's path is a path, and its lookup returns the node.
   pub lookup-path : (n : ℕ) → n ≤ r .nodes → lookupAnswer image r ss es (pathAt image r ss es n) ≡ accepted n
   lookup-path n l =
       let p = ap (λ (d : Edition). isPath d (pathAt image r ss es n)) edition-is

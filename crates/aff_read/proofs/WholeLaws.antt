@@ -11,9 +11,9 @@ use lib.Dec.{eqb}
 use lib.ListN.{length, length-append}
 use Rattle.aff_format.specs.Tree.{reachesBy}
 use Rattle.aff_format.proofs.ClimbLaws.{absurd-bool, reaches-up}
-use Rattle.aff_open.specs.Belongs.{Belongs}
+use Rattle.aff_open.specs.Belongs.{ReaderBelongs}
 use Rattle.aff_open.specs.declared.reader.Reader.{Reader}
-use Rattle.aff_read.specs.Calls.{childOf, childrenTo, preorder}
+use Rattle.aff_read.specs.ListingOrder.{childOf, childrenTo, preorder}
 use Rattle.aff_read.specs.Once.{occurrences}
 use Rattle.aff_read.specs.Recall.{parentAt}
 use Rattle.aff_read.proofs.OnceLaws.{total, total-length, step, root-count, only-nodes, linked, reached}
@@ -78,7 +78,7 @@ total-same (suc m) l r h = omega (arith, total-same m l r (λ k g. h k (omega ar
 abbrev pub listed : List ℕ → Reader → List ℕ → ℕ → List ℕ
 listed image reader entries n = preorder (parentAt image entries) (reader .nodes + 1) (reader .nodes + 1) n
 
-module _ {image : List ℕ} {reader : Reader} {strings entries : List ℕ} (b : Belongs image reader strings entries) where
+module _ {image : List ℕ} {reader : Reader} {strings entries : List ℕ} (b : ReaderBelongs image reader strings entries) where
   settled : (n : ℕ) → n ≤ reader .nodes
       → preorder (parentAt image entries) (reader .nodes + 1) (suc (reader .nodes)) n ≡ preorder (parentAt image entries) (reader .nodes + 1) (suc (suc (reader .nodes))) n
   settled n h =

@@ -1,4 +1,4 @@
--- Runs written one behind the other. Assumes nothing.
+-- Runs written one after the other. Assumes nothing.
 use mathlib.Core.Path.{_≡_, refl, sym, ap, _∙_}
 use mathlib.Core.Bool.{Bool, true, false}
 use mathlib.Core.List.{List, [], _∷_, _++_}
@@ -11,10 +11,10 @@ use lib.Seq.{take-at}
 use borrow.Author.Tests.{le-ltb, ltb-true, ltb-false}
 use Rattle.aff_format.specs.Answer.{accepted, refused, check, refusal, unless}
 use Rattle.aff_format.specs.Bytes.{spliced}
-use Rattle.aff_format.specs.declared.refusal.Told.{Told}
+use Rattle.aff_format.specs.declared.refusal.RefusalCode.{RefusalCode}
 use Rattle.aff_format.proofs.AnswerLaws.{not-both, passed, passed-value}
 use Rattle.aff_format.proofs.BytesLaws.{length-spliced, spliced-nil, spliced-next, set-spliced}
-use Rattle.aff_read.specs.Written.{Written, textAnswer}
+use Rattle.aff_read.specs.passes.Written.{Written, textAnswer}
 
 pub written-none : (at : ℕ) (x o : List ℕ) → x ≡ [] → Written at x o o at
 written-none at x o e = rw e (record { ends = sym (add-zero at); area = sym (spliced-nil at o) })
@@ -30,13 +30,19 @@ module _ {at mid : ℕ} {x o p : List ℕ} (v : Written at x o p mid) (fits : at
   pub written-length : length p ≡ length o
   written-length = rw (v .area) (length-spliced at x o fits)
 
-  -- One run and another behind it.
+  -- One run and another after it.
   pub written-more : {end : ℕ} {y q : List ℕ} → Written mid y p q end → Written at (x ++ y) o q end
   written-more {end} {y} {q} w =
       record {
         ends = omega (arith, v .ends, w .ends, length-append x y);
         area = spliced-next at mid x y o p q (sym (v .ends)) (omega (arith, v .ends)) (v .area) (w .area);
       }
+
+-- One number stored, and a run after it.
+pub written-cons : (at v : ℕ) (x o : List ℕ) {end : ℕ} {q : List ℕ} → at + length (v ∷ x) ≤ length o → Written (at + 1) x (set o at v) q end → Written at (v ∷ x) o q end
+written-cons at v x o h w =
+    let fits : at + length {A = ℕ} (v ∷ []) ≤ length o = omega arith in
+    written-more (written-one at v o (omega arith)) fits w
 
 -- A text of two parts, for an output that is long enough.
 pub record Parted (x y whole o : List ℕ) : Type 0 where
@@ -71,15 +77,15 @@ pub text-written : {end : ℕ} {text o p : List ℕ} → length text ≤ length 
     → (accepted end ≡ textAnswer (length o) text) × (p ≡ text ++ drop (length text) o)
 text-written {end} {text} {o} h w = let f = written-front w in (rw (le-ltb (length o) (length text) h) (ap accepted (f .0)), f .1)
 
--- What the answer of a text says of the room.
-pub text-accepted : (room : ℕ) (text : List ℕ) {n : ℕ} → textAnswer room text ≡ accepted n → (n ≡ length text) × (length text ≤ room)
-text-accepted room text h =
-    let checks = check (ltb room (length text)) (refusal 21) ∷ [] in
-    (sym (passed-value checks (length text) h), ltb-false room (length text) (passed checks (length text) h .0))
+-- What the answer of a text says of the buffer.
+pub text-accepted : (size : ℕ) (text : List ℕ) {n : ℕ} → textAnswer size text ≡ accepted n → (n ≡ length text) × (length text ≤ size)
+text-accepted size text h =
+    let checks = check (ltb size (length text)) (refusal 21) ∷ [] in
+    (sym (passed-value checks (length text) h), ltb-false size (length text) (passed checks (length text) h .0))
 
-pub text-refused : (room : ℕ) (text : List ℕ) {t : Told} → textAnswer room text ≡ refused t → (t ≡ refusal 21) × (room < length text)
-text-refused room text h = go (ltb room (length text)) refl h
+pub text-refused : (size : ℕ) (text : List ℕ) {t : RefusalCode} → textAnswer size text ≡ refused t → (t ≡ refusal 21) × (size < length text)
+text-refused size text h = go (ltb size (length text)) refl h
   where
-    go : (b : Bool) → ltb room (length text) ≡ b → {t : Told} → unless b (refusal 21) (accepted (length text)) ≡ refused t → (t ≡ refusal 21) × (room < length text)
-    go true l e = (cc, ltb-true room (length text) l)
+    go : (b : Bool) → ltb size (length text) ≡ b → {t : RefusalCode} → unless b (refusal 21) (accepted (length text)) ≡ refused t → (t ≡ refusal 21) × (size < length text)
+    go true l e = (cc, ltb-true size (length text) l)
     go false l e = not-both (sym e)

@@ -1,9 +1,9 @@
 -- Answers of an opened image: what the promises of this crate cite.
 pub mod Recall
 pub mod Answers
-pub mod Calls
+pub mod Paths
+pub mod ListingOrder
 pub mod Lookup
-pub mod Fit
-pub mod Climb
-pub mod Written
 pub mod Once
+pub mod passes
+pub mod Shows

@@ -9,7 +9,7 @@ use Rattle.aff_format.specs.Kind.{elementSize, isVoid}
 use Rattle.aff_format.specs.Tree.{pathBy}
 use Rattle.aff_format.specs.declared.kind.Kind.{Kind}
 use Rattle.aff_open.specs.Reader.{noSpan}
-use Rattle.aff_open.specs.Recorded.{recordedEntry, recordedString}
+use Rattle.aff_format.specs.Recorded.{recordedEntry, recordedString}
 use Rattle.aff_open.specs.declared.reader.Span.{Span}
 use Rattle.aff_open.specs.declared.reader.Reader.{Reader}
 

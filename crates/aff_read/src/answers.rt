@@ -1,4 +1,4 @@
-// What the reading calls hand back.
+// What the reading calls return.
 use aff_format::Kind;
 use aff_format::Refusal;
 use aff_open::Span;

@@ -7,24 +7,23 @@ use aff_format::NumberAnswer;
 use aff_format::Refusal;
 use aff_format::Verdict;
 use aff_format::element;
+use aff_format::recorded;
 use aff_open::Reader;
 use aff_open::Span;
 use aff_open::belongs;
-use aff_open::recorded;
 ghost use mathlib.Core.Path.{_≡_};
 ghost use Prim.Native.Nat.{_+_, _≤_};
 ghost use lib.ListN.{length};
 ghost use Rattle.aff_format.specs.Answer.{firstWrong};
-ghost use Rattle.aff_format.specs.Element.{elementTold, decoded};
-ghost use Rattle.aff_format.specs.Verdict.{verdictTold};
-ghost use Rattle.aff_open.specs.Belongs.{Belongs};
-ghost use Rattle.aff_format.specs.Verdict.{numberTold};
-ghost use Rattle.aff_read.specs.Answers.{kindTold, partTold, partOf, nodeChecks, nameAnswer, kindAnswer, countAnswer, viewAnswer, elementAnswer};
-ghost use Rattle.aff_read.specs.Recall.{kindAt, countAt, nameSpan, dataSpan, spanBytes, bytesAt};
+ghost use Rattle.aff_format.specs.Element.{answerOfElement, decoded};
+ghost use Rattle.aff_format.specs.Verdict.{answerOfVerdict, answerOfNumber};
+ghost use Rattle.aff_open.specs.Belongs.{ReaderBelongs};
+ghost use Rattle.aff_read.specs.Answers.{answerOfKind, answerOfPart, partOf, existsChecks, nameAnswer, kindAnswer, countAnswer, viewAnswer, elementAnswer};
+ghost use Rattle.aff_read.specs.Recall.{kindAt, nameSpan, dataSpan, spanBytes, bytesAt};
 
 // 24, 15: what every call on a node judges first.
 pub fn judge(image: &[u8], reader: Reader, strings: &[u32], entries: &[u32], node: usize) -> Verdict
-    ensures { λ r. ⌜ verdictTold r ≡ firstWrong (nodeChecks (now (image .entry)) reader (now (strings .entry)) (now (entries .entry)) node) tt ⌝ }
+    ensures { λ r. ⌜ answerOfVerdict r ≡ firstWrong (existsChecks (now (image .entry)) reader (now (strings .entry)) (now (entries .entry)) node) tt ⌝ }
 {
     if !belongs::belongs(image, reader, strings, entries) {
         return Verdict::Refused(Refusal::WrongRecord);
@@ -43,7 +42,7 @@ pub fn name_span(
     entries: &[u32],
     node: usize,
 ) -> Span
-    requires { ⌜ Belongs (now image) reader (now strings) (now entries) × (node ≤ reader .nodes) ⌝ }
+    requires { ⌜ ReaderBelongs (now image) reader (now strings) (now entries) × (node ≤ reader .nodes) ⌝ }
     ensures { λ r. ⌜ r ≡ nameSpan (now (image .entry)) reader (now (strings .entry)) (now (entries .entry)) node ⌝ }
 {
     if node == 0 {
@@ -67,7 +66,7 @@ pub fn data_span(
     entries: &[u32],
     node: usize,
 ) -> Span
-    requires { ⌜ Belongs (now image) reader (now strings) (now entries) × (node ≤ reader .nodes) ⌝ }
+    requires { ⌜ ReaderBelongs (now image) reader (now strings) (now entries) × (node ≤ reader .nodes) ⌝ }
     ensures { λ r. ⌜ r ≡ dataSpan (now (image .entry)) (now (entries .entry)) node ⌝ }
 {
     let entry = recorded::recorded_entry(image, entries, node);
@@ -89,7 +88,7 @@ pub fn name_bounds(
     entries: &[u32],
     node: usize,
 ) -> PartAnswer
-    ensures { λ r. ⌜ partTold r ≡ nameAnswer (now (image .entry)) reader (now (strings .entry)) (now (entries .entry)) node ⌝ }
+    ensures { λ r. ⌜ answerOfPart r ≡ nameAnswer (now (image .entry)) reader (now (strings .entry)) (now (entries .entry)) node ⌝ }
 {
     match judge(image, reader, strings, entries, node) {
         Verdict::Refused(refusal) => PartAnswer::Refused(refusal),
@@ -105,7 +104,7 @@ pub fn kind(
     entries: &[u32],
     node: usize,
 ) -> KindAnswer
-    ensures { λ r. ⌜ kindTold r ≡ kindAnswer (now (image .entry)) reader (now (strings .entry)) (now (entries .entry)) node ⌝ }
+    ensures { λ r. ⌜ answerOfKind r ≡ kindAnswer (now (image .entry)) reader (now (strings .entry)) (now (entries .entry)) node ⌝ }
 {
     match judge(image, reader, strings, entries, node) {
         Verdict::Refused(refusal) => KindAnswer::Refused(refusal),
@@ -125,7 +124,7 @@ pub fn count(
     entries: &[u32],
     node: usize,
 ) -> NumberAnswer
-    ensures { λ r. ⌜ numberTold r ≡ countAnswer (now (image .entry)) reader (now (strings .entry)) (now (entries .entry)) node ⌝ }
+    ensures { λ r. ⌜ answerOfNumber r ≡ countAnswer (now (image .entry)) reader (now (strings .entry)) (now (entries .entry)) node ⌝ }
 {
     match judge(image, reader, strings, entries, node) {
         Verdict::Refused(refusal) => NumberAnswer::Refused(refusal),
@@ -144,7 +143,7 @@ pub fn view_bounds(
     entries: &[u32],
     node: usize,
 ) -> PartAnswer
-    ensures { λ r. ⌜ partTold r ≡ viewAnswer (now (image .entry)) reader (now (strings .entry)) (now (entries .entry)) node ⌝ }
+    ensures { λ r. ⌜ answerOfPart r ≡ viewAnswer (now (image .entry)) reader (now (strings .entry)) (now (entries .entry)) node ⌝ }
 {
     match judge(image, reader, strings, entries, node) {
         Verdict::Refused(refusal) => PartAnswer::Refused(refusal),
@@ -203,8 +202,8 @@ pub fn element_of(
     node: usize,
     index: usize,
 ) -> ElementAnswer
-    requires { ⌜ Belongs (now image) reader (now strings) (now entries) × (node ≤ reader .nodes) ⌝ }
-    ensures { λ r. ⌜ elementTold r ≡ decoded (kindAt (now (image .entry)) (now (entries .entry)) node) (bytesAt (now (image .entry)) (now (entries .entry)) node) index ⌝ }
+    requires { ⌜ ReaderBelongs (now image) reader (now strings) (now entries) × (node ≤ reader .nodes) ⌝ }
+    ensures { λ r. ⌜ answerOfElement r ≡ decoded (kindAt (now (image .entry)) (now (entries .entry)) node) (bytesAt (now (image .entry)) (now (entries .entry)) node) index ⌝ }
 {
     let entry = recorded::recorded_entry(image, entries, node);
     let kind = entry.kind;
@@ -221,7 +220,7 @@ pub fn element(
     node: usize,
     index: usize,
 ) -> ElementAnswer
-    ensures { λ r. ⌜ elementTold r ≡ elementAnswer (now (image .entry)) reader (now (strings .entry)) (now (entries .entry)) node index ⌝ }
+    ensures { λ r. ⌜ answerOfElement r ≡ elementAnswer (now (image .entry)) reader (now (strings .entry)) (now (entries .entry)) node index ⌝ }
 {
     match judge(image, reader, strings, entries, node) {
         Verdict::Refused(refusal) => ElementAnswer::Refused(refusal),

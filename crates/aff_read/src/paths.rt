@@ -8,9 +8,9 @@ use aff_format::NumberAnswer;
 use aff_format::Refusal;
 use aff_format::Verdict;
 use aff_format::bytes;
+use aff_format::recorded;
 use aff_open::Reader;
 use aff_open::belongs;
-use aff_open::recorded;
 ghost use mathlib.Core.Path.{_≡_};
 ghost use mathlib.Core.List.{[], _∷_};
 ghost use Prim.Native.Nat.{_+_, _-_, _^_, _≤_, _<_};
@@ -19,16 +19,16 @@ ghost use Rattle.aff_format.specs.Bytes.{sameBytes};
 ghost use Rattle.aff_format.specs.Edition.{editionOf};
 ghost use Rattle.aff_format.specs.Path.{isPath};
 ghost use Rattle.aff_format.specs.Limits.{nodeLimit};
-ghost use Rattle.aff_open.specs.Belongs.{Belongs};
-ghost use Rattle.aff_open.specs.Recorded.{recordedEntry};
+ghost use Rattle.aff_open.specs.Belongs.{ReaderBelongs};
+ghost use Rattle.aff_format.specs.Recorded.{recordedEntry, nameFrom};
 ghost use Rattle.aff_open.specs.Sections.{orTwo};
-ghost use Rattle.aff_open.specs.Tables.{nameFrom};
-ghost use Rattle.aff_format.specs.Verdict.{numberTold};
-ghost use Rattle.aff_read.specs.Calls.{capped, pathAnswer, frontWritten, found, lookupAnswer};
-ghost use Rattle.aff_read.specs.Climb.{tableParent, tableName, tableFront, TableInside, NotedMore, ClimbNoted};
-ghost use Rattle.aff_read.specs.Fit.{fitFrom, fitAt, Settled, Climbable, Chain};
+ghost use Rattle.aff_format.specs.Verdict.{answerOfNumber};
+ghost use Rattle.aff_read.specs.Paths.{pathAnswer, frontWritten, found, lookupAnswer};
+ghost use Rattle.aff_read.specs.passes.Capped.{capped};
+ghost use Rattle.aff_read.specs.passes.Climb.{tableParent, tableName, tableFront, TableInside, NotedMore, ClimbNoted};
+ghost use Rattle.aff_read.specs.passes.Fit.{fitFrom, fitAt, FitsSettled, Climbable, Chain};
 ghost use Rattle.aff_read.specs.Recall.{parentAt, nameAt, nameSpan, pathAt};
-ghost use Rattle.aff_read.specs.Written.{Written, textAnswer};
+ghost use Rattle.aff_read.specs.passes.Written.{Written, textAnswer};
 
 // The length of the string that begins at a place, counted no further than one past a limit. At most that many bytes are read.
 fn name_length(image: &[u8], from: usize, end: usize, limit: usize) -> usize
@@ -69,7 +69,7 @@ fn own_length(
     node: usize,
     limit: usize,
 ) -> usize
-    requires { ⌜ Belongs (now image) reader (now strings) (now entries) × (node ≤ reader .nodes) × (limit < 2 ^ 63) ⌝ }
+    requires { ⌜ ReaderBelongs (now image) reader (now strings) (now entries) × (node ≤ reader .nodes) × (limit < 2 ^ 63) ⌝ }
     ensures { λ r. ⌜ r ≡ capped limit (length (nameAt (now (image .entry)) reader (now (strings .entry)) (now (entries .entry)) node) + 1) ⌝ }
 {
     if node == 0 {
@@ -93,7 +93,7 @@ pub fn path_length(
     node: usize,
     limit: usize,
 ) -> usize
-    requires { ⌜ Belongs (now image) reader (now strings) (now entries) × (node ≤ reader .nodes) × (limit < 2 ^ 63) ⌝ }
+    requires { ⌜ ReaderBelongs (now image) reader (now strings) (now entries) × (node ≤ reader .nodes) × (limit < 2 ^ 63) ⌝ }
     ensures { λ r. ⌜ r ≡ capped limit (length (pathAt (now (image .entry)) reader (now (strings .entry)) (now (entries .entry)) node)) ⌝ }
 {
     let mut left = limit;
@@ -111,7 +111,7 @@ pub fn path_length(
     }
 }
 
-// Copies a text into an output from a place on, and answers where it ends. One pass over the text.
+// Copies a text into an output from a place on, and returns where it ends. One pass over the text.
 pub fn put(text: &[u8], at: usize, out: &mut [u8]) -> usize
     requires { ⌜ at + length (now text) ≤ length (now out) ⌝ }
     ensures { λ r. ⌜ Written at (now (text .entry)) (now (out .entry)) (now (out .exit)) r ⌝ }
@@ -130,7 +130,7 @@ fn note(
     node: usize,
     table: &mut [u32; 6147],
 ) -> usize
-    requires { ⌜ Belongs (now image) reader (now strings) (now entries) × (0 < node) × (node ≤ reader .nodes) ⌝ }
+    requires { ⌜ ReaderBelongs (now image) reader (now strings) (now entries) × (0 < node) × (node ≤ reader .nodes) ⌝ }
     requires { ⌜ TableInside (now image) (now table) ⌝ }
     ensures parent { λ r. ⌜ r ≡ parentAt (now (image .entry)) (now (entries .entry)) node ⌝ }
     ensures table { λ _. ⌜ NotedMore (now (image .entry)) reader (now (strings .entry)) (now (entries .entry)) (now (table .entry)) (now (table .exit)) node ⌝ }
@@ -156,7 +156,7 @@ fn note_climb(
     node: usize,
     table: &mut [u32; 6147],
 )
-    requires { ⌜ Belongs (now image) reader (now strings) (now entries) × (node ≤ reader .nodes) ⌝ }
+    requires { ⌜ ReaderBelongs (now image) reader (now strings) (now entries) × (node ≤ reader .nodes) ⌝ }
     requires { ⌜ TableInside (now image) (now table) ⌝ }
     ensures { λ _. ⌜ ClimbNoted (now (image .entry)) reader (now (strings .entry)) (now (entries .entry)) (now (table .exit)) node ⌝ }
 {
@@ -215,13 +215,13 @@ pub fn path_of(
     node: usize,
     out: &mut [u8],
 ) -> NumberAnswer
-    requires { ⌜ Belongs (now image) reader (now strings) (now entries) × (node ≤ reader .nodes) ⌝ }
-    ensures answer { λ r. ⌜ numberTold r ≡ textAnswer (length (now (out .entry))) (pathAt (now (image .entry)) reader (now (strings .entry)) (now (entries .entry)) node) ⌝ }
-    ensures output { λ r. ⌜ now (out .exit) ≡ frontWritten (numberTold r) (pathAt (now (image .entry)) reader (now (strings .entry)) (now (entries .entry)) node) (now (out .entry)) ⌝ }
+    requires { ⌜ ReaderBelongs (now image) reader (now strings) (now entries) × (node ≤ reader .nodes) ⌝ }
+    ensures answer { λ r. ⌜ answerOfNumber r ≡ textAnswer (length (now (out .entry))) (pathAt (now (image .entry)) reader (now (strings .entry)) (now (entries .entry)) node) ⌝ }
+    ensures output { λ r. ⌜ now (out .exit) ≡ frontWritten (answerOfNumber r) (pathAt (now (image .entry)) reader (now (strings .entry)) (now (entries .entry)) node) (now (out .entry)) ⌝ }
 {
     let limit = out.len();
     if limit < path_length(image, reader, strings, entries, node, limit) {
-        return NumberAnswer::Refused(Refusal::NoRoom);
+        return NumberAnswer::Refused(Refusal::BufferTooSmall);
     }
     if node == 0 {
         return NumberAnswer::Value(put(b"/", 0, out));
@@ -231,7 +231,7 @@ pub fn path_of(
     NumberAnswer::Value(write_front(image, &table, node, reader.nodes, out))
 }
 
-// Writes the path of a node, root first, at the front of an output; the rest of it stays: 24, 15, 21. It answers the path's length.
+// Writes the path of a node, root first, at the front of an output; the rest of it stays: 24, 15, 21. Returns the path's length.
 pub fn path(
     image: &[u8],
     reader: Reader,
@@ -240,8 +240,8 @@ pub fn path(
     node: usize,
     out: &mut [u8],
 ) -> NumberAnswer
-    ensures answer { λ r. ⌜ numberTold r ≡ pathAnswer (now (image .entry)) reader (now (strings .entry)) (now (entries .entry)) node (length (now (out .entry))) ⌝ }
-    ensures output { λ r. ⌜ now (out .exit) ≡ frontWritten (numberTold r) (pathAt (now (image .entry)) reader (now (strings .entry)) (now (entries .entry)) node) (now (out .entry)) ⌝ }
+    ensures answer { λ r. ⌜ answerOfNumber r ≡ pathAnswer (now (image .entry)) reader (now (strings .entry)) (now (entries .entry)) node (length (now (out .entry))) ⌝ }
+    ensures output { λ r. ⌜ now (out .exit) ≡ frontWritten (answerOfNumber r) (pathAt (now (image .entry)) reader (now (strings .entry)) (now (entries .entry)) node) (now (out .entry)) ⌝ }
 {
     match node::judge(image, reader, strings, entries, node) {
         Verdict::Refused(refusal) => NumberAnswer::Refused(refusal),
@@ -296,7 +296,7 @@ fn fit_below(
     string: usize,
     above: usize,
 ) -> usize
-    requires { ⌜ Belongs (now image) reader (now strings) (now entries) × (node ≤ reader .nodes) × (0 < node) ⌝ }
+    requires { ⌜ ReaderBelongs (now image) reader (now strings) (now entries) × (node ≤ reader .nodes) × (0 < node) ⌝ }
     requires { ⌜ string ≡ recordedEntry (now image) (now entries) node .string ⌝ }
     requires { ⌜ above ≡ fitAt (now image) reader (now strings) (now entries) (now path) (parentAt (now image) (now entries) node) ⌝ }
     ensures { λ r. ⌜ r ≡ fitAt (now (image .entry)) reader (now (strings .entry)) (now (entries .entry)) (now (path .entry)) node ⌝ }
@@ -358,11 +358,11 @@ fn settle_chain(
     count: usize,
     fits: &mut [usize; 2049],
 ) -> usize
-    requires { ⌜ Belongs (now image) reader (now strings) (now entries) ⌝ }
-    requires { ⌜ Settled (now image) reader (now strings) (now entries) (now path) (now fits) ⌝ }
+    requires { ⌜ ReaderBelongs (now image) reader (now strings) (now entries) ⌝ }
+    requires { ⌜ FitsSettled (now image) reader (now strings) (now entries) (now path) (now fits) ⌝ }
     requires { ⌜ Chain (now image) (now entries) (reader .nodes) (now chain) (now names) count ⌝ }
     requires { ⌜ (getD (now fits) (getD (now chain) count 0) 0 ≡ 0 → ⊥) ⌝ }
-    ensures settled { λ _. ⌜ Settled (now (image .entry)) reader (now (strings .entry)) (now (entries .entry)) (now (path .entry)) (now (fits .exit)) ⌝ }
+    ensures settled { λ _. ⌜ FitsSettled (now (image .entry)) reader (now (strings .entry)) (now (entries .entry)) (now (path .entry)) (now (fits .exit)) ⌝ }
     ensures fit { λ r. ⌜ r ≡ fitAt (now (image .entry)) reader (now (strings .entry)) (now (entries .entry)) (now (path .entry)) (getD (now (chain .entry)) 0 0) ⌝ }
 {
     let top = recorded::place(chain, count);
@@ -390,10 +390,10 @@ fn settle(
     names: &mut [u32],
     fits: &mut [usize; 2049],
 ) -> usize
-    requires { ⌜ Belongs (now image) reader (now strings) (now entries) × (0 < node) × (node ≤ reader .nodes) ⌝ }
-    requires { ⌜ Settled (now image) reader (now strings) (now entries) (now path) (now fits) ⌝ }
+    requires { ⌜ ReaderBelongs (now image) reader (now strings) (now entries) × (0 < node) × (node ≤ reader .nodes) ⌝ }
+    requires { ⌜ FitsSettled (now image) reader (now strings) (now entries) (now path) (now fits) ⌝ }
     requires { ⌜ (length (now chain) ≡ 2049) × (length (now names) ≡ 2049) ⌝ }
-    ensures settled { λ _. ⌜ Settled (now (image .entry)) reader (now (strings .entry)) (now (entries .entry)) (now (path .entry)) (now (fits .exit)) ⌝ }
+    ensures settled { λ _. ⌜ FitsSettled (now (image .entry)) reader (now (strings .entry)) (now (entries .entry)) (now (path .entry)) (now (fits .exit)) ⌝ }
     ensures fit { λ r. ⌜ r ≡ fitAt (now (image .entry)) reader (now (strings .entry)) (now (entries .entry)) (now (path .entry)) node ⌝ }
 {
     let count = climb(image, entries, reader.nodes, node, fits, chain, names);
@@ -422,10 +422,10 @@ fn has_path(
     names: &mut [u32],
     fits: &mut [usize; 2049],
 ) -> bool
-    requires { ⌜ Belongs (now image) reader (now strings) (now entries) × (node ≤ reader .nodes) ⌝ }
-    requires { ⌜ Settled (now image) reader (now strings) (now entries) (now path) (now fits) ⌝ }
+    requires { ⌜ ReaderBelongs (now image) reader (now strings) (now entries) × (node ≤ reader .nodes) ⌝ }
+    requires { ⌜ FitsSettled (now image) reader (now strings) (now entries) (now path) (now fits) ⌝ }
     requires { ⌜ (length (now chain) ≡ 2049) × (length (now names) ≡ 2049) ⌝ }
-    ensures settled { λ r. ⌜ Settled (now (image .entry)) reader (now (strings .entry)) (now (entries .entry)) (now (path .entry)) (now (fits .exit)) ⌝ }
+    ensures settled { λ r. ⌜ FitsSettled (now (image .entry)) reader (now (strings .entry)) (now (entries .entry)) (now (path .entry)) (now (fits .exit)) ⌝ }
     ensures answer { λ r. ⌜ r ≡ sameBytes (pathAt (now (image .entry)) reader (now (strings .entry)) (now (entries .entry)) node) (now (path .entry)) ⌝ }
 {
     if node == 0 {
@@ -455,7 +455,7 @@ pub fn lowest_match(
     entries: &[u32],
     path: &[u8],
 ) -> Lowest
-    requires { ⌜ Belongs (now image) reader (now strings) (now entries) ⌝ }
+    requires { ⌜ ReaderBelongs (now image) reader (now strings) (now entries) ⌝ }
     ensures { λ r. ⌜ r ≡ found (now (image .entry)) reader (now (strings .entry)) (now (entries .entry)) (now (path .entry)) ⌝ }
 {
     let mut chain = [0u32; 2049];
@@ -509,7 +509,7 @@ pub fn lookup(
     entries: &[u32],
     path: &[u8],
 ) -> NumberAnswer
-    ensures { λ r. ⌜ numberTold r ≡ lookupAnswer (now (image .entry)) reader (now (strings .entry)) (now (entries .entry)) (now (path .entry)) ⌝ }
+    ensures { λ r. ⌜ answerOfNumber r ≡ lookupAnswer (now (image .entry)) reader (now (strings .entry)) (now (entries .entry)) (now (path .entry)) ⌝ }
 {
     if !belongs::belongs(image, reader, strings, entries) {
         return NumberAnswer::Refused(Refusal::WrongRecord);

@@ -1,16 +1,16 @@
 -- Laws of runs, from which the demands follow.
 pub mod SlotsLaws
-pub mod GoodLaws
+pub mod InvariantLaws
 pub mod NamesLaws
-pub mod MakeGoodLaws
-pub mod PutGoodLaws
+pub mod MakeInvariantLaws
+pub mod PutInvariantLaws
 pub mod ClosedLaws
 pub mod ShownLaws
-pub mod TurnLaws
+pub mod StepLaws
 pub mod RunLaws
 pub mod PlaceLaws
 pub mod CutLaws
-pub mod BeginGoodLaws
+pub mod BeginInvariantLaws
 pub mod BeginRefusedLaws
-pub mod ExactLaws
-pub mod HeldLaws
+pub mod AnswersFromTreeLaws
+pub mod AreasHoldLaws

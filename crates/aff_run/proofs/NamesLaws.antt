@@ -2,11 +2,10 @@
 use mathlib.Core.Path.{_≡_, refl, sym, ap, _∙_}
 use mathlib.Core.Bool.{Bool, true, false, cond}
 use mathlib.Core.List.{List, [], _∷_, _++_, append-assoc}
-use mathlib.Core.Logic.{_⊎_, inl, inr, ⊎-elim}
-use Prim.Native.Nat.{ℕ, zero, suc, _+_, _≤_, _<_}
+use mathlib.Core.Logic.{⊎-elim}
+use Prim.Native.Nat.{ℕ, _+_, _≤_, _<_}
 use native.Mathlib.Nat.{eq-or-lt-of-le}
 use native.Mathlib.Omega.{arith}
-use lib.Dec.{ltb}
 use lib.ListN.{length, getD, drop, length-append, List·getD-append}
 use lib.Seq.{getD-append-seam, take-at, drop-append-add}
 use borrow.Author.Tests.{ltb-true, ltb-false}
@@ -18,12 +17,12 @@ use Rattle.aff_format.specs.Tree.{Node, Tree}
 use Rattle.aff_format.specs.declared.edition.Edition.{Edition}
 use Rattle.aff_format.proofs.PathLaws.{subkeys-more}
 use Rattle.aff_format.proofs.StringsLaws.{textOf-snoc, length-textOf-snoc, indexIn-within, indexIn-found, isIn-indexIn, isIn-none}
-use Rattle.aff_run.specs.Described.{addName, namesFrom, namesOf}
+use Rattle.aff_run.specs.TreeSizes.{addName, namesFrom, namesOf}
 
--- A run stored behind a front.
-name-behind : (p y rest : List ℕ) → spliced (length p) y (p ++ rest) ≡ (p ++ y) ++ drop (length y) rest
+-- A run stored after a front.
+name-after : (p y rest : List ℕ) → spliced (length p) y (p ++ rest) ≡ (p ++ y) ++ drop (length y) rest
 unfolding spliced
-name-behind p y rest = rw (take-at p rest (length p), drop-append-add, append-assoc)
+name-after p y rest = rw (take-at p rest (length p), drop-append-add, append-assoc)
 
 module _ (names : List (List ℕ)) (x : List ℕ) where
   -- The names with x, where it is one of them or not.
@@ -74,7 +73,7 @@ module _ (names : List (List ℕ)) (x : List ℕ) where
       go true = refl
       go false = List·getD-append names (x ∷ []) [] i h
 
-  -- The text area with the name stored behind the text, unless it is one of the names. What is behind it then stood there before.
+  -- The text area with the name stored after the text, unless it is one of the names. What is after it then stood there before.
   pub text-stored : (rest : List ℕ) → (k : ℕ)
       × (cond (isIn x names) (textOf names ++ rest) (spliced (length (textOf names)) (x ++ (0 ∷ [])) (textOf names ++ rest)) ≡ textOf (addName names x) ++ drop k rest)
   text-stored rest = rw add-is (go (isIn x names))
@@ -82,7 +81,7 @@ module _ (names : List (List ℕ)) (x : List ℕ) where
       go : (b : Bool) → (k : ℕ)
           × (cond b (textOf names ++ rest) (spliced (length (textOf names)) (x ++ (0 ∷ [])) (textOf names ++ rest)) ≡ textOf (with-x b) ++ drop k rest)
       go true = (0, refl)
-      go false = (length (x ++ (0 ∷ [])), name-behind (textOf names) (x ++ (0 ∷ [])) rest ∙ ap (λ (l : List ℕ). l ++ drop (length (x ++ (0 ∷ []))) rest) (sym (textOf-snoc names x)))
+      go false = (length (x ++ (0 ∷ [])), name-after (textOf names) (x ++ (0 ∷ [])) rest ∙ ap (λ (l : List ℕ). l ++ drop (length (x ++ (0 ∷ []))) rest) (sym (textOf-snoc names x)))
 
   pub subkeys-add : (e : Edition) → Subkeys e names → isSubkey e x ≡ true → Subkeys e (addName names x)
   subkeys-add e s h = rw add-is (go (isIn x names))

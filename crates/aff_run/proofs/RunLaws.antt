@@ -1,30 +1,28 @@
--- Calls that go on from a good state: where a close is accepted among them, the room after all their stores has whatever each closed room has.
--- By induction on the calls, and for each call by its answer. Assumes nothing.
+-- A call in a good state leaves a good one, with the tree grown, or it closes or stops the writer (`outcome`). So where a close is accepted among some calls,
+-- the buffer after all their stores has whatever each closed buffer has. By induction on the calls, and for each call by its answer. Assumes nothing.
 use mathlib.Core.Path.{_≡_, refl, sym, ap, _∙_, subst}
-use mathlib.Core.Bool.{Bool, true, false, cond, not, _&&_, _||_, true≢false}
+use mathlib.Core.Bool.{Bool, true, false, cond, _&&_, _||_, true≢false}
 use mathlib.Core.List.{List, [], _∷_, _++_, append-nil}
-use Prim.Native.Nat.{ℕ, _+_}
+use Prim.Native.Nat.{ℕ}
 use lib.Dec.{eqb}
-use lib.ListN.{length, take}
-use lib.Seq.{take-length}
+use lib.Seq.{take-nil, take-length}
 use Rattle.aff_format.specs.Answer.{Answer, accepted, refused}
 use Rattle.aff_format.specs.Tree.{Tree}
-use Rattle.aff_format.specs.declared.refusal.Told.{Told}
-use Rattle.aff_format.proofs.AnswerLaws.{passed-value}
-use Rattle.aff_write.specs.Belongs.{writerChecks}
-use Rattle.aff_write.specs.Close.{storeChecks, closeStores, closeAnswer}
-use Rattle.aff_write.specs.Make.{makeAnswer, madeWriter}
-use Rattle.aff_write.specs.Put.{putAnswer, putWriter}
-use Rattle.aff_write.specs.Stores.{Store, applyStores, storesTold}
-use Rattle.aff_write.specs.Writer.{stopped, writerAfter}
-use Rattle.aff_write.specs.declared.writer.Writer.{Writer}
-use Rattle.aff_write.proofs.StoreLaws.{apply-append}
-use Rattle.aff_run.specs.Run.{Call, make, put, close, State, Turn, next, makeTurn, putTurn, closeTurn, turn, answersOf, storesOf, isAccepted, grown, described, isClose, closedBy}
-use Rattle.aff_run.proofs.GoodLaws.{Good}
-use Rattle.aff_run.proofs.MakeGoodLaws.{made-good}
-use Rattle.aff_run.proofs.PutGoodLaws.{put-good}
-use Rattle.aff_run.proofs.ClosedLaws.{closed, closed-room}
-use Rattle.aff_run.proofs.TurnLaws.{unchanged, turn-refused, asleep-stores, asleep-closed, asleep-described}
+use Rattle.aff_format.specs.declared.refusal.RefusalCode.{RefusalCode}
+use Rattle.aff_format.proofs.TestLaws.{or-false}
+use Rattle.aff_areas.specs.Stores.{applyStores, storesReported}
+use Rattle.aff_areas.specs.Writer.{stopped, writerAfter}
+use Rattle.aff_areas.specs.declared.writer.Writer.{Writer}
+use Rattle.aff_areas.proofs.StoreLaws.{apply-append}
+use Rattle.aff_write.specs.Close.{closeStores}
+use Rattle.aff_write.specs.Put.{putStores}
+use Rattle.aff_run.specs.AnswersFromTree.{isSpent, stops}
+use Rattle.aff_run.specs.Run.{Call, make, put, close, State, Step, answerTo, needed, completed, step, afterCall, answersOf, storesOf, isAccepted, applyCall, treeAfter, isClose, closedBy}
+use Rattle.aff_run.proofs.InvariantLaws.{Invariant, FromPlace}
+use Rattle.aff_run.proofs.MakeInvariantLaws.{made-good, made-after}
+use Rattle.aff_run.proofs.PutInvariantLaws.{put-good, put-after}
+use Rattle.aff_run.proofs.ClosedLaws.{closed, closed-buffer}
+use Rattle.aff_run.proofs.StepLaws.{accepted-clear, step-refused, asleep-stores, asleep-closed, asleep-described}
 
 -- ---- What a call leaves of the record.
 
@@ -36,96 +34,120 @@ form-after (refused t) w given h = go (eqb (t .number) 23)
     go true = refl
     go false = refl
 
-pub turn-form : (s : State) (c : Call) → turn s c .writer .form ≡ s .writer .form
-unfolding makeTurn putTurn closeTurn
-turn-form s (make parent name) =
-    form-after (makeAnswer (length (s .room)) (s .writer) (s .text) (s .tree) parent name) (madeWriter (s .writer) (s .text) name) (s .writer) refl
-turn-form s (put node type bytes allowance) =
-    form-after (putAnswer (length (s .room)) (s .writer) (s .text) (s .tree) node type bytes allowance) (putWriter (s .writer) bytes) (s .writer) refl
-turn-form s (close allowance) = form-after (closeAnswer (s .room) (s .writer) (s .text) (s .tree) allowance) (stopped (s .writer)) (s .writer) refl
+pub step-form : (s : State) (c : Call) → step s c .writer .form ≡ s .writer .form
+unfolding step
+step-form s c = form-after (answerTo s c) (completed s c .writer) (s .writer) (kept c)
+  where
+    kept : (c : Call) → completed s c .writer .form ≡ s .writer .form
+    kept (make parent name) = refl
+    kept (put node type bytes allowance) = refl
+    kept (close allowance) = refl
 
--- A call refused by 23 stops the writer, and an accepted close closes it.
-stop-after : (a : Answer ℕ) (w given : Writer) (t : Told) → a ≡ refused t → eqb (t .number) 23 ≡ true → writerAfter a w given .live ≡ false
-stop-after a w given t h e = rw (h, e)
+-- A call refused by 23 stops the writer, and an accepted close closes it: the record sleeps, the areas are as they were.
+abbrev pub Sleeps : State → Step → Type 0
+Sleeps s t = (t .writer ≡ stopped (s .writer)) × (t .text ≡ s .text) × (t .tree ≡ s .tree)
 
-pub turn-stops : (s : State) (c : Call) (t : Told) → turn s c .answer ≡ refused t → eqb (t .number) 23 ≡ true → turn s c .writer .live ≡ false
-unfolding makeTurn putTurn closeTurn
-turn-stops s (make parent name) t h e =
-    stop-after (makeAnswer (length (s .room)) (s .writer) (s .text) (s .tree) parent name) (madeWriter (s .writer) (s .text) name) (s .writer) t h e
-turn-stops s (put node type bytes allowance) t h e =
-    stop-after (putAnswer (length (s .room)) (s .writer) (s .text) (s .tree) node type bytes allowance) (putWriter (s .writer) bytes) (s .writer) t h e
-turn-stops s (close allowance) t h e = stop-after (closeAnswer (s .room) (s .writer) (s .text) (s .tree) allowance) (stopped (s .writer)) (s .writer) t h e
+pub step-sleeps : (s : State) (c : Call) (t : RefusalCode) → step s c .answer ≡ refused t → eqb (t .number) 23 ≡ true → Sleeps s (step s c)
+unfolding step
+step-sleeps s c t h e = rw (h, e) (refl, refl, refl)
 
-pub close-stops : (s : State) (allowance : ℕ) {n : ℕ} → closeTurn s allowance .answer ≡ accepted n → closeTurn s allowance .writer .live ≡ false
-unfolding closeTurn
-close-stops s allowance h = rw h
+pub close-sleeps : (s : State) (allowance : ℕ) {n : ℕ} → step s (close allowance) .answer ≡ accepted n → Sleeps s (step s (close allowance))
+unfolding step
+close-sleeps s allowance h = rw h (refl, refl, refl)
 
--- An accepted close makes all its stores.
-pub close-told : (s : State) (allowance : ℕ) {n : ℕ} → closeTurn s allowance .answer ≡ accepted n
-    → closeTurn s allowance .stores ≡ closeStores (s .room) (s .writer) (s .text) (s .tree)
-unfolding closeTurn closeAnswer
-close-told s allowance {n} h =
-    let all = closeStores (s .room) (s .writer) (s .text) (s .tree) in
-    let told : n ≡ length all =
-    sym (passed-value (writerChecks (length (s .room)) (s .writer) (s .text) (s .tree) ++ storeChecks (s .room) (s .writer) (s .text) (s .tree) allowance) (length all) h) in
-    rw (h, told) (take-length all)
+pub sleeps-asleep : (s : State) (c : Call) → Sleeps s (step s c) → step s c .writer .live ≡ false
+sleeps-asleep s c z = ap (λ (w : Writer). w .live) (z .0)
+
+-- An accepted call makes all the stores that it needs.
+pub needed-made : (s : State) (c : Call) {n : ℕ} → step s c .answer ≡ accepted n → step s c .stores ≡ needed s c
+unfolding step
+needed-made s (make parent name) h = take-nil (storesReported (answerTo s (make parent name)))
+needed-made s (put node type bytes allowance) h = rw (h, ← accepted-clear s (put node type bytes allowance) h .1) (take-length (putStores (s .writer) bytes))
+needed-made s (close allowance) h =
+    rw (h, ← accepted-clear s (close allowance) h .1) (take-length (closeStores (s .buffer) (s .writer) (s .text) (s .tree)))
 
 -- A call refused otherwise leaves what it was given.
-pub next-unchanged : (s : State) (c : Call) (t : Told) → eqb (t .number) 23 ≡ false → turn s c .answer ≡ refused t → next (turn s c) (s .room) ≡ s
+pub next-unchanged : (s : State) (c : Call) (t : RefusalCode) → eqb (t .number) 23 ≡ false → step s c .answer ≡ refused t → afterCall s c ≡ s
 unfolding applyStores
-next-unchanged s c t e h = rw (turn-refused s t e c h)
+next-unchanged s c t e h = rw (step-refused s t e c h)
 
-pub make-answer : (s : State) (parent : ℕ) (name : List ℕ) → makeAnswer (length (s .room)) (s .writer) (s .text) (s .tree) parent name ≡ makeTurn s parent name .answer
-unfolding makeTurn
-make-answer s parent name = refl
+-- ---- A call in a good state.
 
-pub put-answer : (s : State) (node type : ℕ) (bytes : List ℕ) (allowance : ℕ)
-    → putAnswer (length (s .room)) (s .writer) (s .text) (s .tree) node type bytes allowance ≡ putTurn s node type bytes allowance .answer
-unfolding putTurn
-put-answer s node type bytes allowance = refl
+-- The writer goes on, with the tree grown; or the call closes or stops it, and the tree stays.
+pub data Outcome (s : State) (tree : Tree) (c : Call) : Type 0 where
+  goesOn : stops c (step s c .answer) ≡ false → Invariant (afterCall s c) (applyCall tree c (isAccepted (step s c .answer)))
+      → (FromPlace s tree → FromPlace (afterCall s c) (applyCall tree c (isAccepted (step s c .answer)))) → Outcome s tree c
+  ends : stops c (step s c .answer) ≡ true → applyCall tree c (isAccepted (step s c .answer)) ≡ tree → Sleeps s (step s c) → Outcome s tree c
+
+module _ (s : State) (tree : Tree) (g : Invariant s tree) where
+  by-number : (c : Call) (t : RefusalCode) (b : Bool) → eqb (t .number) 23 ≡ b → step s c .answer ≡ refused t → Outcome s tree c
+  by-number c t true e h = ends (rw (h, e)) (rw h) (step-sleeps s c t h e)
+  by-number c t false e h = goesOn (rw (h, e)) (rw (h, next-unchanged s c t e h) g) (rw (h, next-unchanged s c t e h) (λ b. b))
+
+  by-answer : (c : Call) (a : Answer ℕ) → step s c .answer ≡ a → Outcome s tree c
+  by-answer c (refused t) h = by-number c t (eqb (t .number) 23) refl h
+  by-answer (make parent name) (accepted n) h = goesOn (rw h) (rw h (made-good s tree g parent name h)) (rw h (made-after s tree g parent name h))
+  by-answer (put node type bytes allowance) (accepted n) h =
+      goesOn (rw h) (rw h (put-good s tree g node type bytes allowance h)) (rw h (put-after s tree g node type bytes allowance h))
+  by-answer (close allowance) (accepted n) h = ends (rw h) (rw h) (close-sleeps s allowance h)
+
+  pub outcome : (c : Call) → Outcome s tree c
+  outcome c = by-answer c (step s c .answer) refl
 
 -- ---- The run.
 
--- What holds of each closed room, with the writer's form and the tree described, holds of the room that a run with an accepted close leaves.
-module _ (P : List ℕ → List ℕ → Tree → Type 0) (closes : (s : State) (tree : Tree) (g : Good s tree) → P (closed s tree g) (s .writer .form) tree) where
+or-left : (a b : Bool) → b ≡ false → (a || b) ≡ true → a ≡ true
+or-left true b e h = refl
+or-left false b e h = sym e ∙ h
+
+-- The stores of an accepted close.
+close-made : (s : State) (c : Call) (a : Answer ℕ) → step s c .answer ≡ a → (isAccepted a && isClose c) ≡ true
+    → step s c .stores ≡ closeStores (s .buffer) (s .writer) (s .text) (s .tree)
+close-made s c (refused t) h z = absurd (true≢false (sym z))
+close-made s (make parent name) (accepted n) h z = absurd (true≢false (sym z))
+close-made s (put node type bytes allowance) (accepted n) h z = absurd (true≢false (sym z))
+close-made s (close allowance) (accepted n) h z = needed-made s (close allowance) h
+
+-- What holds of each closed buffer, with the writer's form and the tree described, holds of the buffer that a run with an accepted close leaves.
+module _ (P : List ℕ → List ℕ → Tree → Type 0) (closes : (s : State) (tree : Tree) (g : Invariant s tree) → P (closed s tree g) (s .writer .form) tree) where
   abbrev HoldsFrom : List Call → Type 0
-  HoldsFrom cs = (s : State) (tree : Tree) → Good s tree → closedBy cs (answersOf s cs) ≡ true
-      → P (applyStores (s .room) (storesOf s cs)) (s .writer .form) (described tree cs (answersOf s cs))
+  HoldsFrom cs = (s : State) (tree : Tree) → Invariant s tree → closedBy cs (answersOf s cs) ≡ true
+      → P (applyStores (s .buffer) (storesOf s cs)) (s .writer .form) (treeAfter tree cs (answersOf s cs))
 
-  module _ (s : State) (tree : Tree) (g : Good s tree) (cs : List Call) (later : HoldsFrom cs) where
+  module _ (s : State) (tree : Tree) (g : Invariant s tree) (c : Call) (cs : List Call) (later : HoldsFrom cs) where
     -- The same, after call c.
-    abbrev HoldsAfter : Call → Tree → Type 0
-    HoldsAfter c after = P (applyStores (s .room) (turn s c .stores ++ storesOf (next (turn s c) (s .room)) cs)) (s .writer .form) (described after cs (answersOf (next (turn s c) (s .room)) cs))
+    abbrev HoldsAfter : Tree → Type 0
+    HoldsAfter after =
+        P (applyStores (s .buffer) (step s c .stores ++ storesOf (afterCall s c) cs)) (s .writer .form) (treeAfter after cs (answersOf (afterCall s c) cs))
 
-    goes-on : (c : Call) (after : Tree) → Good (next (turn s c) (s .room)) after → closedBy cs (answersOf (next (turn s c) (s .room)) cs) ≡ true → HoldsAfter c after
-    goes-on c after good z =
-        let n = next (turn s c) (s .room) in
-        let all = applyStores (s .room) (turn s c .stores ++ storesOf n cs) in
-        let shown = described after cs (answersOf n cs) in
-        subst (λ (f : List ℕ). P all f shown) (turn-form s c)
-        (subst (λ (r : List ℕ). P r (n .writer .form) shown) (sym (apply-append (s .room) (turn s c .stores) (storesOf n cs))) (later n after good z))
+    goes-on : (after : Tree) → Invariant (afterCall s c) after → closedBy cs (answersOf (afterCall s c) cs) ≡ true → HoldsAfter after
+    goes-on after good z =
+        let n = afterCall s c in
+        let all = applyStores (s .buffer) (step s c .stores ++ storesOf n cs) in
+        let shown = treeAfter after cs (answersOf n cs) in
+        subst (λ (f : List ℕ). P all f shown) (step-form s c)
+        (subst (λ (r : List ℕ). P r (n .writer .form) shown) (sym (apply-append (s .buffer) (step s c .stores) (storesOf n cs))) (later n after good z))
 
-    -- An accepted close: what comes after it changes nothing.
-    ends : (allowance : ℕ) {n : ℕ} → turn s (close allowance) .answer ≡ accepted n → HoldsAfter (close allowance) tree
-    ends allowance h =
-        let after = next (turn s (close allowance)) (s .room) in
-        let asleep = close-stops s allowance h in
-        rw (asleep-stores after asleep cs, asleep-described after asleep tree cs, append-nil, close-told s allowance h, ← closed-room s tree g) (closes s tree g)
+    -- What comes after an accepted close changes nothing.
+    closes-buffer : Sleeps s (step s c) → (isAccepted (step s c .answer) && isClose c) ≡ true → HoldsAfter tree
+    closes-buffer z a =
+        let asleep = sleeps-asleep s c z in
+        rw (
+          asleep-stores (afterCall s c) asleep cs,
+          asleep-described (afterCall s c) asleep tree cs,
+          append-nil,
+          close-made s c (step s c .answer) refl a,
+          ← closed-buffer s tree g,
+        )
+        (closes s tree g)
 
-    by-number : (c : Call) (t : Told) (b : Bool) → eqb (t .number) 23 ≡ b → turn s c .answer ≡ refused t
-        → closedBy cs (answersOf (next (turn s c) (s .room)) cs) ≡ true → HoldsAfter c tree
-    by-number c t true e h z = absurd (true≢false (sym z ∙ asleep-closed (next (turn s c) (s .room)) (turn-stops s c t h e) cs))
-    by-number c t false e h z = goes-on c tree (rw (next-unchanged s c t e h) g) z
-
-    by-answer : (c : Call) (a : Answer ℕ) → turn s c .answer ≡ a → ((isAccepted a && isClose c) || closedBy cs (answersOf (next (turn s c) (s .room)) cs)) ≡ true
-        → HoldsAfter c (grown tree c (isAccepted a))
-    by-answer c (refused t) h z = by-number c t (eqb (t .number) 23) refl h z
-    by-answer (make parent name) (accepted n) h z = goes-on (make parent name) (grown tree (make parent name) true) (made-good s tree g parent name (make-answer s parent name ∙ h)) z
-    by-answer (put node type bytes allowance) (accepted n) h z =
-        goes-on (put node type bytes allowance) (grown tree (put node type bytes allowance) true)
-        (put-good s tree g node type bytes allowance (put-answer s node type bytes allowance ∙ h)) z
-    by-answer (close allowance) (accepted n) h z = ends allowance h
+    by-step : Outcome s tree c → ((isAccepted (step s c .answer) && isClose c) || closedBy cs (answersOf (afterCall s c) cs)) ≡ true
+        → HoldsAfter (applyCall tree c (isAccepted (step s c .answer)))
+    by-step (goesOn e good rest) z =
+        let a = step s c .answer in goes-on (applyCall tree c (isAccepted a)) good (rw (or-false (isAccepted a && isClose c) (isSpent a) e .0) at z)
+    by-step (ends e t sleeps) z =
+        rw t (closes-buffer sleeps (or-left _ _ (asleep-closed (afterCall s c) (sleeps-asleep s c sleeps) cs) z))
 
   pub run-holds : (cs : List Call) → HoldsFrom cs
   run-holds [] s tree g z = absurd (true≢false (sym z))
-  run-holds (c ∷ cs) s tree g z = by-answer s tree g cs (run-holds cs) c (turn s c .answer) refl z
+  run-holds (c ∷ cs) s tree g z = by-step s tree g c cs (run-holds cs) (outcome s tree g c) z

@@ -1,52 +1,79 @@
--- The closed room shows the tree: opening accepts it, and its tables are the writer's strings and entries, so that every answer of a node is
+-- The closed buffer shows the tree: opening accepts it, and its tables are the writer's strings and entries, so that every answer of a node is
 -- read off the tree. Assumes nothing.
 use mathlib.Core.Path.{_≡_, refl, sym, ap, _∙_}
-use mathlib.Core.Bool.{Bool, true, false, cond, not}
-use mathlib.Core.List.{List, [], _∷_, _++_}
-use mathlib.Core.Logic.{_⊎_, inl, inr, ⊎-elim}
+use mathlib.Core.Bool.{Bool, true, false, cond}
+use mathlib.Core.List.{List, [], _∷_}
 use Prim.Native.Nat.{ℕ, zero, suc, _+_, _-_, _*_, _≤_, _<_}
 use native.Mathlib.Nat.{mul-zero}
 use native.Mathlib.Omega.{arith}
-use lib.Dec.{eqb, ltb}
-use lib.ListN.{length, getD, drop, length-append}
-use lib.Seq.{take-take, drop-drop, drop-append-add, take-append-le, drop-append-le}
+use lib.Dec.{eqb}
+use lib.ListN.{length, getD, drop}
+use lib.Seq.{take-take}
 use borrow.Author.Tests.{ne-eqb, le-ltb, lt-ltb}
-use Rattle.aff_format.specs.Answer.{Answer, accepted, refused, Check, check, refusal, firstWrong}
+use Rattle.aff_format.specs.Answer.{accepted}
 use Rattle.aff_format.specs.Bytes.{part}
 use Rattle.aff_format.specs.Kind.{elementSize, isVoid}
 use Rattle.aff_format.specs.Limits.{stringLimit, nodeLimit}
 use Rattle.aff_format.specs.Strings.{upToZero}
-use Rattle.aff_format.specs.Tree.{Node, Tree, root, nodeAt, countAt, frontBy, pathBy, pathIn}
+use Rattle.aff_format.specs.Tree.{Tree, treeNode, treeCount, frontBy, pathIn}
 use Rattle.aff_format.specs.declared.entry.Entry.{Entry}
 use Rattle.aff_format.specs.declared.edition.Edition.{Edition}
-use Rattle.aff_format.specs.declared.edition.Edition.the-variants.{Two}
 use Rattle.aff_format.specs.declared.section.Section.the-variants.{Data}
 use Rattle.aff_format.specs.declared.kind.Kind.{Kind}
-use Rattle.aff_format.specs.declared.kind.Kind.the-variants.{Void, Char, Int, Double, Complex}
-use Rattle.aff_format.proofs.ClimbLaws.{absurd-bool}
 use Rattle.aff_format.proofs.StringsLaws.{length-upToZero, take-upToZero}
 use Rattle.aff_format.proofs.TreeLaws.{front-same}
-use Rattle.aff_open.specs.Belongs.{belongs}
-use Rattle.aff_open.specs.Nodes.{noEntry, nodeEntry}
-use Rattle.aff_open.specs.Opening.{opened, readerFor, stringsAfter, entriesAfter}
-use Rattle.aff_open.specs.Recorded.{recordedEntry, recordedString}
-use Rattle.aff_open.specs.Sections.{editionIn, sectionRecords}
-use Rattle.aff_open.specs.Tables.{nameFrom, stringsIn, nodesIn}
+use Rattle.aff_open.specs.Belongs.{readerBelongs}
+use Rattle.aff_tables.specs.Tables.{nodeEntry}
+use Rattle.aff_open.specs.Opening.{openAnswer, readerFor, stringsAfter, entriesAfter}
+use Rattle.aff_format.specs.Recorded.{recordedEntry, recordedString, nameFrom}
+use Rattle.aff_open.specs.Sections.{editionIn, sectionRecords, stringsIn, nodesIn}
 use Rattle.aff_open.specs.Reader.{noSpan}
 use Rattle.aff_open.specs.declared.reader.Reader.{Reader}
 use Rattle.aff_open.specs.declared.reader.Span.{Span}
 use Rattle.aff_open.proofs.ObeysLaws.{obeys-accepted}
 use Rattle.aff_open.proofs.OpenedLaws.{OpenedShape, opened-shape, opened-belongs}
-use Rattle.aff_read.specs.Answers.{partOf, nodeChecks, nameAnswer, kindAnswer, countAnswer, viewAnswer, elementAnswer}
-use Rattle.aff_read.specs.Calls.{frontWritten, pathAnswer}
+use Rattle.aff_read.specs.Answers.{nameAnswer, kindAnswer, countAnswer, viewAnswer, elementAnswer}
+use Rattle.aff_read.specs.Paths.{pathAnswer}
 use Rattle.aff_read.specs.Recall.{symbolsEnd, kindAt, nameAt, nameSpan, dataSpan, spanBytes, parentAt, pathAt}
-use Rattle.aff_write.specs.Writer.{dataPlace}
-use Rattle.aff_write.proofs.StoreLaws.{length-take-most}
-use Rattle.aff_run.specs.Described.{namesOf, dataSize, nonVoidCount}
+use Rattle.aff_areas.proofs.StoreLaws.{length-take-most}
+use Rattle.aff_run.specs.TreeSizes.{namesOf, dataSize, nonVoidCount}
 use Rattle.aff_run.specs.Run.{State}
-use Rattle.aff_run.specs.Shows.{PartIs, NodeShown, Absent, Shows}
-use Rattle.aff_run.proofs.GoodLaws.{Stored, Good, count-same, stored-in}
+use Rattle.aff_read.specs.Shows.{PartIs, NodeShown, Absent, Shows}
+use Rattle.aff_run.proofs.InvariantLaws.{Stored, Invariant, is-void, count-same, stored-in}
 use Rattle.aff_run.proofs.ClosedLaws.{closed, closed-obeys, closed-edition, closed-strings, closed-nodes, data-records, data-there}
+
+-- ---- Answers with a record that belongs.
+
+module _ (image : List ℕ) (r : Reader) (strings entries : List ℕ) (here : readerBelongs image r strings entries ≡ true) (n : ℕ) where
+  -- The part of a node's name, or of its data.
+  pub name-part : n ≤ r .nodes → (bytes : List ℕ) → spanBytes image (nameSpan image r strings entries n) ≡ bytes
+      → PartIs image (nameAnswer image r strings entries n) bytes
+  unfolding nameAnswer
+  name-part l bytes e =
+      let passes = le-ltb (r .nodes) n l in
+      record { span = nameSpan image r strings entries n; answers = rw (here, passes); part = rw (here, passes) e }
+
+  pub view-part : n ≤ r .nodes → (bytes : List ℕ) → spanBytes image (dataSpan image entries n) ≡ bytes → PartIs image (viewAnswer image r strings entries n) bytes
+  unfolding viewAnswer
+  view-part l bytes e =
+      let passes = le-ltb (r .nodes) n l in
+      record { span = dataSpan image entries n; answers = rw (here, passes); part = rw (here, passes) e }
+
+  -- A number of no node.
+  pub number-absent : r .nodes < n → Absent image r strings entries n
+  unfolding nameAnswer kindAnswer countAnswer viewAnswer elementAnswer pathAnswer
+  number-absent l =
+      let absent = lt-ltb (r .nodes) n l in
+      record {
+        name = rw (here, absent);
+        kind = rw (here, absent);
+        count = rw (here, absent);
+        view = rw (here, absent);
+        element = λ index. rw (here, absent);
+        path = λ buffer. rw (here, absent);
+      }
+
+-- ---- The closed buffer.
 
 -- A string is the front of the bytes from its place on.
 front-string : (image : List ℕ) (at n : ℕ) → part at (length (upToZero (part at n image))) image ≡ upToZero (part at n image)
@@ -74,13 +101,9 @@ no-bytes [] h = refl
 no-bytes (x ∷ l) h = absurd (omega arith)
 
 void-none : (n : ℕ) (k : Kind) → isVoid k ≡ true → n * elementSize k ≡ 0
-void-none n Void v = mul-zero n
-void-none n Char v = absurd-bool v
-void-none n Int v = absurd-bool v
-void-none n Double v = absurd-bool v
-void-none n Complex v = absurd-bool v
+void-none n k v = rw (is-void k v) (mul-zero n)
 
-module _ (s : State) (tree : Tree) (g : Good s tree) where
+module _ (s : State) (tree : Tree) (g : Invariant s tree) where
   abbrev image : List ℕ
   image = closed s tree g
 
@@ -90,7 +113,7 @@ module _ (s : State) (tree : Tree) (g : Good s tree) where
   pub reader : Reader
   reader = readerFor (editionIn image) image
 
-  pub opens : opened image form stringLimit nodeLimit ≡ accepted reader
+  pub opens : openAnswer image form stringLimit nodeLimit ≡ accepted reader
   unfolding reader
   opens = obeys-accepted image form (closed-obeys s tree g)
 
@@ -115,13 +138,13 @@ module _ (s : State) (tree : Tree) (g : Good s tree) where
     abbrev es : List ℕ
     es = entriesAfter image form strings entries
 
-    accepts : opened image form (length strings) (length entries) ≡ accepted reader
+    accepts : openAnswer image form (length strings) (length entries) ≡ accepted reader
     accepts = rw (a, b) opens
 
     shape : OpenedShape image form strings entries reader
     shape = opened-shape image form strings entries accepts
 
-    it-belongs : belongs image reader ss es ≡ true
+    it-belongs : readerBelongs image reader ss es ≡ true
     it-belongs = opened-belongs image form strings entries accepts
 
     entry-shown : (k : ℕ) → k ≤ length tree → recordedEntry image es k ≡ nodeEntry (g .entries) k
@@ -130,7 +153,7 @@ module _ (s : State) (tree : Tree) (g : Good s tree) where
     entry-shown (suc k) h =
         shape .entries-are (suc k) (omega arith) (omega (arith, nodes-count)) ∙ ap (λ (l : List Entry). nodeEntry l (suc k)) nodes-are
 
-    name-shown : (k : ℕ) → k ≤ length tree → nameAt image reader ss es k ≡ nodeAt tree k .name
+    name-shown : (k : ℕ) → k ≤ length tree → nameAt image reader ss es k ≡ treeNode tree k .name
     unfolding nameAt
     name-shown zero h = refl
     name-shown (suc k) h =
@@ -144,40 +167,40 @@ module _ (s : State) (tree : Tree) (g : Good s tree) where
 
     -- ---- What is answered of a number of the tree.
 
-    stored : (k : ℕ) → suc k ≤ length tree → Stored (namesOf tree) (s .room) (dataSize tree) (suc k) (nodeEntry (g .entries) (suc k)) (nodeAt tree (suc k))
+    stored : (k : ℕ) → suc k ≤ length tree → Stored (namesOf tree) (s .buffer) (dataSize tree) (suc k) (nodeEntry (g .entries) (suc k)) (treeNode tree (suc k))
     stored k h = stored-in s tree g (suc k) (omega arith) h
 
-    kind-shown : (n : ℕ) → n ≤ length tree → kindAt image es n ≡ nodeAt tree n .kind
+    kind-shown : (n : ℕ) → n ≤ length tree → kindAt image es n ≡ treeNode tree n .kind
     kind-shown zero h = ap (λ (e : Entry). e .kind) (entry-shown 0 h)
     kind-shown (suc k) h = ap (λ (e : Entry). e .kind) (entry-shown (suc k) h) ∙ stored k h .kind-is
 
-    count-shown : (n : ℕ) → n ≤ length tree → recordedEntry image es n .count ≡ countAt tree n
+    count-shown : (n : ℕ) → n ≤ length tree → recordedEntry image es n .count ≡ treeCount tree n
     count-shown zero h = ap (λ (e : Entry). e .count) (entry-shown 0 h)
     count-shown (suc k) h = ap (λ (e : Entry). e .count) (entry-shown (suc k) h) ∙ stored k h .count-is
 
-    parent-shown : (n : ℕ) → n ≤ length tree → parentAt image es n ≡ nodeAt tree n .parent
+    parent-shown : (n : ℕ) → n ≤ length tree → parentAt image es n ≡ treeNode tree n .parent
     parent-shown zero h = ap (λ (e : Entry). e .parent) (entry-shown 0 h)
     parent-shown (suc k) h = ap (λ (e : Entry). e .parent) (entry-shown (suc k) h) ∙ stored k h .parent-is
 
-    bytes-shown : (n : ℕ) → n ≤ length tree → spanBytes image (dataSpan image es n) ≡ nodeAt tree n .bytes
+    bytes-shown : (n : ℕ) → n ≤ length tree → spanBytes image (dataSpan image es n) ≡ treeNode tree n .bytes
     bytes-shown zero h = ap (spanBytes image) (span-of image es 0 (entry-shown 0 h))
     bytes-shown (suc k) h =
         ap (spanBytes image) (span-of image es (suc k) (entry-shown (suc k) h) ∙ ap (spanBy (nodeEntry (g .entries) (suc k))) (stored k h .kind-is))
-        ∙ go (isVoid (nodeAt tree (suc k) .kind)) refl
+        ∙ go (isVoid (treeNode tree (suc k) .kind)) refl
       where
-        go : (v : Bool) → isVoid (nodeAt tree (suc k) .kind) ≡ v
-            → spanBytes image (cond v noSpan (record { offset = nodeEntry (g .entries) (suc k) .offset; size = nodeEntry (g .entries) (suc k) .count * elementSize (nodeAt tree (suc k) .kind) }))
-            ≡ nodeAt tree (suc k) .bytes
-        go true v = sym (no-bytes (nodeAt tree (suc k) .bytes) (sym (stored k h .whole) ∙ void-none (nodeEntry (g .entries) (suc k) .count) (nodeAt tree (suc k) .kind) v))
+        go : (v : Bool) → isVoid (treeNode tree (suc k) .kind) ≡ v
+            → spanBytes image (cond v noSpan (record { offset = nodeEntry (g .entries) (suc k) .offset; size = nodeEntry (g .entries) (suc k) .count * elementSize (treeNode tree (suc k) .kind) }))
+            ≡ treeNode tree (suc k) .bytes
+        go true v = sym (no-bytes (treeNode tree (suc k) .bytes) (sym (stored k h .whole) ∙ void-none (nodeEntry (g .entries) (suc k) .count) (treeNode tree (suc k) .kind) v))
         go false v =
             let t = stored k h in
             let e = nodeEntry (g .entries) (suc k) in
-            rw (t .whole) (data-there s tree g (e .offset) (length (nodeAt tree (suc k) .bytes)) (t .begins v) (t .ends v) ∙ t .there v)
+            rw (t .whole) (data-there s tree g (e .offset) (length (treeNode tree (suc k) .bytes)) (t .begins v) (t .ends v) ∙ t .there v)
 
-    name-part : (n : ℕ) → n ≤ length tree → spanBytes image (nameSpan image reader ss es n) ≡ nodeAt tree n .name
+    name-shows : (n : ℕ) → n ≤ length tree → spanBytes image (nameSpan image reader ss es n) ≡ treeNode tree n .name
     unfolding nameSpan nameAt nameFrom
-    name-part zero h = refl
-    name-part (suc k) h =
+    name-shows zero h = refl
+    name-shows (suc k) h =
         let f : suc k ≡ 0 → ⊥ = λ q. omega arith in
         let z = ne-eqb (suc k) 0 f in
         let i = recordedEntry image es (suc k) .string in
@@ -189,43 +212,34 @@ module _ (s : State) (tree : Tree) (g : Good s tree) where
     path-shown n h =
         ap (λ (f : List ℕ). cond (eqb n 0) (47 ∷ []) f)
         (ap (λ (steps : ℕ). frontBy (parentAt image es) (nameAt image reader ss es) steps n) nodes-count
-        ∙ front-same (parentAt image es) (λ k. nodeAt tree k .parent) (nameAt image reader ss es) (λ k. nodeAt tree k .name) (length tree)
+        ∙ front-same (parentAt image es) (λ k. treeNode tree k .parent) (nameAt image reader ss es) (λ k. treeNode tree k .name) (length tree)
         (λ k lo hi. parent-shown k hi) (λ k lo hi. name-shown k hi) low (length tree) n h)
       where
         low : (k : ℕ) → 0 < k → k ≤ length tree → parentAt image es k ≤ length tree
         low k lo hi = rw (parent-shown k hi) (omega (arith, stored-in s tree g k lo hi .parent-lower))
 
     node-shown : (n : ℕ) → n ≤ length tree → NodeShown image reader ss es tree n
-    unfolding nameAnswer kindAnswer countAnswer viewAnswer pathAnswer
+    unfolding kindAnswer countAnswer pathAnswer
     node-shown n h =
-        let passes = le-ltb (reader .nodes) n (omega (arith, nodes-count)) in
+        let l : n ≤ reader .nodes = omega (arith, nodes-count) in
+        let passes = le-ltb (reader .nodes) n l in
         record {
-          name = record { span = nameSpan image reader ss es n; answers = rw (it-belongs, passes); part = rw (it-belongs, passes) (name-part n h) };
+          name = name-part image reader ss es it-belongs n l (treeNode tree n .name) (name-shows n h);
           kind = rw (it-belongs, passes, kind-shown n h);
           count = rw (it-belongs, passes, count-shown n h);
-          view = record { span = dataSpan image es n; answers = rw (it-belongs, passes); part = rw (it-belongs, passes) (bytes-shown n h) };
+          view = view-part image reader ss es it-belongs n l (treeNode tree n .bytes) (bytes-shown n h);
           path-length = λ out l. rw (it-belongs, passes, path-shown n h, le-ltb (length out) (length (pathIn tree n)) l);
           path = λ out l. rw (it-belongs, passes, path-shown n h, le-ltb (length out) (length (pathIn tree n)) l);
         }
 
     other-absent : (n : ℕ) → length tree < n → Absent image reader ss es n
-    unfolding nameAnswer kindAnswer countAnswer viewAnswer elementAnswer pathAnswer
-    other-absent n h =
-        let absent = lt-ltb (reader .nodes) n (omega (arith, nodes-count)) in
-        record {
-          name = rw (it-belongs, absent);
-          kind = rw (it-belongs, absent);
-          count = rw (it-belongs, absent);
-          view = rw (it-belongs, absent);
-          element = λ index. rw (it-belongs, absent);
-          path = λ room. rw (it-belongs, absent);
-        }
+    other-absent n h = number-absent image reader ss es it-belongs n (omega (arith, nodes-count))
 
   pub closed-shows : Shows image form tree
   closed-shows = record { reader = reader; opens = opens; nodes = node-shown; others = other-absent }
 
   -- Opening reports the number of nodes that are not Void.
-  pub closed-counts : (r : Reader) → opened image form stringLimit nodeLimit ≡ accepted r → r .records ≡ nonVoidCount tree
+  pub closed-counts : (r : Reader) → openAnswer image form stringLimit nodeLimit ≡ accepted r → r .records ≡ nonVoidCount tree
   unfolding reader
   closed-counts r h =
       let both : accepted reader ≡ accepted r = sym opens ∙ h in

@@ -1,4 +1,4 @@
--- The tree area as the slots of some entries, one behind the other: what the writer reads in it, and what a close writes of it. By induction
+-- The tree area as the slots of some entries, one after the other: what the writer reads in it, and what a close writes of it. By induction
 -- on the entries. Assumes nothing.
 use mathlib.Core.Path.{_≡_, refl, sym, ap, _∙_}
 use mathlib.Core.List.{List, [], _∷_, _++_, append-assoc, append-nil}
@@ -9,16 +9,14 @@ use lib.ListN.{length, getD, set, take, drop, length-append}
 use lib.Seq.{take-at, take-suc, take-append-add, drop-append-seam, take-length, drop-append-add, take-append-le}
 use borrow.Author.Tests.{ne-eqb}
 use Rattle.aff_format.specs.Bytes.{spliced}
-use Rattle.aff_format.specs.Entry.{entryBytes, slotBytes, Storable}
+use Rattle.aff_format.specs.Entry.{entryBytes, slotBytes, Storable, noEntry, orNone}
 use Rattle.aff_format.specs.Kind.{entrySize}
 use Rattle.aff_format.specs.declared.entry.Entry.{Entry}
 use Rattle.aff_format.specs.declared.entry.FoundEntry.the-variants.{Whole}
 use Rattle.aff_format.proofs.EntryLaws.{length-slotBytes, slot-front, slot-round-trip, length-entryBytes}
 use Rattle.aff_format.proofs.KindLaws.{entry-size-bounds}
-use Rattle.aff_open.specs.Nodes.{noEntry, nodeEntry}
-use Rattle.aff_open.specs.Recorded.{orNone}
-use Rattle.aff_open.specs.Tables.{treeBytes}
-use Rattle.aff_write.specs.Areas.{slotAt, foundSlot, slotEntry, entrySizes, entriesOut}
+use Rattle.aff_tables.specs.Tables.{nodeEntry, treeBytes}
+use Rattle.aff_areas.specs.Areas.{slotAt, foundSlot, slotEntry, entrySizes, entriesOut}
 
 -- The slots of entries.
 unfoldable pub slotsOf : List Entry → List ℕ
@@ -35,7 +33,7 @@ unfolding slotsOf
 length-slotsOf [] = refl
 length-slotsOf (e ∷ es) = length-append (slotBytes e) (slotsOf es) ∙ omega (arith, length-slotBytes e, length-slotsOf es)
 
--- The slot of entry k, and what stands behind it.
+-- The slot of entry k, and what stands after it.
 pub drop-slots : (es : List Entry) (rest : List ℕ) (k : ℕ) → k < length es
     → drop (25 * k) (slotsOf es ++ rest) ≡ slotBytes (getD es k noEntry) ++ (slotsOf (drop (suc k) es) ++ rest)
 unfolding slotsOf
@@ -45,12 +43,16 @@ drop-slots (e ∷ es) rest (suc k) h =
     let n : 25 * suc k ≡ length (slotBytes e) + 25 * k = omega (arith, length-slotBytes e) in
     rw (append-assoc (slotBytes e) (slotsOf es) rest, n, drop-append-add) (drop-slots es rest k (omega arith))
 
-pub storables-at : (es : List Entry) → Storables es → (k : ℕ) → k < length es → Storable (getD es k noEntry)
+storables-at : (es : List Entry) → Storables es → (k : ℕ) → k < length es → Storable (getD es k noEntry)
 storables-at [] s k h = absurd (omega arith)
 storables-at (e ∷ es) s zero h = s .0
 storables-at (e ∷ es) s (suc k) h = storables-at es (s .1) k (omega arith)
 
-pub tree-snoc : (es : List Entry) (e : Entry) → treeBytes (es ++ (e ∷ [])) ≡ treeBytes es ++ entryBytes e
+pub node-storable : (es : List Entry) → Storables es → (k : ℕ) → 0 < k → k ≤ length es → Storable (nodeEntry es k)
+node-storable es s zero lo hi = absurd (omega arith)
+node-storable es s (suc k) lo hi = storables-at es s k (omega arith)
+
+tree-snoc : (es : List Entry) (e : Entry) → treeBytes (es ++ (e ∷ [])) ≡ treeBytes es ++ entryBytes e
 unfolding treeBytes
 tree-snoc [] e = append-nil (entryBytes e)
 tree-snoc (f ∷ es) e = rw (tree-snoc es e, append-assoc)
@@ -113,11 +115,11 @@ unfolding slotsOf
 slots-append [] fs = refl
 slots-append (e ∷ es) fs = rw (slots-append es fs, append-assoc)
 
-pub slots-snoc : (es : List Entry) (e : Entry) → slotsOf (es ++ (e ∷ [])) ≡ slotsOf es ++ slotBytes e
+slots-snoc : (es : List Entry) (e : Entry) → slotsOf (es ++ (e ∷ [])) ≡ slotsOf es ++ slotBytes e
 unfolding slotsOf
 slots-snoc es e = slots-append es (e ∷ []) ∙ rw append-nil
 
--- A slot stored behind the slots.
+-- A slot stored after the slots.
 pub slot-added : (es : List Entry) (e : Entry) (rest : List ℕ) → spliced (25 * length es) (slotBytes e) (slotsOf es ++ rest) ≡ slotsOf (es ++ (e ∷ [])) ++ drop 25 rest
 unfolding spliced
 slot-added es e rest =
@@ -126,15 +128,15 @@ slot-added es e rest =
     let d : drop (25 * length es + length (slotBytes e)) l ≡ drop 25 rest = rw (← n, length-slotBytes e) (drop-append-add (slotsOf es) rest 25) in
     rw (take-at (slotsOf es) rest (25 * length es) n, d, slots-snoc es e, append-assoc)
 
--- A run written behind a front leaves the front.
-pub spliced-behind : (p r x : List ℕ) (i : ℕ) → spliced (length p + i) x (p ++ r) ≡ p ++ spliced i x r
+-- A run written after a front leaves the front.
+spliced-after : (p r x : List ℕ) (i : ℕ) → spliced (length p + i) x (p ++ r) ≡ p ++ spliced i x r
 unfolding spliced
-spliced-behind p r x i =
+spliced-after p r x i =
     let n : length p + i + length x ≡ length p + (i + length x) = omega arith in
     rw (take-append-add, n, drop-append-add, append-assoc)
 
 -- A run in place of one as long.
-pub spliced-front : (x y r : List ℕ) → length x ≡ length y → spliced 0 x (y ++ r) ≡ x ++ r
+spliced-front : (x y r : List ℕ) → length x ≡ length y → spliced 0 x (y ++ r) ≡ x ++ r
 unfolding spliced
 spliced-front x y r e = let n : 0 + length x ≡ length y = omega arith in rw n (ap (λ (l : List ℕ). x ++ l) (drop-append-seam y r))
 
@@ -148,5 +150,5 @@ slot-changed (f ∷ es) e rest zero h =
     (spliced-front (slotBytes e) (slotBytes f) (slotsOf es ++ rest) (length-slotBytes e ∙ sym (length-slotBytes f)))
 slot-changed (f ∷ es) e rest (suc k) h =
     let n : 25 * suc k ≡ length (slotBytes f) + 25 * k = omega (arith, length-slotBytes f) in
-    rw (append-assoc (slotBytes f) (slotsOf es) rest, append-assoc (slotBytes f) (slotsOf (set es k e)) rest, n, spliced-behind)
+    rw (append-assoc (slotBytes f) (slotsOf es) rest, append-assoc (slotBytes f) (slotsOf (set es k e)) rest, n, spliced-after)
     (ap (λ (l : List ℕ). slotBytes f ++ l) (slot-changed es e rest k (omega arith)))

@@ -1,7 +1,6 @@
 -- Runs of the writer, the tree that they describe, and what a file shows.
-pub mod Described
+pub mod TreeSizes
 pub mod Run
-pub mod Shows
-pub mod Exact
+pub mod AnswersFromTree
 pub mod Cut
-pub mod Held
+pub mod AreasHold

@@ -7,14 +7,14 @@ use lib.ListN.{length, take}
 use Rattle.aff_format.specs.Answer.{Answer, accepted, refused}
 use Rattle.aff_format.specs.Kind.{kindOf}
 use Rattle.aff_format.specs.Tree.{Tree}
+use Rattle.aff_areas.specs.Stores.{Store, applyStores, storesReported}
+use Rattle.aff_areas.specs.Writer.{stopped, writerAfter, areaAfter}
+use Rattle.aff_areas.specs.declared.writer.Writer.{Writer}
 use Rattle.aff_write.specs.Begin.{beginStores, beginAnswer, beginWriter, beginArea}
 use Rattle.aff_write.specs.Close.{closeStores, closeAnswer}
 use Rattle.aff_write.specs.Make.{makeAnswer, madeWriter, madeText, madeTree}
 use Rattle.aff_write.specs.Put.{dataKind, putStores, putAnswer, putWriter, putTree}
-use Rattle.aff_write.specs.Stores.{Store, applyStores, storesTold}
-use Rattle.aff_write.specs.Writer.{stopped, writerAfter, areaAfter}
-use Rattle.aff_write.specs.declared.writer.Writer.{Writer}
-use Rattle.aff_run.specs.Described.{withChild, withData}
+use Rattle.aff_run.specs.TreeSizes.{withChild, withData}
 
 -- A call with its arguments. Any number, name, bytes and allowance may be given.
 pub data Call : Type 0 where
@@ -22,15 +22,17 @@ pub data Call : Type 0 where
   put : (node type : ℕ) (bytes : List ℕ) (allowance : ℕ) → Call
   close : (allowance : ℕ) → Call
 
--- What the next call is given: the record and what is lent.
+-- What the next call is given: the record and the caller's memory.
 pub record State : Type 0 where
   pub writer : Writer
   pub text : List ℕ
   pub tree : List ℕ
-  pub room : List ℕ
+  pub buffer : List ℕ
+
+-- ---- One call.
 
 -- What a call answers, what it stores, in order, and what it leaves.
-pub record Turn : Type 0 where
+pub record Step : Type 0 where
   pub answer : Answer ℕ
   pub stores : List Store
   pub writer : Writer
@@ -38,105 +40,106 @@ pub record Turn : Type 0 where
   pub tree : List ℕ
 
 -- What is given to the next call.
-abbrev pub next : Turn → List ℕ → State
-next t room = record { writer = t .writer; text = t .text; tree = t .tree; room = applyStores room (t .stores) }
+abbrev pub next : Step → List ℕ → State
+next t buffer = record { writer = t .writer; text = t .text; tree = t .tree; buffer = applyStores buffer (t .stores) }
 
-unfoldable pub begun : List ℕ → List ℕ → List ℕ → List ℕ → ℕ → Turn
-begun room form text tree allowance =
-    let a = beginAnswer room form text tree allowance in
+unfoldable pub beginStep : List ℕ → List ℕ → List ℕ → List ℕ → ℕ → Step
+beginStep buffer form text tree allowance =
+    let a = beginAnswer buffer form text tree allowance in
     record {
       answer = a;
-      stores = take (storesTold a) beginStores;
-      writer = beginWriter a (length room) form;
+      stores = take (storesReported a) beginStores;
+      writer = beginWriter a (length buffer) form;
       text = beginArea a text;
       tree = beginArea a tree;
     }
 
-module _ (s : State) where
-  unfoldable pub makeTurn : ℕ → List ℕ → Turn
-  makeTurn parent name =
-      let a = makeAnswer (length (s .room)) (s .writer) (s .text) (s .tree) parent name in
-      record {
-        answer = a;
-        stores = [];
-        writer = writerAfter a (madeWriter (s .writer) (s .text) name) (s .writer);
-        text = areaAfter a (madeText (s .writer) (s .text) name) (s .text);
-        tree = areaAfter a (madeTree (s .writer) (s .text) (s .tree) parent name) (s .tree);
-      }
+-- The answer of a call.
+abbrev pub answerTo : State → Call → Answer ℕ
+answerTo s (make parent name) = makeAnswer (length (s .buffer)) (s .writer) (s .text) (s .tree) parent name
+answerTo s (put node type bytes allowance) = putAnswer (length (s .buffer)) (s .writer) (s .text) (s .tree) node type bytes allowance
+answerTo s (close allowance) = closeAnswer (s .buffer) (s .writer) (s .text) (s .tree) allowance
 
-  unfoldable pub putTurn : ℕ → ℕ → List ℕ → ℕ → Turn
-  putTurn node type bytes allowance =
-      let a = putAnswer (length (s .room)) (s .writer) (s .text) (s .tree) node type bytes allowance in
-      record {
-        answer = a;
-        stores = take (storesTold a) (putStores (s .writer) bytes);
-        writer = writerAfter a (putWriter (s .writer) bytes) (s .writer);
-        text = s .text;
-        tree = areaAfter a (putTree (s .writer) (s .tree) node type bytes) (s .tree);
-      }
+-- The byte stores that it needs, in order.
+abbrev pub needed : State → Call → List Store
+needed s (make parent name) = []
+needed s (put node type bytes allowance) = putStores (s .writer) bytes
+needed s (close allowance) = closeStores (s .buffer) (s .writer) (s .text) (s .tree)
 
-  unfoldable pub closeTurn : ℕ → Turn
-  closeTurn allowance =
-      let a = closeAnswer (s .room) (s .writer) (s .text) (s .tree) allowance in
-      record {
-        answer = a;
-        stores = take (storesTold a) (closeStores (s .room) (s .writer) (s .text) (s .tree));
-        writer = writerAfter a (stopped (s .writer)) (s .writer);
-        text = s .text;
-        tree = s .tree;
-      }
+-- What it leaves where it is accepted: all the stores needed are in the buffer; close leaves the record stopped.
+abbrev pub completed : State → Call → State
+completed s (make parent name) =
+    record {
+      writer = madeWriter (s .writer) (s .text) name;
+      text = madeText (s .writer) (s .text) name;
+      tree = madeTree (s .writer) (s .text) (s .tree) parent name;
+      buffer = s .buffer;
+    }
+completed s (put node type bytes allowance) =
+    record {
+      writer = putWriter (s .writer) bytes;
+      text = s .text;
+      tree = putTree (s .writer) (s .tree) node type bytes;
+      buffer = applyStores (s .buffer) (putStores (s .writer) bytes);
+    }
+completed s (close allowance) =
+    record {
+      writer = stopped (s .writer);
+      text = s .text;
+      tree = s .tree;
+      buffer = applyStores (s .buffer) (closeStores (s .buffer) (s .writer) (s .text) (s .tree));
+    }
 
-  abbrev pub turn : Call → Turn
-  turn (make parent name) = makeTurn parent name
-  turn (put node type bytes allowance) = putTurn node type bytes allowance
-  turn (close allowance) = closeTurn allowance
+-- Its turn, by the answer: of the stores needed the first, as many as the answer reports.
+abbrev pub stepBy : State → Call → Answer ℕ → Step
+stepBy s c a =
+    record {
+      answer = a;
+      stores = take (storesReported a) (needed s c);
+      writer = writerAfter a (completed s c .writer) (s .writer);
+      text = areaAfter a (completed s c .text) (s .text);
+      tree = areaAfter a (completed s c .tree) (s .tree);
+    }
 
--- What some calls answer, and all that they store, in order.
+unfoldable pub step : State → Call → Step
+step s c = stepBy s c (answerTo s c)
+
+abbrev pub afterCall : State → Call → State
+afterCall s c = next (step s c) (s .buffer)
+
+-- ---- Some calls.
+
+-- What they answer, and all that they store, in order.
 abbrev pub answersOf : State → List Call → List (Answer ℕ)
 answersOf s [] = []
-answersOf s (c ∷ cs) = turn s c .answer ∷ answersOf (next (turn s c) (s .room)) cs
+answersOf s (c ∷ cs) = step s c .answer ∷ answersOf (afterCall s c) cs
 
 abbrev pub storesOf : State → List Call → List Store
 storesOf s [] = []
-storesOf s (c ∷ cs) = turn s c .stores ++ storesOf (next (turn s c) (s .room)) cs
+storesOf s (c ∷ cs) = step s c .stores ++ storesOf (afterCall s c) cs
 
 -- What they leave.
 abbrev pub stateAfter : State → List Call → State
 stateAfter s [] = s
-stateAfter s (c ∷ cs) = stateAfter (next (turn s c) (s .room)) cs
+stateAfter s (c ∷ cs) = stateAfter (afterCall s c) cs
 
--- ---- A whole run.
-
-module _ (room form text tree : List ℕ) (allowance : ℕ) (calls : List Call) where
-  abbrev pub afterBegin : State
-  afterBegin = next (begun room form text tree allowance) room
-
-  abbrev pub runAnswers : List (Answer ℕ)
-  runAnswers = answersOf afterBegin calls
-
-  abbrev pub runStores : List Store
-  runStores = begun room form text tree allowance .stores ++ storesOf afterBegin calls
-
-  abbrev pub runState : State
-  runState = stateAfter afterBegin calls
-
--- ---- What it describes: the calls' arguments and which were accepted, and nothing else.
+-- ---- What they describe: the calls' arguments and which were accepted, and nothing else.
 
 abbrev pub isAccepted : Answer ℕ → Bool
 isAccepted (accepted n) = true
 isAccepted (refused t) = false
 
 -- Close and refused calls leave the tree as it is.
-abbrev pub grown : Tree → Call → Bool → Tree
-grown tree call false = tree
-grown tree (make parent name) true = withChild tree parent name
-grown tree (put node type bytes allowance) true = withData tree node (dataKind (kindOf type)) bytes
-grown tree (close allowance) true = tree
+abbrev pub applyCall : Tree → Call → Bool → Tree
+applyCall tree call false = tree
+applyCall tree (make parent name) true = withChild tree parent name
+applyCall tree (put node type bytes allowance) true = withData tree node (dataKind (kindOf type)) bytes
+applyCall tree (close allowance) true = tree
 
-abbrev pub described : Tree → List Call → List (Answer ℕ) → Tree
-described tree [] answers = tree
-described tree (c ∷ cs) [] = tree
-described tree (c ∷ cs) (a ∷ answers) = described (grown tree c (isAccepted a)) cs answers
+abbrev pub treeAfter : Tree → List Call → List (Answer ℕ) → Tree
+treeAfter tree [] answers = tree
+treeAfter tree (c ∷ cs) [] = tree
+treeAfter tree (c ∷ cs) (a ∷ answers) = treeAfter (applyCall tree c (isAccepted a)) cs answers
 
 abbrev pub isClose : Call → Bool
 isClose (make parent name) = false
@@ -148,3 +151,48 @@ abbrev pub closedBy : List Call → List (Answer ℕ) → Bool
 closedBy [] answers = false
 closedBy (c ∷ cs) [] = false
 closedBy (c ∷ cs) (a ∷ answers) = (isAccepted a && isClose c) || closedBy cs answers
+
+-- ---- A whole run.
+
+-- A run of the writer: what begin is given, and the calls after it.
+pub record Run : Type 0 where
+  pub buffer : List ℕ
+  pub form : List ℕ
+  pub text : List ℕ
+  pub tree : List ℕ
+  pub allowance : ℕ
+  pub calls : List Call
+
+-- The same run with another allowance of begin, or with other calls.
+abbrev pub withAllowance : Run → ℕ → Run
+withAllowance run allowance =
+    record { buffer = run .buffer; form = run .form; text = run .text; tree = run .tree; allowance = allowance; calls = run .calls }
+
+abbrev pub withCalls : Run → List Call → Run
+withCalls run calls =
+    record { buffer = run .buffer; form = run .form; text = run .text; tree = run .tree; allowance = run .allowance; calls = calls }
+
+module _ (run : Run) where
+  -- Begin's turn, and what it leaves.
+  abbrev pub runBegin : Step
+  runBegin = beginStep (run .buffer) (run .form) (run .text) (run .tree) (run .allowance)
+
+  abbrev pub runStart : State
+  runStart = next runBegin (run .buffer)
+
+  -- What the calls answer; all stores, those of begin first; what the last call leaves.
+  abbrev pub runAnswers : List (Answer ℕ)
+  runAnswers = answersOf runStart (run .calls)
+
+  abbrev pub runStores : List Store
+  runStores = runBegin .stores ++ storesOf runStart (run .calls)
+
+  abbrev pub runState : State
+  runState = stateAfter runStart (run .calls)
+
+  -- The tree that the accepted calls describe, and whether some close was accepted.
+  abbrev pub runTree : Tree
+  runTree = treeAfter [] (run .calls) runAnswers
+
+  abbrev pub runClosed : Bool
+  runClosed = closedBy (run .calls) runAnswers

@@ -1,7 +1,7 @@
--- Putting data: the tests on the code's numbers are those of the promises, check by check, and the data lie inside the room. Assumes nothing.
+-- Putting data: the tests on the code's numbers are those of the promises, check by check, and the data lie inside the buffer. Assumes nothing.
 use mathlib.Core.Path.{_≡_, refl, sym, ap, _∙_}
 use mathlib.Core.Bool.{Bool, true, false, not, true≢false}
-use mathlib.Core.List.{List}
+use mathlib.Core.List.{List, _++_}
 use Prim.Native.Nat.{ℕ, zero, suc, _+_, _/_, _%_, _≤_, _<_}
 use native.Mathlib.Omega.{arith}
 use lib.Dec.{eqb}
@@ -13,25 +13,28 @@ use Rattle.aff_format.specs.Element.{countIn}
 use Rattle.aff_format.specs.Entry.{slotBytes}
 use Rattle.aff_format.specs.Kind.{kindOf, elementSize, isVoid}
 use Rattle.aff_format.specs.Limits.{imageLimit, nodeLimit, textArea}
-use Rattle.aff_format.specs.Refusal.{toldRefusal}
-use Rattle.aff_format.specs.Verdict.{numberTold}
+use Rattle.aff_format.specs.Refusal.{codeOfRefusal}
+use Rattle.aff_format.specs.Verdict.{answerOfVerdict, answerOfNumber}
 use Rattle.aff_format.specs.declared.entry.Entry.{Entry}
 use Rattle.aff_format.specs.declared.kind.Kind.{Kind}
 use Rattle.aff_format.specs.declared.kind.Kind.the-variants.{Void, Char, Int, Double, Complex}
 use Rattle.aff_format.specs.declared.kind.FoundKind.{FoundKind}
 use Rattle.aff_format.specs.declared.kind.FoundKind.the-variants.{Known}
 use Rattle.aff_format.specs.declared.refusal.Refusal.{Refusal}
+use Rattle.aff_format.specs.declared.verdict.Verdict.{Verdict}
+use Rattle.aff_format.specs.declared.verdict.Verdict.the-variants.{Accepted, Refused}
 use Rattle.aff_format.specs.declared.verdict.NumberAnswer.the-variants as answered
 use Rattle.aff_format.proofs.KindLaws.{countIn-few, countIn-div}
-use Rattle.aff_write.specs.Areas.{slotAt, slotEntry, finishedSize}
-use Rattle.aff_write.specs.Belongs.{Belongs}
-use Rattle.aff_write.specs.Put.{takesNone, wrongData, dataKind, putPlace, putStores, storeCheck, roomChecks, dataChecks, putEntry, putTree}
-use Rattle.aff_write.specs.Stores.{Store, applyStores, storesFrom, roomAfter}
-use Rattle.aff_write.specs.Writer.{writerAfter, areaAfter}
-use Rattle.aff_write.specs.declared.writer.Writer.{Writer}
-use Rattle.aff_write.specs.declared.writer.Writing.{Writing}
-use Rattle.aff_write.proofs.SpentLaws.{told-refused}
-use Rattle.aff_write.proofs.StoreLaws.{length-storesFrom, take-storesFrom}
+use Rattle.aff_areas.specs.Areas.{slotAt, slotEntry, finishedSize}
+use Rattle.aff_areas.specs.Belongs.{WriterBelongs, writerChecks}
+use Rattle.aff_areas.specs.Stores.{Store, applyStores, storesFrom, bufferAfter}
+use Rattle.aff_areas.specs.Writer.{writerAfter, areaAfter}
+use Rattle.aff_areas.specs.declared.writer.Writer.{Writer}
+use Rattle.aff_areas.specs.declared.writer.Writing.{Writing}
+use Rattle.aff_areas.proofs.BelongsLaws.{judge-leaves, judge-refuses, judged-other}
+use Rattle.aff_areas.proofs.StoreLaws.{length-storesFrom, take-storesFrom}
+use Rattle.aff_write.specs.Put.{takesNone, wrongData, dataKind, putPlace, putStores, storeCheck, bufferChecks, dataChecks, putWriter, putEntry, putTree, putAnswer}
+use Rattle.aff_write.proofs.SpentLaws.{reported-refused}
 
 -- 18.
 pub takes-root : (tree : List ℕ) (node : ℕ) → node ≡ 0 → true ≡ takesNone tree node
@@ -71,22 +74,22 @@ pub size-least : (writer : Writer) (tree : List ℕ) → putPlace writer ≤ fin
 unfolding finishedSize
 size-least writer tree = omega arith
 
-pub sizes-small : {room : ℕ} {writer : Writer} {text tree : List ℕ} → Belongs room writer text tree
+pub sizes-small : {size : ℕ} {writer : Writer} {text tree : List ℕ} → WriterBelongs size writer text tree
     → (writer .«data» ≤ imageLimit) × (writer .text ≤ textArea) × (writer .nodes ≤ nodeLimit)
-sizes-small {room} {writer} {text} {tree} b =
+sizes-small {size} {writer} {text} {tree} b =
     (omega (arith, size-least writer tree, b .size-fits, b .length-allowed), b .text-inside, b .few-nodes)
 
 module _ (writer : Writer) (tree : List ℕ) where
   -- 21, 23.
   module _ (bytes : List ℕ) (allowance : ℕ) where
-    pub no-room : writer .length < finishedSize writer tree + 12 + length bytes
-        → _≡_ {A = Answer ℕ} (refused (refusal 21)) (firstWrong (roomChecks writer tree bytes allowance) (length (putStores writer bytes)))
-    no-room h = rw (lt-ltb (writer .length) (finishedSize writer tree + 12 + length bytes) h)
+    pub too-small : writer .length < finishedSize writer tree + 12 + length bytes
+        → _≡_ {A = Answer ℕ} (refused (refusal 21)) (firstWrong (bufferChecks writer tree bytes allowance) (length (putStores writer bytes)))
+    too-small h = rw (lt-ltb (writer .length) (finishedSize writer tree + 12 + length bytes) h)
 
-    pub has-room : finishedSize writer tree + 12 + length bytes ≤ writer .length
+    pub has-buffer : finishedSize writer tree + 12 + length bytes ≤ writer .length
         → firstWrong (storeCheck writer bytes allowance) (length (putStores writer bytes))
-        ≡ firstWrong (roomChecks writer tree bytes allowance) (length (putStores writer bytes))
-    has-room h = rw (le-ltb (writer .length) (finishedSize writer tree + 12 + length bytes) h)
+        ≡ firstWrong (bufferChecks writer tree bytes allowance) (length (putStores writer bytes))
+    has-buffer h = rw (le-ltb (writer .length) (finishedSize writer tree + 12 + length bytes) h)
 
     -- 15, 18, 19.
     module _ (node type : ℕ) where
@@ -105,7 +108,7 @@ module _ (writer : Writer) (tree : List ℕ) where
           rw (le-ltb (writer .nodes) node h, t, q)
 
       pub data-right : node ≤ writer .nodes → takesNone tree node ≡ false → (f : FoundKind) → f ≡ kindOf type → wrongData f (length bytes) ≡ false
-          → firstWrong (roomChecks writer tree bytes allowance) (length (putStores writer bytes))
+          → firstWrong (bufferChecks writer tree bytes allowance) (length (putStores writer bytes))
           ≡ firstWrong (dataChecks writer tree node type bytes allowance) (length (putStores writer bytes))
       data-right h t f e d =
           let q : wrongData (kindOf type) (length bytes) ≡ false = ap (λ (g : FoundKind). wrongData g (length bytes)) (sym e) ∙ d in
@@ -128,22 +131,45 @@ pub stores-made : (at allowance made : ℕ) (bytes : List ℕ) → made ≡ leng
 stores-made at allowance made bytes m =
     m ∙ sym (ap length (take-storesFrom allowance at bytes) ∙ length-storesFrom at (take allowance bytes))
 
-pub stores-room : (writer : Writer) (at allowance : ℕ) (bytes room₀ room₁ : List ℕ) → at ≡ putPlace writer
-    → room₁ ≡ applyStores room₀ (take allowance (storesFrom at bytes)) → room₁ ≡ applyStores room₀ (take allowance (putStores writer bytes))
-stores-room writer at allowance bytes room₀ room₁ e r = r ∙ ap (λ (n : ℕ). applyStores room₀ (take allowance (storesFrom n bytes))) e
+pub stores-buffer : (writer : Writer) (at allowance : ℕ) (bytes buffer₀ buffer₁ : List ℕ) → at ≡ putPlace writer
+    → buffer₁ ≡ applyStores buffer₀ (take allowance (storesFrom at bytes)) → buffer₁ ≡ applyStores buffer₀ (take allowance (putStores writer bytes))
+stores-buffer writer at allowance bytes buffer₀ buffer₁ e r = r ∙ ap (λ (n : ℕ). applyStores buffer₀ (take allowance (storesFrom n bytes))) e
 
 -- A refused call leaves the tree area.
 pub area-kept : (q : Refusal) (given : Writer) (w : Writing) (area next : List ℕ) → w ≡ record { answer = answered.Refused q; writer = given }
-    → area ≡ areaAfter (numberTold (w .answer)) next area
+    → area ≡ areaAfter (answerOfNumber (w .answer)) next area
 area-kept q given w area next e = rw e
 
--- A refusal other than 23 leaves record, room and tree area.
-pub put-refused : (checks : List Check) (stores : List Store) (next given : Writer) (room tree nextTree : List ℕ) (q : Refusal) (w : Writing)
-    → w ≡ record { answer = answered.Refused q; writer = given } → eqb (toldRefusal q .number) 23 ≡ false
-    → refused (toldRefusal q) ≡ firstWrong checks (length stores)
-    → (numberTold (w .answer) ≡ firstWrong checks (length stores))
-    × ((w .writer ≡ writerAfter (numberTold (w .answer)) next given)
-    × ((room ≡ roomAfter (numberTold (w .answer)) stores room) × (tree ≡ areaAfter (numberTold (w .answer)) nextTree tree)))
-put-refused checks stores next given room tree nextTree q w e o h =
-    let g = told-refused checks stores next given room q w e o h in
+-- A refusal other than 23 leaves record, buffer and tree area.
+pub put-refused : (checks : List Check) (stores : List Store) (next given : Writer) (buffer tree nextTree : List ℕ) (q : Refusal) (w : Writing)
+    → w ≡ record { answer = answered.Refused q; writer = given } → eqb (codeOfRefusal q .number) 23 ≡ false
+    → refused (codeOfRefusal q) ≡ firstWrong checks (length stores)
+    → (answerOfNumber (w .answer) ≡ firstWrong checks (length stores))
+    × ((w .writer ≡ writerAfter (answerOfNumber (w .answer)) next given)
+    × ((buffer ≡ bufferAfter (answerOfNumber (w .answer)) stores buffer) × (tree ≡ areaAfter (answerOfNumber (w .answer)) nextTree tree)))
+put-refused checks stores next given buffer tree nextTree q w e o h =
+    let g = reported-refused checks stores next given buffer q w e o h in
     (g .0, (g .1 .0, (g .1 .1, area-kept q given w tree nextTree e)))
+
+-- What `judge` refuses (24, 22) is the call's refusal; else the call's other checks decide.
+module _ (buffer : List ℕ) (writer : Writer) (text tree : List ℕ) (node type : ℕ) (bytes : List ℕ) (allowance : ℕ) (v : Verdict)
+    (reported : answerOfVerdict v ≡ firstWrong (writerChecks (length buffer) writer text tree) (tt {0})) where
+  pub judge-stops : (q : Refusal) {w : Writing} → v ≡ Refused q → w ≡ record { answer = answered.Refused q; writer = writer }
+      → (answerOfNumber (w .answer) ≡ putAnswer (length buffer) writer text tree node type bytes allowance)
+      × ((w .writer ≡ writerAfter (answerOfNumber (w .answer)) (putWriter writer bytes) writer)
+      × ((buffer ≡ bufferAfter (answerOfNumber (w .answer)) (putStores writer bytes) buffer)
+      × (tree ≡ areaAfter (answerOfNumber (w .answer)) (putTree writer tree node type bytes) tree)))
+  unfolding putAnswer
+  judge-stops q {w} e h =
+      let more = dataChecks writer tree node type bytes allowance in
+      put-refused (writerChecks (length buffer) writer text tree ++ more) (putStores writer bytes) (putWriter writer bytes) writer buffer tree
+      (putTree writer tree node type bytes) q w h (judged-other (length buffer) writer text tree v reported q e)
+      (judge-refuses (length buffer) writer text tree v reported more (length (putStores writer bytes)) q e)
+
+pub judge-passes : (size : ℕ) (writer : Writer) (text tree : List ℕ) (node type : ℕ) (bytes : List ℕ) (allowance : ℕ) (v : Verdict) {answer : Answer ℕ}
+    → answerOfVerdict v ≡ firstWrong (writerChecks size writer text tree) (tt {0}) → v ≡ Accepted
+    → answer ≡ firstWrong (dataChecks writer tree node type bytes allowance) (length (putStores writer bytes))
+    → answer ≡ putAnswer size writer text tree node type bytes allowance
+unfolding putAnswer
+judge-passes size writer text tree node type bytes allowance v reported e h =
+    h ∙ judge-leaves size writer text tree v reported (dataChecks writer tree node type bytes allowance) (length (putStores writer bytes)) e

@@ -6,34 +6,34 @@ use lib.Dec.{eqb, ltb}
 use lib.ListN.{length, replicate}
 use Rattle.aff_format.specs.Answer.{Answer, accepted, refused, Check, check, refusal, refusalAt, firstWrong}
 use Rattle.aff_format.specs.Limits.{imageLimit, textArea, treeArea}
-use Rattle.aff_write.specs.Stores.{Store, storesFrom}
-use Rattle.aff_write.specs.Writer.{dataPlace, noWriter, begunWriter, stopped}
-use Rattle.aff_write.specs.declared.writer.Writer.{Writer}
+use Rattle.aff_areas.specs.Stores.{Store, storesFrom}
+use Rattle.aff_areas.specs.Writer.{dataPlace, noWriter, freshWriter, stopped}
+use Rattle.aff_areas.specs.declared.writer.Writer.{Writer}
 
 -- 1: an area has another length than its own, the form is not 12 bytes, or the image is too long.
-unfoldable pub lentWrong : List ℕ → List ℕ → List ℕ → List ℕ → Bool
-lentWrong image form text tree =
-    not (eqb (length form) 12) || (not (eqb (length text) textArea) || (not (eqb (length tree) treeArea) || ltb imageLimit (length image)))
+unfoldable pub beginLengthsWrong : List ℕ → List ℕ → List ℕ → List ℕ → Bool
+beginLengthsWrong buffer form text tree =
+    not (eqb (length form) 12) || (not (eqb (length text) textArea) || (not (eqb (length tree) treeArea) || ltb imageLimit (length buffer)))
 
 -- The one store: 0 at place 0.
 abbrev pub beginStores : List Store
 beginStores = storesFrom 0 (0 ∷ [])
 
 abbrev pub beginChecks : List ℕ → List ℕ → List ℕ → List ℕ → ℕ → List Check
-beginChecks image form text tree allowance =
-    check (lentWrong image form text tree) (refusal 1)
-    ∷ check (ltb (length image) dataPlace) (refusal 21)
+beginChecks buffer form text tree allowance =
+    check (beginLengthsWrong buffer form text tree) (refusal 1)
+    ∷ check (ltb (length buffer) dataPlace) (refusal 21)
     ∷ check (ltb allowance 1) (refusalAt 23 allowance)
     ∷ []
 
--- The answer tells the stores made.
+-- The answer reports the stores made.
 unfoldable pub beginAnswer : List ℕ → List ℕ → List ℕ → List ℕ → ℕ → Answer ℕ
-beginAnswer image form text tree allowance = firstWrong (beginChecks image form text tree allowance) 1
+beginAnswer buffer form text tree allowance = firstWrong (beginChecks buffer form text tree allowance) 1
 
 -- The record: all zero after 1 and 21; after 23 as an accepted begin makes it, but stopped.
 abbrev pub beginWriter : Answer ℕ → ℕ → List ℕ → Writer
-beginWriter (accepted n) room form = begunWriter room form
-beginWriter (refused t) room form = cond (eqb (t .number) 23) (stopped (begunWriter room form)) noWriter
+beginWriter (accepted n) buffer form = freshWriter buffer form
+beginWriter (refused t) buffer form = cond (eqb (t .number) 23) (stopped (freshWriter buffer form)) noWriter
 
 -- An area: an accepted begin clears it.
 abbrev pub beginArea : Answer ℕ → List ℕ → List ℕ

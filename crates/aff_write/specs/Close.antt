@@ -5,25 +5,25 @@ use lib.Dec.{ltb}
 use lib.ListN.{length, take, drop}
 use Rattle.aff_format.specs.Answer.{Answer, Check, check, refusalAt, firstWrong}
 use Rattle.aff_format.specs.Bytes.{part}
-use Rattle.aff_write.specs.Areas.{usedText, entriesOut, dataNodes}
-use Rattle.aff_write.specs.Belongs.{writerChecks}
-use Rattle.aff_write.specs.Header.{sectionHeader, headerFront, withSum}
-use Rattle.aff_write.specs.Stores.{Store, storesFrom}
-use Rattle.aff_write.specs.Writer.{written, dataPlace}
-use Rattle.aff_write.specs.declared.writer.Writer.{Writer}
+use Rattle.aff_areas.specs.Areas.{usedText, entriesOut, dataNodes}
+use Rattle.aff_areas.specs.Belongs.{writerChecks}
+use Rattle.aff_areas.specs.Header.{sectionHeader, headerFront, withSum}
+use Rattle.aff_areas.specs.Stores.{Store, storesFrom}
+use Rattle.aff_areas.specs.Writer.{written, dataPlace}
+use Rattle.aff_areas.specs.declared.writer.Writer.{Writer}
 
--- Where the strings and the entries of the file begin: behind the data, and behind the strings.
+-- Where the strings and the entries of the file begin: after the data, and after the strings.
 abbrev pub symbolsPlace : Writer → ℕ
 symbolsPlace writer = dataPlace + writer .«data»
 
 abbrev pub treePlace : Writer → ℕ
 treePlace writer = symbolsPlace writer + writer .text
 
--- The data that stand in the room.
+-- The data that stand in the buffer.
 abbrev pub dataBytes : List ℕ → Writer → List ℕ
-dataBytes image writer = part dataPlace (writer .«data») image
+dataBytes buffer writer = part dataPlace (writer .«data») buffer
 
-module _ (image : List ℕ) (writer : Writer) (text tree : List ℕ) where
+module _ (buffer : List ℕ) (writer : Writer) (text tree : List ℕ) where
   -- Record counts: strings, nodes, nodes that are not Void.
   unfoldable pub closeHeader : List ℕ
   closeHeader =
@@ -31,7 +31,7 @@ module _ (image : List ℕ) (writer : Writer) (text tree : List ℕ) where
       (headerFront written (writer .form)
       (sectionHeader written (symbolsPlace writer) (writer .strings) (usedText writer text))
       (sectionHeader written (treePlace writer) (writer .nodes) (entriesOut tree (writer .nodes)))
-      (sectionHeader written dataPlace (dataNodes tree (writer .nodes)) (dataBytes image writer)))
+      (sectionHeader written dataPlace (dataNodes tree (writer .nodes)) (dataBytes buffer writer)))
 
   -- Order of byte stores: strings, entries, header bytes from 1 on, and last the header's first byte.
   unfoldable pub closeStores : List Store
@@ -43,6 +43,6 @@ module _ (image : List ℕ) (writer : Writer) (text tree : List ℕ) where
   abbrev pub storeChecks : ℕ → List Check
   storeChecks allowance = check (ltb allowance (length closeStores)) (refusalAt 23 allowance) ∷ []
 
-  -- The answer tells the stores made.
+  -- The answer reports the stores made.
   unfoldable pub closeAnswer : ℕ → Answer ℕ
-  closeAnswer allowance = firstWrong (writerChecks (length image) writer text tree ++ storeChecks allowance) (length closeStores)
+  closeAnswer allowance = firstWrong (writerChecks (length buffer) writer text tree ++ storeChecks allowance) (length closeStores)

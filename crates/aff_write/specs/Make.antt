@@ -14,10 +14,10 @@ use Rattle.aff_format.specs.Strings.{isIn, indexIn}
 use Rattle.aff_format.specs.Subkey.{isSubkey}
 use Rattle.aff_format.specs.declared.entry.Entry.{Entry}
 use Rattle.aff_format.specs.declared.kind.Kind.the-variants.{Void}
-use Rattle.aff_write.specs.Areas.{namesIn, slotAt, slotEntry, nameOf, finishedSize}
-use Rattle.aff_write.specs.Belongs.{writerChecks}
-use Rattle.aff_write.specs.Writer.{written}
-use Rattle.aff_write.specs.declared.writer.Writer.{Writer}
+use Rattle.aff_areas.specs.Areas.{namesIn, slotAt, slotEntry, nameOf, finishedSize}
+use Rattle.aff_areas.specs.Belongs.{writerChecks}
+use Rattle.aff_areas.specs.Writer.{written}
+use Rattle.aff_areas.specs.declared.writer.Writer.{Writer}
 
 module _ (writer : Writer) (text : List ℕ) where
   -- A string is used again by name: a name that is one adds none, another one string with its zero.
@@ -83,25 +83,7 @@ module _ (writer : Writer) (text tree : List ℕ) where
   unfoldable pub madeTree : ℕ → List ℕ → List ℕ
   madeTree parent name = spliced (slotAt (writer .nodes + 1)) (slotBytes (madeEntry writer text parent name)) tree
 
--- The answer tells the new node's number.
+-- The answer reports the new node's number.
 unfoldable pub makeAnswer : ℕ → Writer → List ℕ → List ℕ → ℕ → List ℕ → Answer ℕ
-makeAnswer room writer text tree parent name =
-    firstWrong (writerChecks room writer text tree ++ childChecks writer text tree parent name) (writer .nodes + 1)
-
--- ---- What the passes behind it tell.
-
--- For each of some strings 1 where it is the name, else 0.
-abbrev pub markOf : List ℕ → List ℕ → ℕ
-markOf name string = cond (sameBytes string name) 1 0
-
-abbrev pub marksOf : List ℕ → List (List ℕ) → List ℕ
-marksOf name strings = map (markOf name) strings
-
--- The lowest place of a 1; how many marks there are where none is.
-unfoldable pub firstMark : List ℕ → ℕ
-firstMark [] = 0
-firstMark (m ∷ ms) = cond (eqb m 1) 0 (firstMark ms + 1)
-
--- Node k is a child of the parent, and its string is marked.
-abbrev pub isMarked : List ℕ → List ℕ → ℕ → ℕ → Bool
-isMarked marks tree parent k = eqb (slotEntry tree k .parent) parent && eqb (getD marks (slotEntry tree k .string) 0) 1
+makeAnswer size writer text tree parent name =
+    firstWrong (writerChecks size writer text tree ++ childChecks writer text tree parent name) (writer .nodes + 1)

@@ -14,11 +14,11 @@ use Rattle.aff_format.specs.declared.kind.Kind.{Kind}
 use Rattle.aff_format.specs.declared.kind.Kind.the-variants.{Void}
 use Rattle.aff_format.specs.declared.kind.FoundKind.{FoundKind}
 use Rattle.aff_format.specs.declared.kind.FoundKind.the-variants.{Known, Unknown}
-use Rattle.aff_write.specs.Areas.{slotAt, slotEntry, finishedSize}
-use Rattle.aff_write.specs.Belongs.{writerChecks}
-use Rattle.aff_write.specs.Stores.{Store, storesFrom}
-use Rattle.aff_write.specs.Writer.{dataPlace}
-use Rattle.aff_write.specs.declared.writer.Writer.{Writer}
+use Rattle.aff_areas.specs.Areas.{slotAt, slotEntry, finishedSize}
+use Rattle.aff_areas.specs.Belongs.{writerChecks}
+use Rattle.aff_areas.specs.Stores.{Store, storesFrom}
+use Rattle.aff_areas.specs.Writer.{dataPlace}
+use Rattle.aff_areas.specs.declared.writer.Writer.{Writer}
 
 -- 18: the root, or a node that has data.
 unfoldable pub takesNone : List ℕ → ℕ → Bool
@@ -34,7 +34,7 @@ abbrev pub dataKind : FoundKind → Kind
 dataKind Unknown = Void
 dataKind (Known k) = k
 
--- Where the next data begin: behind those that were put.
+-- Where the next data begin: after those that were put.
 abbrev pub putPlace : Writer → ℕ
 putPlace writer = dataPlace + writer .«data»
 
@@ -60,8 +60,8 @@ putWriter writer bytes =
 
 module _ (writer : Writer) (tree : List ℕ) where
   -- 21, 23: the entry grows from 13 bytes to 25.
-  abbrev pub roomChecks : List ℕ → ℕ → List Check
-  roomChecks bytes allowance =
+  abbrev pub bufferChecks : List ℕ → ℕ → List Check
+  bufferChecks bytes allowance =
       check (ltb (writer .length) (finishedSize writer tree + 12 + length bytes)) (refusal 21) ∷ storeCheck writer bytes allowance
 
   -- 15, 18, 19, 21, 23.
@@ -70,7 +70,7 @@ module _ (writer : Writer) (tree : List ℕ) where
       check (ltb (writer .nodes) node) (refusal 15)
       ∷ check (takesNone tree node) (refusal 18)
       ∷ check (wrongData (kindOf type) (length bytes)) (refusal 19)
-      ∷ roomChecks bytes allowance
+      ∷ bufferChecks bytes allowance
 
   -- The tree area that it leaves: the node has kind, count and data offset.
   abbrev pub putEntry : ℕ → Kind → List ℕ → Entry
@@ -86,7 +86,7 @@ module _ (writer : Writer) (tree : List ℕ) where
   unfoldable pub putTree : ℕ → ℕ → List ℕ → List ℕ
   putTree node type bytes = spliced (slotAt node) (slotBytes (putEntry node (dataKind (kindOf type)) bytes)) tree
 
--- The answer tells the stores made.
+-- The answer reports the stores made.
 unfoldable pub putAnswer : ℕ → Writer → List ℕ → List ℕ → ℕ → ℕ → List ℕ → ℕ → Answer ℕ
-putAnswer room writer text tree node type bytes allowance =
-    firstWrong (writerChecks room writer text tree ++ dataChecks writer tree node type bytes allowance) (length (putStores writer bytes))
+putAnswer size writer text tree node type bytes allowance =
+    firstWrong (writerChecks size writer text tree ++ dataChecks writer tree node type bytes allowance) (length (putStores writer bytes))

@@ -1,11 +1,10 @@
 // Put data.
-use crate::areas;
-use crate::belongs;
-use crate::making;
-use crate::store;
-use crate::writer;
-use crate::writer::Writer;
-use crate::writer::Writing;
+use aff_areas::areas;
+use aff_areas::belongs;
+use aff_areas::store;
+use aff_areas::writer;
+use aff_areas::writer::Writer;
+use aff_areas::writer::Writing;
 use aff_format::Edition;
 use aff_format::Entry;
 use aff_format::FoundKind;
@@ -23,12 +22,12 @@ ghost use Rattle.aff_format.specs.Element.{countIn};
 ghost use Rattle.aff_format.specs.Entry.{slotBytes};
 ghost use Rattle.aff_format.specs.Kind.{isVoid};
 ghost use Rattle.aff_format.specs.Limits.{nodeLimit, treeArea};
-ghost use Rattle.aff_format.specs.Verdict.{numberTold};
-ghost use Rattle.aff_write.specs.Areas.{slotAt};
-ghost use Rattle.aff_write.specs.Belongs.{Belongs};
-ghost use Rattle.aff_write.specs.Put.{takesNone, wrongData, putPlace, putStores, storeCheck, roomChecks, dataChecks, putWriter, putEntry, putTree, putAnswer};
-ghost use Rattle.aff_write.specs.Stores.{roomAfter};
-ghost use Rattle.aff_write.specs.Writer.{writerAfter, areaAfter};
+ghost use Rattle.aff_format.specs.Verdict.{answerOfNumber};
+ghost use Rattle.aff_areas.specs.Areas.{slotAt};
+ghost use Rattle.aff_areas.specs.Belongs.{WriterBelongs};
+ghost use Rattle.aff_areas.specs.Stores.{bufferAfter};
+ghost use Rattle.aff_areas.specs.Writer.{writerAfter, areaAfter};
+ghost use Rattle.aff_write.specs.Put.{takesNone, wrongData, putPlace, putStores, storeCheck, bufferChecks, dataChecks, putWriter, putEntry, putTree, putAnswer};
 
 // 18.
 fn takes_none(tree: &[u8], node: usize) -> bool
@@ -66,23 +65,6 @@ fn count_in(kind: Kind, bytes: &[u8]) -> usize
     bytes.len() / kind.element_size()
 }
 
-// The record with so many bytes of data more.
-fn with_data(writer: Writer, size: usize) -> Writer
-    requires { ⌜ writer .«data» + size < 2147483648 ⌝ }
-    ensures { λ r. ⌜ r ≡ record { length = writer .length; form = writer .form; strings = writer .strings; text = writer .text; nodes = writer .nodes; «data» = writer .«data» + size; live = writer .live } ⌝ }
-{
-    let form = writer.form;
-    Writer {
-        length: writer.length,
-        form,
-        strings: writer.strings,
-        text: writer.text,
-        nodes: writer.nodes,
-        data: writer.data + size,
-        live: writer.live,
-    }
-}
-
 // Gives a node its kind, count and data offset.
 fn fill_slot(writer: Writer, tree: &mut [u8], node: usize, kind: Kind, bytes: &[u8])
     requires { ⌜ (0 < node) × (node ≤ nodeLimit) × (length (now tree) ≡ treeArea) × (isVoid kind ≡ false) × (putPlace writer + length (now bytes) < 2147483648) ⌝ }
@@ -96,12 +78,12 @@ fn fill_slot(writer: Writer, tree: &mut [u8], node: usize, kind: Kind, bytes: &[
         count: count_in(kind, bytes) as u32,
         offset: (Edition::Two.header_size() + writer.data) as u64,
     };
-    making::put_slot(tree, node, entry);
+    areas::put_slot(tree, node, entry);
 }
 
 // Stores the data as far as allowed, and where all are stored gives them to the node: 23.
 fn put_bytes(
-    image: &mut [u8],
+    buffer: &mut [u8],
     writer: Writer,
     tree: &mut [u8],
     node: usize,
@@ -109,14 +91,14 @@ fn put_bytes(
     bytes: &[u8],
     allowance: usize,
 ) -> Writing
-    requires { ⌜ (0 < node) × (node ≤ nodeLimit) × (length (now tree) ≡ treeArea) × (isVoid kind ≡ false) × (putPlace writer + length (now bytes) ≤ length (now image)) × (length (now image) < 2147483648) ⌝ }
-    ensures answer { λ r. ⌜ numberTold (r .answer) ≡ firstWrong (storeCheck writer (now (bytes .entry)) allowance) (length (putStores writer (now (bytes .entry)))) ⌝ }
-    ensures record { λ r. ⌜ r .writer ≡ writerAfter (numberTold (r .answer)) (putWriter writer (now (bytes .entry))) writer ⌝ }
-    ensures room { λ r. ⌜ now (image .exit) ≡ roomAfter (numberTold (r .answer)) (putStores writer (now (bytes .entry))) (now (image .entry)) ⌝ }
-    ensures tree { λ r. ⌜ now (tree .exit) ≡ areaAfter (numberTold (r .answer)) (spliced (slotAt node) (slotBytes (putEntry writer (now (tree .entry)) node kind (now (bytes .entry)))) (now (tree .entry))) (now (tree .entry)) ⌝ }
+    requires { ⌜ (0 < node) × (node ≤ nodeLimit) × (length (now tree) ≡ treeArea) × (isVoid kind ≡ false) × (putPlace writer + length (now bytes) ≤ length (now buffer)) × (length (now buffer) < 2147483648) ⌝ }
+    ensures answer { λ r. ⌜ answerOfNumber (r .answer) ≡ firstWrong (storeCheck writer (now (bytes .entry)) allowance) (length (putStores writer (now (bytes .entry)))) ⌝ }
+    ensures record { λ r. ⌜ r .writer ≡ writerAfter (answerOfNumber (r .answer)) (putWriter writer (now (bytes .entry))) writer ⌝ }
+    ensures buffer { λ r. ⌜ now (buffer .exit) ≡ bufferAfter (answerOfNumber (r .answer)) (putStores writer (now (bytes .entry))) (now (buffer .entry)) ⌝ }
+    ensures tree { λ r. ⌜ now (tree .exit) ≡ areaAfter (answerOfNumber (r .answer)) (spliced (slotAt node) (slotBytes (putEntry writer (now (tree .entry)) node kind (now (bytes .entry)))) (now (tree .entry))) (now (tree .entry)) ⌝ }
 {
     let made = store::store(
-        image,
+        buffer,
         Edition::Two.header_size() + writer.data,
         bytes,
         allowance,
@@ -127,13 +109,13 @@ fn put_bytes(
     fill_slot(writer, tree, node, kind, bytes);
     Writing {
         answer: NumberAnswer::Value(made),
-        writer: with_data(writer, bytes.len()),
+        writer: writer.with_data(bytes.len()),
     }
 }
 
 // 21, 23, for a node that takes data of the kind.
 fn put_sized(
-    image: &mut [u8],
+    buffer: &mut [u8],
     writer: Writer,
     text: &[u8],
     tree: &mut [u8],
@@ -142,26 +124,26 @@ fn put_sized(
     bytes: &[u8],
     allowance: usize,
 ) -> Writing
-    requires { ⌜ Belongs (length (now image)) writer (now text) (now tree) × (0 < node) × (node ≤ writer .nodes) × (isVoid kind ≡ false) ⌝ }
-    ensures answer { λ r. ⌜ numberTold (r .answer) ≡ firstWrong (roomChecks writer (now (tree .entry)) (now (bytes .entry)) allowance) (length (putStores writer (now (bytes .entry)))) ⌝ }
-    ensures record { λ r. ⌜ r .writer ≡ writerAfter (numberTold (r .answer)) (putWriter writer (now (bytes .entry))) writer ⌝ }
-    ensures room { λ r. ⌜ now (image .exit) ≡ roomAfter (numberTold (r .answer)) (putStores writer (now (bytes .entry))) (now (image .entry)) ⌝ }
-    ensures tree { λ r. ⌜ now (tree .exit) ≡ areaAfter (numberTold (r .answer)) (spliced (slotAt node) (slotBytes (putEntry writer (now (tree .entry)) node kind (now (bytes .entry)))) (now (tree .entry))) (now (tree .entry)) ⌝ }
+    requires { ⌜ WriterBelongs (length (now buffer)) writer (now text) (now tree) × (0 < node) × (node ≤ writer .nodes) × (isVoid kind ≡ false) ⌝ }
+    ensures answer { λ r. ⌜ answerOfNumber (r .answer) ≡ firstWrong (bufferChecks writer (now (tree .entry)) (now (bytes .entry)) allowance) (length (putStores writer (now (bytes .entry)))) ⌝ }
+    ensures record { λ r. ⌜ r .writer ≡ writerAfter (answerOfNumber (r .answer)) (putWriter writer (now (bytes .entry))) writer ⌝ }
+    ensures buffer { λ r. ⌜ now (buffer .exit) ≡ bufferAfter (answerOfNumber (r .answer)) (putStores writer (now (bytes .entry))) (now (buffer .entry)) ⌝ }
+    ensures tree { λ r. ⌜ now (tree .exit) ≡ areaAfter (answerOfNumber (r .answer)) (spliced (slotAt node) (slotBytes (putEntry writer (now (tree .entry)) node kind (now (bytes .entry)))) (now (tree .entry))) (now (tree .entry)) ⌝ }
 {
     let size = areas::finished_size(writer, tree);
-    let room = writer.length - size;
-    if room < bytes.len() {
-        return writer::refused(Refusal::NoRoom, writer);
+    let free = writer.length - size;
+    if free < bytes.len() {
+        return writer::refused(Refusal::BufferTooSmall, writer);
     }
-    if room - bytes.len() < 12 {
-        return writer::refused(Refusal::NoRoom, writer);
+    if free - bytes.len() < 12 {
+        return writer::refused(Refusal::BufferTooSmall, writer);
     }
-    put_bytes(image, writer, tree, node, kind, bytes, allowance)
+    put_bytes(buffer, writer, tree, node, kind, bytes, allowance)
 }
 
 // 15, 18, 19, 21, 23, for a record that belongs and is open.
 fn put_data(
-    image: &mut [u8],
+    buffer: &mut [u8],
     writer: Writer,
     text: &[u8],
     tree: &mut [u8],
@@ -170,11 +152,11 @@ fn put_data(
     bytes: &[u8],
     allowance: usize,
 ) -> Writing
-    requires { ⌜ Belongs (length (now image)) writer (now text) (now tree) ⌝ }
-    ensures answer { λ r. ⌜ numberTold (r .answer) ≡ firstWrong (dataChecks writer (now (tree .entry)) node kind (now (bytes .entry)) allowance) (length (putStores writer (now (bytes .entry)))) ⌝ }
-    ensures record { λ r. ⌜ r .writer ≡ writerAfter (numberTold (r .answer)) (putWriter writer (now (bytes .entry))) writer ⌝ }
-    ensures room { λ r. ⌜ now (image .exit) ≡ roomAfter (numberTold (r .answer)) (putStores writer (now (bytes .entry))) (now (image .entry)) ⌝ }
-    ensures tree { λ r. ⌜ now (tree .exit) ≡ areaAfter (numberTold (r .answer)) (putTree writer (now (tree .entry)) node kind (now (bytes .entry))) (now (tree .entry)) ⌝ }
+    requires { ⌜ WriterBelongs (length (now buffer)) writer (now text) (now tree) ⌝ }
+    ensures answer { λ r. ⌜ answerOfNumber (r .answer) ≡ firstWrong (dataChecks writer (now (tree .entry)) node kind (now (bytes .entry)) allowance) (length (putStores writer (now (bytes .entry)))) ⌝ }
+    ensures record { λ r. ⌜ r .writer ≡ writerAfter (answerOfNumber (r .answer)) (putWriter writer (now (bytes .entry))) writer ⌝ }
+    ensures buffer { λ r. ⌜ now (buffer .exit) ≡ bufferAfter (answerOfNumber (r .answer)) (putStores writer (now (bytes .entry))) (now (buffer .entry)) ⌝ }
+    ensures tree { λ r. ⌜ now (tree .exit) ≡ areaAfter (answerOfNumber (r .answer)) (putTree writer (now (tree .entry)) node kind (now (bytes .entry))) (now (tree .entry)) ⌝ }
 {
     if writer.nodes < node {
         return writer::refused(Refusal::Absent, writer);
@@ -189,7 +171,7 @@ fn put_data(
     match found {
         FoundKind::Unknown => writer::refused(Refusal::WrongData, writer),
         FoundKind::Known(known) => put_sized(
-            image,
+            buffer,
             writer,
             text,
             tree,
@@ -204,7 +186,7 @@ fn put_data(
 // Puts data into a node, once: 24, 22, 15, 18, 19, 21, 23. `kind` is the code of the type, 2 to 5; the data's bytes are those that the file
 // is to have. It answers the stores made.
 pub fn put(
-    image: &mut [u8],
+    buffer: &mut [u8],
     writer: Writer,
     text: &[u8],
     tree: &mut [u8],
@@ -213,13 +195,13 @@ pub fn put(
     bytes: &[u8],
     allowance: usize,
 ) -> Writing
-    ensures answer { λ r. ⌜ numberTold (r .answer) ≡ putAnswer (length (now (image .entry))) writer (now (text .entry)) (now (tree .entry)) node kind (now (bytes .entry)) allowance ⌝ }
-    ensures record { λ r. ⌜ r .writer ≡ writerAfter (numberTold (r .answer)) (putWriter writer (now (bytes .entry))) writer ⌝ }
-    ensures room { λ r. ⌜ now (image .exit) ≡ roomAfter (numberTold (r .answer)) (putStores writer (now (bytes .entry))) (now (image .entry)) ⌝ }
-    ensures tree { λ r. ⌜ now (tree .exit) ≡ areaAfter (numberTold (r .answer)) (putTree writer (now (tree .entry)) node kind (now (bytes .entry))) (now (tree .entry)) ⌝ }
+    ensures answer { λ r. ⌜ answerOfNumber (r .answer) ≡ putAnswer (length (now (buffer .entry))) writer (now (text .entry)) (now (tree .entry)) node kind (now (bytes .entry)) allowance ⌝ }
+    ensures record { λ r. ⌜ r .writer ≡ writerAfter (answerOfNumber (r .answer)) (putWriter writer (now (bytes .entry))) writer ⌝ }
+    ensures buffer { λ r. ⌜ now (buffer .exit) ≡ bufferAfter (answerOfNumber (r .answer)) (putStores writer (now (bytes .entry))) (now (buffer .entry)) ⌝ }
+    ensures tree { λ r. ⌜ now (tree .exit) ≡ areaAfter (answerOfNumber (r .answer)) (putTree writer (now (tree .entry)) node kind (now (bytes .entry))) (now (tree .entry)) ⌝ }
 {
-    match belongs::judge(image, writer, text, tree) {
+    match belongs::judge(buffer, writer, text, tree) {
         Verdict::Refused(refusal) => writer::refused(refusal, writer),
-        Verdict::Accepted => put_data(image, writer, text, tree, node, kind, bytes, allowance),
+        Verdict::Accepted => put_data(buffer, writer, text, tree, node, kind, bytes, allowance),
     }
 }

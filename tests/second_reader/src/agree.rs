@@ -20,18 +20,18 @@ pub fn compare(seed: u64, number: u64, report: &mut Report) {
         wrongly_lent(&random, &image, report);
     }
     let (strings, entries) = opened(&image.bytes, &form, MOST, MOST, report);
-    let told = open_lent(&image.bytes, &form, MOST, MOST);
-    report.opened(&image, &told);
-    if let Ok(opened) = told {
-        let lent = Lent {
+    let reported = open_lent(&image.bytes, &form, MOST, MOST);
+    report.opened(&image, &reported);
+    if let Ok(opened) = reported {
+        let passed = Lent {
             image: &image.bytes,
             record: opened.record,
             strings: &strings,
             entries: &entries,
         };
-        answers(&random, &lent, report);
+        answers(&random, &passed, report);
         for _ in 0..6 {
-            altered(&random, &lent, report);
+            altered(&random, &passed, report);
         }
     }
     report.end(&image.bytes);
@@ -46,9 +46,9 @@ fn opened(
     report: &mut Report,
 ) -> (Vec<u32>, Vec<u32>) {
     let (mut first, mut second) = (vec![77; strings], vec![78; entries]);
-    let (told, record) = library::open(image, form, &mut first, &mut second);
+    let (reported, record) = library::open(image, form, &mut first, &mut second);
     let ours = open_lent(image, form, strings, entries);
-    report.same("opening", &ours.as_ref().map(|_| ()).map_err(|r| *r), &told);
+    report.same("opening", &ours.as_ref().map(|_| ()).map_err(|r| *r), &reported);
     match ours {
         Ok(opened) => {
             report.same("record", &opened.record, &record);
@@ -96,17 +96,17 @@ fn here<T>(
     }
 }
 
-/// Every call over what is lent, refused by 24 or not.
-fn answers(random: &Random, lent: &Lent, report: &mut Report) {
-    let reader = judged(lent);
+/// Every call over what is passed, refused by 24 or not.
+fn answers(random: &Random, passed: &Lent, report: &mut Report) {
+    let reader = judged(passed);
     report.judged(reader.is_ok());
-    let nodes = reader.as_ref().map_or(lent.record.nodes, Reader::nodes);
+    let nodes = reader.as_ref().map_or(passed.record.nodes, Reader::nodes);
     for node in asked(random, nodes) {
-        node_answers(random, lent, &reader, node, report);
+        node_answers(random, passed, &reader, node, report);
     }
-    listing(random, lent, &reader, report);
+    listing(random, passed, &reader, report);
     for path in [b"".as_slice(), b"/", b"//", b"a", b"/9", b"/a", b"/a/"] {
-        lookup(lent, &reader, path, report);
+        lookup(passed, &reader, path, report);
     }
 }
 
@@ -125,22 +125,22 @@ fn asked(random: &Random, nodes: u64) -> Vec<u64> {
 
 fn node_answers(
     random: &Random,
-    lent: &Lent,
+    passed: &Lent,
     reader: &Result<Reader, u32>,
     node: u64,
     report: &mut Report,
 ) {
     let kind = here(reader, |r| r.kind(node).map(|kind| u64::from(kind.code())));
-    report.same("kind", &kind, &library::kind(lent, node));
+    report.same("kind", &kind, &library::kind(passed, node));
     let count = here(reader, |r| r.count(node));
-    report.same("count", &count, &library::count(lent, node));
+    report.same("count", &count, &library::count(passed, node));
     let name = here(reader, |r| r.name_part(node));
-    part("name", name, library::name(lent, node), report);
+    part("name", name, library::name(passed, node), report);
     let view = here(reader, |r| r.view(node));
-    part("view", view, library::view(lent, node), report);
-    path(random, lent, reader, node, report);
+    part("view", view, library::view(passed, node), report);
+    path(random, passed, reader, node, report);
     for index in indices(random, count.unwrap_or(1)) {
-        element(lent, reader, node, index, report);
+        element(passed, reader, node, index, report);
     }
 }
 
@@ -161,7 +161,7 @@ fn part(
 /// Path into an output that is long enough, just long enough, or one byte too short; then lookup of it and of others near it.
 fn path(
     random: &Random,
-    lent: &Lent,
+    passed: &Lent,
     reader: &Result<Reader, u32>,
     node: u64,
     report: &mut Report,
@@ -169,17 +169,17 @@ fn path(
     let length = reader
         .as_ref()
         .map_or(3, |r| r.path_length(node).unwrap_or(2)) as usize;
-    let room = random.pick(&[length, length + 5, length, length - 1, 0]);
-    let (mut first, mut second) = (vec![0xaa; room], vec![0xaa; room]);
+    let buffer = random.pick(&[length, length + 5, length, length - 1, 0]);
+    let (mut first, mut second) = (vec![0xaa; buffer], vec![0xaa; buffer]);
     let ours = here(reader, |r| r.path_into(node, &mut first));
-    report.same("path", &ours, &library::path_into(lent, node, &mut second));
+    report.same("path", &ours, &library::path_into(passed, node, &mut second));
     report.same("path bytes", &first, &second);
     let Ok(path) = here(reader, |r| r.path(node)) else {
         return;
     };
-    lookup(lent, reader, &path, report);
+    lookup(passed, reader, &path, report);
     let near = near_path(random, &path);
-    lookup(lent, reader, &near, report);
+    lookup(passed, reader, &near, report);
 }
 
 /// A path like another: often absent, sometimes malformed.
@@ -200,9 +200,9 @@ fn near_path(random: &Random, path: &[u8]) -> Vec<u8> {
     near
 }
 
-fn lookup(lent: &Lent, reader: &Result<Reader, u32>, path: &[u8], report: &mut Report) {
+fn lookup(passed: &Lent, reader: &Result<Reader, u32>, path: &[u8], report: &mut Report) {
     let ours = here(reader, |r| r.lookup(path));
-    report.same("lookup", &ours, &library::lookup(lent, path));
+    report.same("lookup", &ours, &library::lookup(passed, path));
 }
 
 /// Indices to ask for: all of a few elements, some of many, and the first that does not exist.
@@ -215,13 +215,13 @@ fn indices(random: &Random, count: u64) -> Vec<u64> {
     indices
 }
 
-fn element(lent: &Lent, reader: &Result<Reader, u32>, node: u64, index: u64, report: &mut Report) {
+fn element(passed: &Lent, reader: &Result<Reader, u32>, node: u64, index: u64, report: &mut Report) {
     let ours = here(reader, |r| r.element(node, index));
-    let theirs = library::element(lent, node, index);
+    let theirs = library::element(passed, node, index);
     same_element(&ours, &theirs, report);
     if let (Ok(reader), Ok(_)) = (reader, &ours) {
         let span = reader.view(node).ok().flatten().expect("it has an element");
-        let bytes = &lent.image[span.offset as usize..][..span.size as usize];
+        let bytes = &passed.image[span.offset as usize..][..span.size as usize];
         let code = reader.kind(node).map_or(0, Kind::code);
         let decoded = library::decode(u64::from(code), bytes, index);
         same_element(&ours, &decoded, report);
@@ -272,21 +272,21 @@ fn decode(random: &Random, report: &mut Report) {
 const NAN: u64 = 0x7ff8_0000_0000_0000;
 
 /// Listing order into an area that is long enough, just long enough, or one too short.
-fn listing(random: &Random, lent: &Lent, reader: &Result<Reader, u32>, report: &mut Report) {
-    let nodes = lent.record.nodes.min(4096) as usize;
-    let room = random.pick(&[nodes + 1, nodes + 1, nodes + 4, nodes, 0]);
-    let (mut first, mut second) = (vec![0xaaaa; room], vec![0xaaaa; room]);
+fn listing(random: &Random, passed: &Lent, reader: &Result<Reader, u32>, report: &mut Report) {
+    let nodes = passed.record.nodes.min(4096) as usize;
+    let buffer = random.pick(&[nodes + 1, nodes + 1, nodes + 4, nodes, 0]);
+    let (mut first, mut second) = (vec![0xaaaa; buffer], vec![0xaaaa; buffer]);
     let ours = here(reader, |r| r.order_into(&mut first));
-    report.same("listing", &ours, &library::order_into(lent, &mut second));
+    report.same("listing", &ours, &library::order_into(passed, &mut second));
     report.same("listing numbers", &first, &second);
 }
 
-/// The same calls after one to three things lent have been altered since opening.
-fn altered(random: &Random, lent: &Lent, report: &mut Report) {
-    let mut image = lent.image.to_vec();
-    let mut record = lent.record;
-    let mut strings = lent.strings.to_vec();
-    let mut entries = lent.entries.to_vec();
+/// The same calls after one to three things passed have been altered since opening.
+fn altered(random: &Random, passed: &Lent, report: &mut Report) {
+    let mut image = passed.image.to_vec();
+    let mut record = passed.record;
+    let mut strings = passed.strings.to_vec();
+    let mut entries = passed.entries.to_vec();
     for _ in 0..random.between(1, 3) {
         match random.below(9) {
             0 => alter_record(random, &mut record),
@@ -298,13 +298,13 @@ fn altered(random: &Random, lent: &Lent, report: &mut Report) {
             _ => alter_part(random, &mut image, record.data),
         }
     }
-    let lent = Lent {
+    let passed = Lent {
         image: &image,
         record,
         strings: &strings,
         entries: &entries,
     };
-    answers(random, &lent, report);
+    answers(random, &passed, report);
 }
 
 fn alter_number(random: &Random, number: u64) -> u64 {
@@ -338,7 +338,7 @@ fn alter_record(random: &Random, record: &mut Record) {
     *field = alter_number(random, *field);
 }
 
-/// Another place for one string or entry, in use or behind those in use.
+/// Another place for one string or entry, in use or after those in use.
 fn alter_area(random: &Random, area: &mut [u32], used: u64, length: usize) {
     let most = area.len().min(used as usize + 1);
     if most == 0 {
@@ -412,15 +412,15 @@ pub fn limits(report: &mut Report) {
             edition: 2,
             ..Record::default()
         };
-        let lent = Lent {
+        let passed = Lent {
             image: &image,
             record,
             strings: &areas,
             entries: &areas,
         };
-        let reader = judged(&lent);
-        lookup(&lent, &reader, b"/", report);
-        lookup(&lent, &reader, b"/a", report);
+        let reader = judged(&passed);
+        lookup(&passed, &reader, b"/", report);
+        lookup(&passed, &reader, b"/a", report);
         report.end(&[]);
     }
 }

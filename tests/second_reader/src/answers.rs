@@ -3,7 +3,7 @@
 use crate::format::{big, form_for, is_path, Edition, Entry, Kind, LONGEST_IMAGE, MOST};
 use crate::open::{open, reaches_root, until_zero, Record, Span};
 
-/// What a caller lends to a reading call.
+/// What a caller passes to a reading call.
 #[derive(Clone, Copy)]
 pub struct Lent<'a> {
     pub image: &'a [u8],
@@ -21,7 +21,7 @@ pub enum Element {
     Pair(u64, u64),
 }
 
-/// What is lent, after 24 has been judged.
+/// What is passed, after 24 has been judged.
 pub struct Reader<'a> {
     image: &'a [u8],
     names: Vec<Span>,
@@ -29,13 +29,13 @@ pub struct Reader<'a> {
 }
 
 /// "24 is judged over all that is recorded, whether or not the call comes to it." The calls stand on what passes.
-pub fn judged<'a>(lent: &Lent<'a>) -> Result<Reader<'a>, u32> {
-    let fits = sizes_fit(lent) && sections_fit(lent);
-    let names = if fits { names_of(lent) } else { None };
-    let nodes = if fits { nodes_of(lent) } else { None };
+pub fn judged<'a>(passed: &Lent<'a>) -> Result<Reader<'a>, u32> {
+    let fits = sizes_fit(passed) && sections_fit(passed);
+    let names = if fits { names_of(passed) } else { None };
+    let nodes = if fits { nodes_of(passed) } else { None };
     match (names, nodes) {
         (Some(names), Some(nodes)) if climbs_fit(&nodes) => Ok(Reader {
-            image: lent.image,
+            image: passed.image,
             names,
             nodes,
         }),
@@ -45,23 +45,23 @@ pub fn judged<'a>(lent: &Lent<'a>) -> Result<Reader<'a>, u32> {
 
 /// "the image's length is not the recorded one, an area's not its size, or a count passes its size"; an image has at most
 /// 2,147,483,647 bytes.
-fn sizes_fit(lent: &Lent) -> bool {
-    let record = &lent.record;
-    lent.image.len() as u64 == record.length
+fn sizes_fit(passed: &Lent) -> bool {
+    let record = &passed.record;
+    passed.image.len() as u64 == record.length
         && record.length <= LONGEST_IMAGE
-        && lent.strings.len() == MOST
-        && lent.entries.len() == MOST
+        && passed.strings.len() == MOST
+        && passed.entries.len() == MOST
         && record.strings <= MOST as u64
         && record.nodes <= MOST as u64
 }
 
 /// "the recorded edition does not exist; a section ... falls outside the image".
-fn sections_fit(lent: &Lent) -> bool {
-    let record = &lent.record;
+fn sections_fit(passed: &Lent) -> bool {
+    let record = &passed.record;
     let sections = [record.symbols, record.tree, record.data];
     let inside = sections
         .iter()
-        .all(|part| whole(lent.image).holds(part.offset, part.size));
+        .all(|part| whole(passed.image).holds(part.offset, part.size));
     Edition::from_number(record.edition).is_some() && inside
 }
 
@@ -73,16 +73,16 @@ fn whole(image: &[u8]) -> Span {
 }
 
 /// "a string does not begin, or has no zero from there on, inside the symbol section": otherwise the strings, without zeros.
-fn names_of(lent: &Lent) -> Option<Vec<Span>> {
-    let symbols = lent.record.symbols;
+fn names_of(passed: &Lent) -> Option<Vec<Span>> {
+    let symbols = passed.record.symbols;
     let end = (symbols.offset + symbols.size) as usize;
-    let places = &lent.strings[..lent.record.strings as usize];
+    let places = &passed.strings[..passed.record.strings as usize];
     let name = |place: &u32| {
         let offset = u64::from(*place);
         if !symbols.holds(offset, 1) {
             return None;
         }
-        let rest = &lent.image[*place as usize..end];
+        let rest = &passed.image[*place as usize..end];
         let size = until_zero(rest).len();
         (size < rest.len()).then_some(Span {
             offset,
@@ -93,14 +93,14 @@ fn names_of(lent: &Lent) -> Option<Vec<Span>> {
 }
 
 /// "an entry or a node's data falls outside the image; ... a type, parent or string number does not exist".
-fn nodes_of(lent: &Lent) -> Option<Vec<Entry>> {
-    let record = &lent.record;
-    let places = &lent.entries[..record.nodes as usize];
+fn nodes_of(passed: &Lent) -> Option<Vec<Entry>> {
+    let record = &passed.record;
+    let places = &passed.entries[..record.nodes as usize];
     let node = |place: &u32| {
-        let entry = Entry::at(lent.image, *place as usize, lent.image.len())?;
+        let entry = Entry::at(passed.image, *place as usize, passed.image.len())?;
         let numbers = entry.parent <= record.nodes && entry.string < record.strings;
         let void = entry.kind == Kind::Void;
-        let data = void || whole(lent.image).holds(entry.offset, entry.bytes());
+        let data = void || whole(passed.image).holds(entry.offset, entry.bytes());
         (numbers && data).then_some(entry)
     };
     places.iter().map(node).collect()
@@ -223,7 +223,7 @@ impl<'a> Reader<'a> {
         Ok(path)
     }
 
-    /// Path into a lent output: 21 where it is too short; "Bytes of the output behind the path stay." The length written.
+    /// Path into a passed output: 21 where it is too short; "Bytes of the output behind the path stay." The length written.
     pub fn path_into(&self, number: u64, output: &mut [u8]) -> Result<u64, u32> {
         let length = self.path_length(number)?;
         if length > output.len() as u64 {
@@ -260,7 +260,7 @@ impl<'a> Reader<'a> {
         order
     }
 
-    /// The order into a lent area: 21 where it has too few places; "whose rest stays".
+    /// The order into a passed area: 21 where it has too few places; "whose rest stays".
     pub fn order_into(&self, area: &mut [u32]) -> Result<u64, u32> {
         let order = self.order();
         if order.len() > area.len() {
@@ -295,13 +295,13 @@ pub fn listing(input: &[u8]) -> Vec<u8> {
     match open(input, &form_for(input)) {
         Err((number, place)) => refused(number, place),
         Ok(opened) => {
-            let lent = Lent {
+            let passed = Lent {
                 image: input,
                 record: opened.record,
                 strings: &opened.strings,
                 entries: &opened.entries,
             };
-            lines(&lent).unwrap_or_else(|number| refused(number, 0))
+            lines(&passed).unwrap_or_else(|number| refused(number, 0))
         }
     }
 }
@@ -311,8 +311,8 @@ fn refused(number: u32, place: u64) -> Vec<u8> {
 }
 
 /// "path, a space, type word, a space, count"; 21 for a path above 65,536 bytes.
-fn lines(lent: &Lent) -> Result<Vec<u8>, u32> {
-    let reader = judged(lent)?;
+fn lines(passed: &Lent) -> Result<Vec<u8>, u32> {
+    let reader = judged(passed)?;
     let mut output = Vec::new();
     for number in 0..=reader.nodes() {
         if reader.path_length(number)? > LISTED as u64 {

@@ -1,4 +1,4 @@
-//! The frozen sample of the gate: images and this reader's answers, in the form that the program `second_cases` reads and writes.
+//! The frozen sample of the gate: images and this reader's answers, in the form that the program `test_second` reads and writes.
 
 use crate::answers::{self, Element, Lent};
 use crate::format::form_for;
@@ -11,7 +11,7 @@ const LARGEST: usize = 3000;
 /// At most so many elements of a node are written.
 const ELEMENTS: u64 = 8;
 
-/// Images one behind another, each behind its length in 4 bytes, and the answers.
+/// Images one after another, each after its length in 4 bytes, and the answers.
 pub struct Sample {
     pub input: Vec<u8>,
     pub output: Vec<u8>,
@@ -32,7 +32,7 @@ pub fn sample(seed: u64, count: usize) -> Result<Sample, u32> {
     Ok(Sample { input, output })
 }
 
-/// The refusal, or a line for each node in listing order: the lister's, and behind it the first elements.
+/// The refusal, or a line for each node in listing order: the lister's, and after it the first elements.
 fn answer(image: &[u8]) -> Result<Vec<u8>, u32> {
     match open(image, &form_for(image)) {
         Err((number, place)) => Ok(format!("refused {number} {place}\n").into_bytes()),
@@ -45,8 +45,8 @@ fn answer(image: &[u8]) -> Result<Vec<u8>, u32> {
     }
 }
 
-fn nodes(lent: &Lent) -> Result<Vec<u8>, u32> {
-    let reader = answers::judged(lent)?;
+fn nodes(passed: &Lent) -> Result<Vec<u8>, u32> {
+    let reader = answers::judged(passed)?;
     let mut output = Vec::new();
     for number in reader.order() {
         let count = reader.count(number)?;

@@ -1,5 +1,5 @@
 //! Damaged images: each kind of damage aims at one refusal from 2 to 13, with the sums made right again where the fault lies
-//! behind them. The base is a lawful image whose sections stand apart, so that number and place are known beforehand.
+//! after them. The base is a lawful image whose sections stand apart, so that number and place are known beforehand.
 
 use crate::format::{big, Edition, Kind, MOST, SIGNATURE, TEXT};
 use crate::images::{apart, image, Aim, Draft, Image, Node, DATA, NO_SUBKEYS, SYMBOLS, TREE};
@@ -123,7 +123,7 @@ fn form(random: &Random) -> Image {
     aimed(bytes, 4, 0, &format!("byte {place}"))
 }
 
-/// 5: a byte behind the signature, or of the sum itself, is another.
+/// 5: a byte after the signature, or of the sum itself, is another.
 fn header_byte(random: &Random) -> Image {
     let draft = plain(random);
     let edges = [
@@ -184,7 +184,7 @@ fn far(random: &Random, length: u64, old: Span) -> Span {
     Span { offset, size }
 }
 
-/// 6: "a section ends past the image", told the first of them.
+/// 6: "a section ends past the image", reported the first of them.
 fn outside(random: &Random) -> Image {
     let mut draft = plain(random);
     let sections = random.some_of(3);
@@ -202,7 +202,7 @@ fn outside(random: &Random) -> Image {
     aimed(draft.bytes, 6, sections[0] as u64 + 1, &what)
 }
 
-/// 7: "a section's sum wrong", told the first of them: a byte of the sum or of the section is another.
+/// 7: "a section's sum wrong", reported the first of them: a byte of the sum or of the section is another.
 fn section_sum(random: &Random) -> Image {
     let draft = plain(random);
     let (edition, spans) = (draft.edition, draft.spans);
@@ -331,7 +331,7 @@ fn tree_table(random: &Random) -> Image {
     }
 }
 
-/// An entry's fault is told whatever the count says.
+/// An entry's fault is reported whatever the count says.
 fn tree_fault(random: &Random, mut draft: Draft, place: u64, what: &str) -> Image {
     if random.one_in(2) {
         draft.records[TREE] = random.pick(&[place, place - 1, 0, u64::MAX]);
@@ -375,7 +375,7 @@ fn no_subkey(random: &Random, draft: &mut Draft) -> Option<u32> {
     Some(draft.strings.len() as u32 - 1)
 }
 
-/// 10: "parent or string number does not exist, or the string is no subkey", told the lowest node.
+/// 10: "parent or string number does not exist, or the string is no subkey", reported the lowest node.
 fn numbers(random: &Random) -> Image {
     let mut draft = base(random, 1);
     let nodes = draft.nodes.len() as u64;
@@ -420,7 +420,7 @@ fn is_below(nodes: &[Node], mut node: u64, above: u64) -> bool {
     node == above
 }
 
-/// 11: a node's parent is itself or one below it; told the lowest node of its subtree.
+/// 11: a node's parent is itself or one below it; reported the lowest node of its subtree.
 fn ring(random: &Random) -> Image {
     let mut draft = base(random, 1);
     let nodes = draft.nodes.len() as u64;
@@ -434,7 +434,7 @@ fn ring(random: &Random) -> Image {
     aimed(draft.finish(), 11, below[0], &what)
 }
 
-/// 12: a node is moved beside another and takes its name; told the higher of the two.
+/// 12: a node is moved beside another and takes its name; reported the higher of the two.
 fn twins(random: &Random) -> Image {
     loop {
         let mut draft = base(random, 2);
@@ -478,7 +478,7 @@ fn wrong_data(random: &Random, data: Span, width: u64) -> (u64, u64) {
     random.pick(&ways)
 }
 
-/// 13: "data not inside the data section", told the lowest node.
+/// 13: "data not inside the data section", reported the lowest node.
 fn data_outside(random: &Random) -> Image {
     let mut draft = base(random, 1);
     let nodes = draft.nodes.len();

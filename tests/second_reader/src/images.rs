@@ -59,7 +59,7 @@ pub struct Draft {
     pub edition: Edition,
     pub strings: Vec<Vec<u8>>,
     pub nodes: Vec<Node>,
-    /// Bytes behind the last entry, in the tree section; bytes cut off its end.
+    /// Bytes after the last entry, in the tree section; bytes cut off its end.
     pub tail: Vec<u8>,
     pub cut: usize,
     pub bytes: Vec<u8>,
@@ -291,7 +291,7 @@ pub fn draft(random: &Random, strings: Vec<Vec<u8>>, nodes: Vec<Node>) -> Draft 
     }
 }
 
-/// Places the three sections behind the header in some order, with or without gaps, none over another.
+/// Places the three sections after the header in some order, with or without gaps, none over another.
 pub fn apart(random: &Random, draft: &mut Draft) {
     let data = match random.below(6) {
         0 => 0,

@@ -26,15 +26,15 @@ fn run_of(seed: u64, number: u64) -> Run {
     plans::run(&random, nodes, random.pick(&[8, 200]))
 }
 
-/// The process that is killed: the calls of a run through the library, into a mapped file that holds its room. It says when it begins
+/// The process that is killed: the calls of a run through the library, into a mapped file that holds its buffer. It says when it begins
 /// and when it has closed.
 pub fn write(seed: u64, number: u64, file: &Path) -> io::Result<()> {
     let run = run_of(seed, number);
     let mut desk = library::desk_in(Mapped::of(file)?, &run);
     say("begins")?;
     let answers = play(&mut desk, &run.calls, u64::MAX);
-    match answers.iter().find(|told| told.is_err()) {
-        Some(told) => Err(io::Error::other(format!("a call was refused: {told:?}"))),
+    match answers.iter().find(|reported| reported.is_err()) {
+        Some(reported) => Err(io::Error::other(format!("a call was refused: {reported:?}"))),
         None => say("closed"),
     }
 }
@@ -100,7 +100,7 @@ impl Writing {
         Ok(())
     }
 
-    /// Kills it; tells whether the signal was what ended it, and whether it had said that it closed.
+    /// Kills it; reports whether the signal was what ended it, and whether it had said that it closed.
     fn kill(mut self) -> io::Result<(bool, bool)> {
         self.child.kill()?;
         let mut said = String::new();
@@ -173,14 +173,14 @@ impl Target {
             times: Times::default(),
         };
         target.times = target.timed(number)?;
-        let room = std::fs::read(&target.file)?;
-        report.same("not killed", &true, &(room == target.plan.finished));
+        let buffer = std::fs::read(&target.file)?;
+        report.same("not killed", &true, &(buffer == target.plan.finished));
         Ok(target)
     }
 
     /// A process that writes into the file as it was before the run.
     fn start(&self, number: u64) -> io::Result<Writing> {
-        std::fs::write(&self.file, &self.plan.run.room)?;
+        std::fs::write(&self.file, &self.plan.run.buffer)?;
         Writing::start(self.seed, number, &self.file)
     }
 
@@ -227,10 +227,10 @@ impl Target {
         let (by_signal, closed) = writing.kill()?;
         counts.by_signal += usize::from(by_signal);
         counts.closed += usize::from(closed);
-        let room = std::fs::read(&self.file)?;
-        let whole = room == self.plan.finished;
+        let buffer = std::fs::read(&self.file)?;
+        let whole = buffer == self.plan.finished;
         report.same("closed, and not whole", &false, &(closed && !whole));
-        Ok(room)
+        Ok(buffer)
     }
 
     /// A moment: while the process starts, in the whole time of its calls, at any store, or about the stores of close.
@@ -263,7 +263,7 @@ impl Target {
     /// Whether a store can be seen when it is made: it changes a byte, and not the first, which is stored twice.
     fn is_visible(&self, store: usize) -> bool {
         let (place, byte) = self.plan.stores[store];
-        place > 0 && self.plan.run.room[place] != byte
+        place > 0 && self.plan.run.buffer[place] != byte
     }
 }
 
@@ -279,13 +279,13 @@ pub fn kills(seed: u64, count: u64, folder: &Path, report: &mut Report) -> io::R
         }
         let target = target.as_ref().expect("made at number 0");
         let random = Random::of(!seed, number);
-        let room = target.left_by(number, target.moment(&random), &mut counts, report)?;
-        if let Some(left) = target.plan.left(&room, report) {
+        let buffer = target.left_by(number, target.moment(&random), &mut counts, report)?;
+        if let Some(left) = target.plan.left(&buffer, report) {
             *counts.left.entry(left).or_insert(0) += 1;
         }
-        counts.inside_close += usize::from(target.plan.is_inside_close(&room));
-        counts.in_order += usize::from(target.plan.is_in_order(&room));
-        report.end(&room);
+        counts.inside_close += usize::from(target.plan.is_inside_close(&buffer));
+        counts.in_order += usize::from(target.plan.is_in_order(&buffer));
+        report.end(&buffer);
     }
     std::fs::remove_file(folder.join("kill.aff"))?;
     counts.print(count);

@@ -5,7 +5,7 @@ use crate::answers::Lent;
 use crate::format::Refusal;
 use crate::open::{Record, Span};
 use crate::runs::{Alteration, Call, Desk, Run};
-use crate::writer::{Numbers, Told};
+use crate::writer::{Numbers, Reported};
 
 extern "C" {
     fn aff_open_image(
@@ -38,12 +38,12 @@ extern "C" {
     ) -> u32;
 }
 
-// The writer: its record is 7 numbers (what the last call told, the room's length, strings, bytes of text, nodes, bytes of
+// The writer: its record is 7 numbers (what the last call reported, the buffer's length, strings, bytes of text, nodes, bytes of
 // data, 1 while open) and the 12 bytes of form that it keeps.
 extern "C" {
     fn aff_begin(
-        room: *mut u8,
-        room_length: usize,
+        buffer: *mut u8,
+        buffer_length: usize,
         form: *const u8,
         form_length: usize,
         text: *mut u8,
@@ -56,8 +56,8 @@ extern "C" {
     ) -> u32;
 
     fn aff_make(
-        room: *const u8,
-        room_length: usize,
+        buffer: *const u8,
+        buffer_length: usize,
         numbers: *mut u64,
         kept: *const u8,
         text: *mut u8,
@@ -70,8 +70,8 @@ extern "C" {
     ) -> u32;
 
     fn aff_put(
-        room: *mut u8,
-        room_length: usize,
+        buffer: *mut u8,
+        buffer_length: usize,
         numbers: *mut u64,
         kept: *const u8,
         text: *const u8,
@@ -86,8 +86,8 @@ extern "C" {
     ) -> u32;
 
     fn aff_close(
-        room: *mut u8,
-        room_length: usize,
+        buffer: *mut u8,
+        buffer_length: usize,
         numbers: *mut u64,
         kept: *const u8,
         text: *const u8,
@@ -159,11 +159,11 @@ pub fn open(
             numbers.len(),
         )
     };
-    let told = match (number, numbers[0]) {
+    let reported = match (number, numbers[0]) {
         (0, 0) => Ok(()),
         (number, place) => Err((number, place)),
     };
-    (told, record_of(&numbers))
+    (reported, record_of(&numbers))
 }
 
 /// Element `index` of some bytes; 255 where no kind has the code.
@@ -180,15 +180,15 @@ pub fn decode(kind: u64, bytes: &[u8], index: u64) -> Result<(f64, f64), u32> {
             &mut imaginary,
         )
     };
-    told(number, (value, imaginary), (UNSET, UNSET))
+    reported(number, (value, imaginary), (UNSET, UNSET))
 }
 
 /// A value that a refused call must leave.
 const UNSET: f64 = 12345.5;
 const NONE: u64 = 0x5555_5555_5555_5555;
 
-/// An accepted call's value; a refused one must have left what it was lent.
-fn told<T: PartialEq>(number: u32, value: T, before: T) -> Result<T, u32> {
+/// An accepted call's value; a refused one must have left what it was passed.
+fn reported<T: PartialEq>(number: u32, value: T, before: T) -> Result<T, u32> {
     match number {
         0 => Ok(value),
         _ if value == before => Err(number),
@@ -230,43 +230,43 @@ fn numbers_of(record: &Record) -> [u64; 12] {
     ]
 }
 
-/// Calls a reading function with what is lent and with its own arguments.
+/// Calls a reading function with what is passed and with its own arguments.
 macro_rules! ask {
-    ($name:ident, $lent:expr, $($argument:expr),*) => {{
-        let lent = $lent;
-        let numbers = numbers_of(&lent.record);
+    ($name:ident, $passed:expr, $($argument:expr),*) => {{
+        let passed = $passed;
+        let numbers = numbers_of(&passed.record);
         // SAFETY: pointers and lengths are of live slices and variables that do not overlap.
         unsafe {
             $name(
-                lent.image.as_ptr(),
-                lent.image.len(),
+                passed.image.as_ptr(),
+                passed.image.len(),
                 numbers.as_ptr(),
-                lent.strings.as_ptr(),
-                lent.strings.len(),
-                lent.entries.as_ptr(),
-                lent.entries.len(),
+                passed.strings.as_ptr(),
+                passed.strings.len(),
+                passed.entries.as_ptr(),
+                passed.entries.len(),
                 $($argument),*
             )
         }
     }};
 }
 
-pub fn lookup(lent: &Lent, path: &[u8]) -> Result<u64, u32> {
+pub fn lookup(passed: &Lent, path: &[u8]) -> Result<u64, u32> {
     let mut node = NONE;
-    let number = ask!(aff_lookup, lent, path.as_ptr(), path.len(), &mut node);
-    told(number, node, NONE)
+    let number = ask!(aff_lookup, passed, path.as_ptr(), path.len(), &mut node);
+    reported(number, node, NONE)
 }
 
-pub fn name(lent: &Lent, node: u64) -> Result<Span, u32> {
+pub fn name(passed: &Lent, node: u64) -> Result<Span, u32> {
     let (mut offset, mut size) = (NONE, NONE);
-    let number = ask!(aff_name, lent, node, &mut offset, &mut size);
-    told(number, Span { offset, size }, span_unset())
+    let number = ask!(aff_name, passed, node, &mut offset, &mut size);
+    reported(number, Span { offset, size }, span_unset())
 }
 
-pub fn view(lent: &Lent, node: u64) -> Result<Span, u32> {
+pub fn view(passed: &Lent, node: u64) -> Result<Span, u32> {
     let (mut offset, mut size) = (NONE, NONE);
-    let number = ask!(aff_view, lent, node, &mut offset, &mut size);
-    told(number, Span { offset, size }, span_unset())
+    let number = ask!(aff_view, passed, node, &mut offset, &mut size);
+    reported(number, Span { offset, size }, span_unset())
 }
 
 fn span_unset() -> Span {
@@ -276,52 +276,52 @@ fn span_unset() -> Span {
     }
 }
 
-pub fn kind(lent: &Lent, node: u64) -> Result<u64, u32> {
+pub fn kind(passed: &Lent, node: u64) -> Result<u64, u32> {
     let mut kind = NONE;
-    let number = ask!(aff_kind, lent, node, &mut kind);
-    told(number, kind, NONE)
+    let number = ask!(aff_kind, passed, node, &mut kind);
+    reported(number, kind, NONE)
 }
 
-pub fn count(lent: &Lent, node: u64) -> Result<u64, u32> {
+pub fn count(passed: &Lent, node: u64) -> Result<u64, u32> {
     let mut count = NONE;
-    let number = ask!(aff_count, lent, node, &mut count);
-    told(number, count, NONE)
+    let number = ask!(aff_count, passed, node, &mut count);
+    reported(number, count, NONE)
 }
 
-pub fn path_into(lent: &Lent, node: u64, output: &mut [u8]) -> Result<u64, u32> {
+pub fn path_into(passed: &Lent, node: u64, output: &mut [u8]) -> Result<u64, u32> {
     let mut size = NONE;
     let number = ask!(
         aff_path,
-        lent,
+        passed,
         node,
         output.as_mut_ptr(),
         output.len(),
         &mut size
     );
-    told(number, size, NONE)
+    reported(number, size, NONE)
 }
 
-pub fn order_into(lent: &Lent, output: &mut [u32]) -> Result<u64, u32> {
+pub fn order_into(passed: &Lent, output: &mut [u32]) -> Result<u64, u32> {
     let mut count = NONE;
     let number = ask!(
         aff_listing,
-        lent,
+        passed,
         output.as_mut_ptr(),
         output.len(),
         &mut count
     );
-    told(number, count, NONE)
+    reported(number, count, NONE)
 }
 
-pub fn element(lent: &Lent, node: u64, index: u64) -> Result<(f64, f64), u32> {
+pub fn element(passed: &Lent, node: u64, index: u64) -> Result<(f64, f64), u32> {
     let (mut value, mut imaginary) = (UNSET, UNSET);
-    let number = ask!(aff_element, lent, node, index, &mut value, &mut imaginary);
-    told(number, (value, imaginary), (UNSET, UNSET))
+    let number = ask!(aff_element, passed, node, index, &mut value, &mut imaginary);
+    reported(number, (value, imaginary), (UNSET, UNSET))
 }
 
-/// The library's writer with all that it is lent; the room is in memory or a mapped file.
-struct Writer<Room> {
-    room: Room,
+/// The library's writer with all that it is passed; the buffer is in memory or a mapped file.
+struct Writer<Buffer> {
+    buffer: Buffer,
     text: Vec<u8>,
     tree: Vec<u8>,
     numbers: [u64; 7],
@@ -330,13 +330,13 @@ struct Writer<Room> {
 
 /// The library's writer for a run, not yet begun.
 pub fn desk(run: &Run) -> Box<dyn Desk> {
-    Box::new(desk_in(run.room.clone(), run))
+    Box::new(desk_in(run.buffer.clone(), run))
 }
 
-/// The library's writer for a run in a room of the caller's.
-pub fn desk_in<Room: AsRef<[u8]> + AsMut<[u8]>>(room: Room, run: &Run) -> impl Desk {
+/// The library's writer for a run in a buffer of the caller's.
+pub fn desk_in<Buffer: AsRef<[u8]> + AsMut<[u8]>>(buffer: Buffer, run: &Run) -> impl Desk {
     Writer {
-        room,
+        buffer,
         text: run.text.clone(),
         tree: run.tree.clone(),
         numbers: [0; 7],
@@ -344,14 +344,14 @@ pub fn desk_in<Room: AsRef<[u8]> + AsMut<[u8]>>(room: Room, run: &Run) -> impl D
     }
 }
 
-impl<Room: AsRef<[u8]> + AsMut<[u8]>> Writer<Room> {
+impl<Buffer: AsRef<[u8]> + AsMut<[u8]>> Writer<Buffer> {
     fn begin(&mut self, form: &[u8], allowance: u64) -> u32 {
-        let room = self.room.as_mut();
+        let buffer = self.buffer.as_mut();
         // SAFETY: pointers and lengths are of live slices that do not overlap, here and below.
         unsafe {
             aff_begin(
-                room.as_mut_ptr(),
-                room.len(),
+                buffer.as_mut_ptr(),
+                buffer.len(),
                 form.as_ptr(),
                 form.len(),
                 self.text.as_mut_ptr(),
@@ -366,11 +366,11 @@ impl<Room: AsRef<[u8]> + AsMut<[u8]>> Writer<Room> {
     }
 
     fn make(&mut self, parent: u64, name: &[u8]) -> u32 {
-        let room = self.room.as_ref();
+        let buffer = self.buffer.as_ref();
         unsafe {
             aff_make(
-                room.as_ptr(),
-                room.len(),
+                buffer.as_ptr(),
+                buffer.len(),
                 self.numbers.as_mut_ptr(),
                 self.kept.as_ptr(),
                 self.text.as_mut_ptr(),
@@ -385,11 +385,11 @@ impl<Room: AsRef<[u8]> + AsMut<[u8]>> Writer<Room> {
     }
 
     fn put(&mut self, node: u64, kind: u64, bytes: &[u8], allowance: u64) -> u32 {
-        let room = self.room.as_mut();
+        let buffer = self.buffer.as_mut();
         unsafe {
             aff_put(
-                room.as_mut_ptr(),
-                room.len(),
+                buffer.as_mut_ptr(),
+                buffer.len(),
                 self.numbers.as_mut_ptr(),
                 self.kept.as_ptr(),
                 self.text.as_ptr(),
@@ -406,11 +406,11 @@ impl<Room: AsRef<[u8]> + AsMut<[u8]>> Writer<Room> {
     }
 
     fn close(&mut self, allowance: u64) -> u32 {
-        let room = self.room.as_mut();
+        let buffer = self.buffer.as_mut();
         unsafe {
             aff_close(
-                room.as_mut_ptr(),
-                room.len(),
+                buffer.as_mut_ptr(),
+                buffer.len(),
                 self.numbers.as_mut_ptr(),
                 self.kept.as_ptr(),
                 self.text.as_ptr(),
@@ -431,7 +431,7 @@ impl<Room: AsRef<[u8]> + AsMut<[u8]>> Writer<Room> {
             Alteration::Data(number) => self.numbers[5] = number,
             Alteration::Flag(number) => self.numbers[6] = number,
             Alteration::Byte(area, place, byte) => {
-                let areas = [self.room.as_mut(), &mut self.text, &mut self.tree];
+                let areas = [self.buffer.as_mut(), &mut self.text, &mut self.tree];
                 if let Some(old) = areas
                     .into_iter()
                     .nth(area % 3)
@@ -444,8 +444,8 @@ impl<Room: AsRef<[u8]> + AsMut<[u8]>> Writer<Room> {
     }
 }
 
-impl<Room: AsRef<[u8]> + AsMut<[u8]>> Desk for Writer<Room> {
-    fn call(&mut self, call: &Call, allowance: u64) -> Told {
+impl<Buffer: AsRef<[u8]> + AsMut<[u8]>> Desk for Writer<Buffer> {
+    fn call(&mut self, call: &Call, allowance: u64) -> Reported {
         let number = match call {
             Call::Begin(form) => self.begin(form, allowance),
             Call::Make(parent, name) => self.make(*parent, name),
@@ -463,7 +463,7 @@ impl<Room: AsRef<[u8]> + AsMut<[u8]>> Desk for Writer<Room> {
     }
 
     fn memory(&self) -> [&[u8]; 3] {
-        [self.room.as_ref(), &self.text, &self.tree]
+        [self.buffer.as_ref(), &self.text, &self.tree]
     }
 
     fn numbers(&self) -> Numbers {

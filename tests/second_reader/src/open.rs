@@ -36,7 +36,7 @@ pub struct Record {
 }
 
 /// An accepted opening: "The work areas after an accepted opening hold the image place of each string and of each entry,
-/// and zero behind them."
+/// and zero after them."
 pub struct Opened {
     pub record: Record,
     pub strings: Vec<u32>,
@@ -63,7 +63,7 @@ pub fn open_lent(
     strings_length: usize,
     entries_length: usize,
 ) -> Result<Opened, Refusal> {
-    lent(image, form, strings_length, entries_length)?;
+    passed(image, form, strings_length, entries_length)?;
     let edition = signature(image, form)?;
     header_sum(image, edition)?;
     let headers = [0, 1, 2].map(|section| section_header(image, edition, section));
@@ -92,7 +92,7 @@ pub fn open_lent(
     })
 }
 
-/// A work area: the places, and zero behind them.
+/// A work area: the places, and zero after them.
 fn area(places: &[usize]) -> Vec<u32> {
     let mut area = vec![0; MOST];
     for (number, place) in area.iter_mut().zip(places) {
@@ -102,7 +102,7 @@ fn area(places: &[usize]) -> Vec<u32> {
 }
 
 /// 1: "a lent area or the 12 bytes has another length, or the image is too long".
-fn lent(image: &[u8], form: &[u8], strings: usize, entries: usize) -> Result<(), Refusal> {
+fn passed(image: &[u8], form: &[u8], strings: usize, entries: usize) -> Result<(), Refusal> {
     let long = image.len() as u64 > LONGEST_IMAGE;
     if long || form.len() != 12 || strings != MOST || entries != MOST {
         return Err((1, 0));
@@ -150,7 +150,7 @@ fn section_header(image: &[u8], edition: Edition, section: usize) -> Header {
     }
 }
 
-/// 6: "a section ends past the image", told 1 symbol, 2 tree, 3 data.
+/// 6: "a section ends past the image", reported 1 symbol, 2 tree, 3 data.
 fn sections_inside(image: &[u8], headers: &[Header; 3]) -> Result<(), Refusal> {
     let whole = Span {
         offset: 0,
@@ -169,7 +169,7 @@ fn section(image: &[u8], span: Span) -> &[u8] {
     &image[span.offset as usize..][..span.size as usize]
 }
 
-/// 7: "a section's sum wrong", told as 6.
+/// 7: "a section's sum wrong", reported as 6.
 fn section_sums(image: &[u8], headers: &[Header; 3]) -> Result<(), Refusal> {
     for (number, header) in (1..).zip(headers) {
         if md5(section(image, header.span)) != header.sum {
@@ -208,7 +208,7 @@ pub fn until_zero(bytes: &[u8]) -> &[u8] {
     &bytes[..end.unwrap_or(bytes.len())]
 }
 
-/// 9: "tree table: entry cut short, type not 1 to 5, a 2,049th entry (before its type is read), or count differs", told the
+/// 9: "tree table: entry cut short, type not 1 to 5, a 2,049th entry (before its type is read), or count differs", reported the
 /// entry, or 0 for the count. The image places.
 fn tree_table(image: &[u8], header: &Header) -> Result<Vec<usize>, Refusal> {
     let mut at = header.span.offset as usize;
@@ -240,7 +240,7 @@ fn name<'a>(image: &'a [u8], node: &Entry, strings: &[usize]) -> &'a [u8] {
     until_zero(&image[strings[node.string as usize]..])
 }
 
-/// 10: "parent or string number does not exist, or the string is no subkey", told the lowest node.
+/// 10: "parent or string number does not exist, or the string is no subkey", reported the lowest node.
 fn numbers_exist(image: &[u8], nodes: &[Entry], strings: &[usize]) -> Result<(), Refusal> {
     for (number, node) in (1..).zip(nodes) {
         let parent = node.parent <= nodes.len() as u64;
@@ -264,13 +264,13 @@ pub fn reaches_root(nodes: &[Entry], number: u64) -> bool {
     at == 0
 }
 
-/// 11: "the climb does not reach the root", told the lowest node.
+/// 11: "the climb does not reach the root", reported the lowest node.
 fn climbs_end(nodes: &[Entry]) -> Result<(), Refusal> {
     let lost = (1..=nodes.len() as u64).find(|number| !reaches_root(nodes, *number));
     lost.map_or(Ok(()), |number| Err((11, number)))
 }
 
-/// 12: "a lower-numbered sibling has its name", told the lowest node. Names are compared, not string numbers.
+/// 12: "a lower-numbered sibling has its name", reported the lowest node. Names are compared, not string numbers.
 fn siblings_differ(image: &[u8], nodes: &[Entry], strings: &[usize]) -> Result<(), Refusal> {
     let mut seen = HashSet::new();
     for (number, node) in (1..).zip(nodes) {
@@ -281,7 +281,7 @@ fn siblings_differ(image: &[u8], nodes: &[Entry], strings: &[usize]) -> Result<(
     Ok(())
 }
 
-/// 13: "data not inside the data section", told the lowest node. Offsets count from the start of the file.
+/// 13: "data not inside the data section", reported the lowest node. Offsets count from the start of the file.
 fn data_inside(nodes: &[Entry], data: Span) -> Result<(), Refusal> {
     for (number, node) in (1..).zip(nodes) {
         if node.kind != Kind::Void && !data.holds(node.offset, node.bytes()) {

@@ -54,17 +54,17 @@ pub fn run(random: &Random, nodes: usize, most: usize) -> Run {
     }
     calls.push(Call::Close);
     Run {
-        room: before(random, size + random.below(3) * 512),
+        buffer: before(random, size + random.below(3) * 512),
         text: random.bytes(TEXT_AREA),
         tree: random.bytes(TREE_AREA),
         calls,
     }
 }
 
-/// Document 01's worked run, in a room of 214 zeros.
+/// Document 01's worked run, in a buffer of 214 zeros.
 pub fn worked() -> Run {
     Run {
-        room: vec![0; 214],
+        buffer: vec![0; 214],
         text: vec![0; TEXT_AREA],
         tree: vec![0; TREE_AREA],
         calls: worked_calls(),
@@ -77,11 +77,11 @@ fn before(random: &Random, size: usize) -> Vec<u8> {
         0 => vec![0; size],
         1 => random.bytes(size),
         _ => {
-            let room = random.bytes(size);
-            let mut old = Writer::lent(room, vec![0; TEXT_AREA], vec![0; TREE_AREA]);
+            let buffer = random.bytes(size);
+            let mut old = Writer::passed(buffer, vec![0; TEXT_AREA], vec![0; TREE_AREA]);
             let calls = [Call::Begin(Edition::Two.form().to_vec()), Call::Close];
             play(&mut old, &calls, u64::MAX);
-            old.room
+            old.buffer
         }
     }
 }
@@ -105,24 +105,24 @@ impl Plan {
             }
             answers.extend(play(&mut model, std::slice::from_ref(call), u64::MAX));
         }
-        shows_run(&run.calls, &answers, &model.room, report);
+        shows_run(&run.calls, &answers, &model.buffer, report);
         Plan {
-            finished: model.room,
+            finished: model.buffer,
             run,
             stores,
             before_close,
         }
     }
 
-    /// What is left of the file: as it was, refused by 3, or whole. Anything else is told, and is `None`.
-    pub fn left(&self, room: &[u8], report: &mut Report) -> Option<Left> {
-        let by_library = opened_by_library(room);
-        let here = open(room, &Edition::Two.form()).map(|_| ()).err();
+    /// What is left of the file: as it was, refused by 3, or whole. Anything else is reported, and is `None`.
+    pub fn left(&self, buffer: &[u8], report: &mut Report) -> Option<Left> {
+        let by_library = opened_by_library(buffer);
+        let here = open(buffer, &Edition::Two.form()).map(|_| ()).err();
         report.same("opening", &here, &by_library);
         let left = match here {
-            _ if room == self.run.room => Some(Left::AsItWas),
+            _ if buffer == self.run.buffer => Some(Left::AsItWas),
             Some((3, 0)) => Some(Left::Refused),
-            None if room == self.finished => Some(Left::Whole),
+            None if buffer == self.finished => Some(Left::Whole),
             _ => None,
         };
         report.same("as it was, refused by 3, or whole", &true, &left.is_some());
@@ -130,9 +130,9 @@ impl Plan {
     }
 
     /// Whether a file is exactly what the first so many stores in order leave, for some number of them.
-    pub fn is_in_order(&self, room: &[u8]) -> bool {
-        let before = &self.run.room;
-        let mut different = before.iter().zip(room).filter(|(a, b)| a != b).count();
+    pub fn is_in_order(&self, buffer: &[u8]) -> bool {
+        let before = &self.run.buffer;
+        let mut different = before.iter().zip(buffer).filter(|(a, b)| a != b).count();
         let mut first = before[0];
         for (place, byte) in &self.stores {
             if different == 0 {
@@ -143,24 +143,24 @@ impl Plan {
                 0 => std::mem::replace(&mut first, *byte),
                 _ => before[*place],
             };
-            different += usize::from(*byte != room[*place]);
-            different -= usize::from(old != room[*place]);
+            different += usize::from(*byte != buffer[*place]);
+            different -= usize::from(old != buffer[*place]);
         }
         different == 0
     }
 
     /// Whether some store of close is to be seen in a file, but not all.
-    pub fn is_inside_close(&self, room: &[u8]) -> bool {
-        let seen = |(place, byte): &Store| room[*place] == *byte && self.run.room[*place] != *byte;
-        room != self.finished && self.stores[self.before_close..].iter().any(seen)
+    pub fn is_inside_close(&self, buffer: &[u8]) -> bool {
+        let seen = |(place, byte): &Store| buffer[*place] == *byte && self.run.buffer[*place] != *byte;
+        buffer != self.finished && self.stores[self.before_close..].iter().any(seen)
     }
 }
 
-/// What the library's opening tells of a file: none where it accepts.
-fn opened_by_library(room: &[u8]) -> Option<Refusal> {
+/// What the library's opening reports of a file: none where it accepts.
+fn opened_by_library(buffer: &[u8]) -> Option<Refusal> {
     let (mut strings, mut entries) = (vec![0; 2048], vec![0; 2048]);
-    let form = library::form_for(room);
-    library::open(room, &form, &mut strings, &mut entries)
+    let form = library::form_for(buffer);
+    library::open(buffer, &form, &mut strings, &mut entries)
         .0
         .err()
 }
@@ -178,10 +178,10 @@ mod tests {
         plan
     }
 
-    /// What a file is judged as, and whether anything was told of it.
-    fn judged(plan: &Plan, room: &[u8]) -> (Option<Left>, bool) {
+    /// What a file is judged as, and whether anything was reported of it.
+    fn judged(plan: &Plan, buffer: &[u8]) -> (Option<Left>, bool) {
         let mut report = Report::default();
-        let left = plan.left(room, &mut report);
+        let left = plan.left(buffer, &mut report);
         report.end(&[]);
         (left, report.finish())
     }
@@ -190,17 +190,17 @@ mod tests {
     #[test]
     fn in_order() {
         let plan = planned(run(&Random::of(3, 7), 4, 3));
-        let mut room = plan.run.room.clone();
-        assert_eq!(judged(&plan, &room), (Some(Left::AsItWas), true));
+        let mut buffer = plan.run.buffer.clone();
+        assert_eq!(judged(&plan, &buffer), (Some(Left::AsItWas), true));
         for (made, (place, byte)) in (1..).zip(&plan.stores) {
-            room[*place] = *byte;
+            buffer[*place] = *byte;
             let left = match made == plan.stores.len() {
                 true => Left::Whole,
-                false if room == plan.run.room => Left::AsItWas,
+                false if buffer == plan.run.buffer => Left::AsItWas,
                 false => Left::Refused,
             };
-            assert_eq!(judged(&plan, &room), (Some(left), true), "{made}");
-            assert!(plan.is_in_order(&room), "{made}");
+            assert_eq!(judged(&plan, &buffer), (Some(left), true), "{made}");
+            assert!(plan.is_in_order(&buffer), "{made}");
         }
     }
 
@@ -208,13 +208,13 @@ mod tests {
     #[test]
     fn out_of_order() {
         let plan = planned(worked());
-        let mut room = plan.finished.clone();
+        let mut buffer = plan.finished.clone();
         let (place, byte) = plan.stores[plan.stores.len() - 2];
-        assert_ne!(byte, plan.run.room[place]);
-        room[place] = plan.run.room[place];
-        assert_eq!(judged(&plan, &room), (None, false));
-        assert!(!plan.is_in_order(&room));
-        assert!(plan.is_inside_close(&room));
+        assert_ne!(byte, plan.run.buffer[place]);
+        buffer[place] = plan.run.buffer[place];
+        assert_eq!(judged(&plan, &buffer), (None, false));
+        assert!(!plan.is_in_order(&buffer));
+        assert!(plan.is_inside_close(&buffer));
     }
 
     /// Every call of a planned run is accepted, and the worked run makes 1 + 4 + 210 stores.

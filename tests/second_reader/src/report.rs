@@ -55,8 +55,8 @@ impl Report {
     }
 
     /// This reader's verdict, beside what the maker of the image knows.
-    pub fn opened<T>(&mut self, image: &Image, told: &Result<T, Refusal>) {
-        let refusal = told.as_ref().err().copied();
+    pub fn opened<T>(&mut self, image: &Image, reported: &Result<T, Refusal>) {
+        let refusal = reported.as_ref().err().copied();
         *self
             .by_number
             .entry(refusal.map_or(0, |r| r.0))
@@ -69,12 +69,12 @@ impl Report {
     }
 
     /// The number of one call's answer, 0 where it is accepted.
-    pub fn told(&mut self, told: &Result<u64, Refusal>) {
-        let number = told.as_ref().err().map_or(0, |refusal| refusal.0);
+    pub fn reported(&mut self, reported: &Result<u64, Refusal>) {
+        let number = reported.as_ref().err().map_or(0, |refusal| refusal.0);
         *self.by_number.entry(number).or_insert(0) += 1;
     }
 
-    /// Whether a state of lent memory passed 24.
+    /// Whether a state of passed memory passed 24.
     pub fn judged(&mut self, passed: bool) {
         self.judged[usize::from(passed)] += 1;
     }

@@ -7,7 +7,7 @@ use crate::images::subkey;
 use crate::open::open;
 use crate::random::Random;
 use crate::report::Report;
-use crate::writer::{Numbers, Record, Told, Writer, TEXT_AREA, TREE_AREA};
+use crate::writer::{Numbers, Record, Reported, Writer, TEXT_AREA, TREE_AREA};
 
 /// One call with its arguments; allowances come from a total that is handed down.
 #[derive(Clone, Debug)]
@@ -16,11 +16,11 @@ pub enum Call {
     Make(u64, Vec<u8>),
     Put(u64, u64, Vec<u8>),
     Close,
-    /// No call of the library: the caller alters what is lent.
+    /// No call of the library: the caller alters what is passed.
     Alter(Alteration),
 }
 
-/// A number of the record, or a byte of room, text area or tree area.
+/// A number of the record, or a byte of buffer, text area or tree area.
 #[derive(Clone, Copy, Debug)]
 pub enum Alteration {
     Length(u64),
@@ -34,15 +34,15 @@ pub enum Alteration {
 
 /// What takes the calls of a run: the model, or the library's writer.
 pub trait Desk {
-    fn call(&mut self, call: &Call, allowance: u64) -> Told;
-    /// Room, text area, tree area.
+    fn call(&mut self, call: &Call, allowance: u64) -> Reported;
+    /// Buffer, text area, tree area.
     fn memory(&self) -> [&[u8]; 3];
     /// The 7 numbers and the form, as the caller of the C side sees them.
     fn numbers(&self) -> Numbers;
 }
 
 impl Desk for Writer {
-    fn call(&mut self, call: &Call, allowance: u64) -> Told {
+    fn call(&mut self, call: &Call, allowance: u64) -> Reported {
         let answer = match call {
             Call::Begin(form) => self.begin(form, allowance),
             Call::Make(parent, name) => self.make(*parent, name),
@@ -55,7 +55,7 @@ impl Desk for Writer {
     }
 
     fn memory(&self) -> [&[u8]; 3] {
-        [&self.room, &self.text, &self.tree]
+        [&self.buffer, &self.text, &self.tree]
     }
 
     fn numbers(&self) -> Numbers {
@@ -74,7 +74,7 @@ impl Desk for Writer {
 }
 
 impl Writer {
-    fn alter(&mut self, alteration: &Alteration) -> Told {
+    fn alter(&mut self, alteration: &Alteration) -> Reported {
         match *alteration {
             Alteration::Length(number) => self.record.length = number,
             Alteration::Strings(number) => self.record.strings = number,
@@ -84,7 +84,7 @@ impl Writer {
             Alteration::Flag(number) => self.record.flag = number,
             Alteration::Byte(area, place, byte) => {
                 let area =
-                    [&mut self.room, &mut self.text, &mut self.tree][area % 3].get_mut(place);
+                    [&mut self.buffer, &mut self.text, &mut self.tree][area % 3].get_mut(place);
                 if let Some(old) = area {
                     *old = byte;
                 }
@@ -94,9 +94,9 @@ impl Writer {
     }
 }
 
-/// A run: what is lent, and the calls.
+/// A run: what is passed, and the calls.
 pub struct Run {
-    pub room: Vec<u8>,
+    pub buffer: Vec<u8>,
     pub text: Vec<u8>,
     pub tree: Vec<u8>,
     pub calls: Vec<Call>,
@@ -105,7 +105,7 @@ pub struct Run {
 impl Run {
     /// The model for this run, not yet begun.
     pub fn desk(&self) -> Writer {
-        Writer::lent(self.room.clone(), self.text.clone(), self.tree.clone())
+        Writer::passed(self.buffer.clone(), self.text.clone(), self.tree.clone())
     }
 
     fn is_altered(&self) -> bool {
@@ -113,9 +113,9 @@ impl Run {
     }
 }
 
-/// Stores that a call made: an accepted make tells a node, and stores nothing.
-fn stores(call: &Call, told: &Told) -> u64 {
-    match (call, told) {
+/// Stores that a call made: an accepted make reports a node, and stores nothing.
+fn stores(call: &Call, reported: &Reported) -> u64 {
+    match (call, reported) {
         (Call::Make(..), _) => 0,
         (_, Ok(made)) => *made,
         (_, Err((23, made))) => *made,
@@ -124,13 +124,13 @@ fn stores(call: &Call, told: &Told) -> u64 {
 }
 
 /// Plays the calls with a total allowance: each gets what the earlier ones left. The answers.
-pub fn play(desk: &mut dyn Desk, calls: &[Call], total: u64) -> Vec<Told> {
+pub fn play(desk: &mut dyn Desk, calls: &[Call], total: u64) -> Vec<Reported> {
     let mut left = total;
     let mut answers = Vec::new();
     for call in calls {
-        let told = desk.call(call, left);
-        left -= stores(call, &told);
-        answers.push(told);
+        let reported = desk.call(call, left);
+        left -= stores(call, &reported);
+        answers.push(reported);
     }
     answers
 }
@@ -157,7 +157,7 @@ struct Described {
 }
 
 /// "Calls describe a tree by their arguments and by which were accepted. It starts as node 0, nameless and Void."
-fn described(calls: &[Call], answers: &[Told]) -> Vec<Described> {
+fn described(calls: &[Call], answers: &[Reported]) -> Vec<Described> {
     let root = Described {
         parent: 0,
         name: Vec::new(),
@@ -165,8 +165,8 @@ fn described(calls: &[Call], answers: &[Told]) -> Vec<Described> {
         bytes: Vec::new(),
     };
     let mut tree = vec![root.clone()];
-    for (call, told) in calls.iter().zip(answers) {
-        match (call, told) {
+    for (call, reported) in calls.iter().zip(answers) {
+        match (call, reported) {
             (Call::Begin(_), Ok(_)) => tree.truncate(1),
             (Call::Make(parent, name), Ok(_)) => tree.push(Described {
                 parent: *parent,
@@ -200,17 +200,17 @@ fn path_in(tree: &[Described], number: usize) -> Vec<u8> {
 
 /// "An opened file shows this tree if each of the tree's numbers answers with its name, path (output long enough), type, count
 /// and bytes, and any other number with 15."
-fn shows(room: &[u8], form: &[u8], tree: &[Described], report: &mut Report) {
-    let opened = open(room, form);
+fn shows(buffer: &[u8], form: &[u8], tree: &[Described], report: &mut Report) {
+    let opened = open(buffer, form);
     report.same("opened", &true, &opened.is_ok());
     let Ok(opened) = opened else { return };
-    let lent = Lent {
-        image: room,
+    let passed = Lent {
+        image: buffer,
         record: opened.record,
         strings: &opened.strings,
         entries: &opened.entries,
     };
-    let Ok(reader) = judged(&lent) else {
+    let Ok(reader) = judged(&passed) else {
         report.same("24", &true, &false);
         return;
     };
@@ -229,7 +229,7 @@ fn shows(room: &[u8], form: &[u8], tree: &[Described], report: &mut Report) {
         report.same("path length", &Ok(path.len() as u64), &length);
         report.same("path", &[path.as_slice(), b".."].concat(), &output);
         report.same("kind", &Ok(node.kind), &reader.kind(n));
-        shows_data(&reader, n, node, room, report);
+        shows_data(&reader, n, node, buffer, report);
     }
     let past = [tree.len() as u64, u64::MAX].map(|n| reader.kind(n));
     report.same("other numbers", &[Err(15), Err(15)], &past);
@@ -245,12 +245,12 @@ fn order_length(reader: &Reader) -> u64 {
 }
 
 /// Count, bytes, and each element decoded.
-fn shows_data(reader: &Reader, n: u64, node: &Described, room: &[u8], report: &mut Report) {
+fn shows_data(reader: &Reader, n: u64, node: &Described, buffer: &[u8], report: &mut Report) {
     let width = node.kind.width().max(1);
     let count = (node.bytes.len() / width) as u64;
     let view = reader.view(n).map(|part| {
         let part = part.unwrap_or_default();
-        room[part.offset as usize..][..part.size as usize].to_vec()
+        buffer[part.offset as usize..][..part.size as usize].to_vec()
     });
     report.same("count", &Ok(count), &reader.count(n));
     report.same("bytes", &Ok(node.bytes.clone()), &view);
@@ -269,7 +269,7 @@ enum Style {
     Many,
     /// Long names, up to the end of the text area.
     Long,
-    /// What is lent is altered between calls.
+    /// What is passed is altered between calls.
     Altered,
 }
 
@@ -282,7 +282,7 @@ pub fn random_run(random: &Random) -> Run {
         _ => Style::Usual,
     };
     let mut run = Run {
-        room: room(random, style),
+        buffer: buffer(random, style),
         text: random.bytes(area(random, TEXT_AREA)),
         tree: random.bytes(area(random, TREE_AREA)),
         calls: Vec::new(),
@@ -307,8 +307,8 @@ pub fn random_run(random: &Random) -> Run {
         add(&mut run, &mut model, random.pick(&more));
     }
     if style == Style::Usual && closed && random.one_in(3) {
-        // The finished size, or one byte around it: the last calls that need room are refused or just fit.
-        run.room
+        // The finished size, or one byte around it: the last calls that need buffer are refused or just fit.
+        run.buffer
             .resize(model.finished() as usize - 1 + random.below(3), 5);
     }
     if random.one_in(6) {
@@ -325,8 +325,8 @@ fn add(run: &mut Run, model: &mut Writer, call: Call) -> bool {
     accepted
 }
 
-/// A room: of zeros, of anything, or one that holds a finished file; of any length about the least, or long enough.
-fn room(random: &Random, style: Style) -> Vec<u8> {
+/// A buffer: of zeros, of anything, or one that holds a finished file; of any length about the least, or long enough.
+fn buffer(random: &Random, style: Style) -> Vec<u8> {
     let length = match (style, random.below(7)) {
         (Style::Many | Style::Long, _) => 140_000,
         (_, 0) => random.pick(&[0, 1, 167, 168, 169, 181, 213, 214]),
@@ -337,10 +337,10 @@ fn room(random: &Random, style: Style) -> Vec<u8> {
         0 => vec![0; length],
         1 => random.bytes(length),
         _ => {
-            let mut old = Writer::lent(vec![9; length], vec![0; TEXT_AREA], vec![0; TREE_AREA]);
+            let mut old = Writer::passed(vec![9; length], vec![0; TEXT_AREA], vec![0; TREE_AREA]);
             let calls = [Call::Begin(Edition::Two.form().to_vec()), Call::Close];
             play(&mut old, &calls, u64::MAX);
-            old.room
+            old.buffer
         }
     }
 }
@@ -435,7 +435,7 @@ fn alteration(random: &Random, now: &Writer) -> Alteration {
         3 => Alteration::Nodes(other(record.nodes)),
         4 => Alteration::Data(other(record.data)),
         5..=6 => Alteration::Flag(random.pick(&[0, 1, 2, 7, 256, 1 << 32 | 1, u64::MAX, any])),
-        7..=8 => Alteration::Byte(0, random.below(now.room.len()), random.byte()),
+        7..=8 => Alteration::Byte(0, random.below(now.buffer.len()), random.byte()),
         9..=11 => {
             let place = random.below(record.text.min(TEXT_AREA as u64) as usize + 1);
             Alteration::Byte(1, place, random.pick(b"ab/9aabb\0"))
@@ -473,7 +473,7 @@ fn undone(alteration: &Alteration, now: &Writer) -> Alteration {
         Alteration::Data(_) => Alteration::Data(record.data),
         Alteration::Flag(_) => Alteration::Flag(record.flag),
         Alteration::Byte(area, place, byte) => {
-            let old = [&now.room, &now.text, &now.tree][area % 3].get(place);
+            let old = [&now.buffer, &now.text, &now.tree][area % 3].get(place);
             Alteration::Byte(area, place, *old.unwrap_or(&byte))
         }
     }
@@ -508,10 +508,10 @@ pub fn compare(seed: u64, number: u64, other: Option<NewDesk>, report: &mut Repo
         .zip(&answers)
         .map(|(c, t)| stores(c, t))
         .sum();
-    answers.iter().for_each(|told| report.told(told));
+    answers.iter().for_each(|reported| report.reported(reported));
     let cuts = cuts(&random, total, run.calls.len());
     if !run.is_altered() {
-        shows_run(&run.calls, &answers, &whole.room, report);
+        shows_run(&run.calls, &answers, &whole.buffer, report);
         for cut in &cuts {
             check_cut(&run, *cut, total, report);
         }
@@ -537,18 +537,18 @@ fn cuts(random: &Random, total: u64, calls: usize) -> Vec<u64> {
     cuts
 }
 
-/// After an accepted close the room opens and shows the tree that the calls since the last begin describe.
-pub fn shows_run(calls: &[Call], answers: &[Told], room: &[u8], report: &mut Report) {
+/// After an accepted close the buffer opens and shows the tree that the calls since the last begin describe.
+pub fn shows_run(calls: &[Call], answers: &[Reported], buffer: &[u8], report: &mut Report) {
     let last = calls
         .iter()
         .rposition(|call| matches!(call, Call::Begin(_)));
     let first = last.expect("a run begins");
-    let (calls, told) = (&calls[first..], &answers[first..]);
-    let closed = |(call, told): (&Call, &Told)| matches!(call, Call::Close) && told.is_ok();
-    let was_closed = calls.iter().zip(told).any(closed);
-    report.same("close", &told[0].is_ok(), &was_closed);
+    let (calls, reported) = (&calls[first..], &answers[first..]);
+    let closed = |(call, reported): (&Call, &Reported)| matches!(call, Call::Close) && reported.is_ok();
+    let was_closed = calls.iter().zip(reported).any(closed);
+    report.same("close", &reported[0].is_ok(), &was_closed);
     if let (Call::Begin(form), true) = (&calls[0], was_closed) {
-        shows(room, form, &described(calls, told), report);
+        shows(buffer, form, &described(calls, reported), report);
     }
 }
 
@@ -556,7 +556,7 @@ pub fn shows_run(calls: &[Call], answers: &[Told], room: &[u8], report: &mut Rep
 fn check_cut(run: &Run, cut: u64, total: u64, report: &mut Report) {
     let mut desk = run.desk();
     let answers = play(&mut desk, &run.calls, cut);
-    answers.iter().for_each(|told| report.told(told));
+    answers.iter().for_each(|reported| report.reported(reported));
     let made: u64 = run
         .calls
         .iter()
@@ -570,8 +570,8 @@ fn check_cut(run: &Run, cut: u64, total: u64, report: &mut Report) {
         .filter(|c| matches!(c, Call::Begin(_)))
         .count();
     if begun == 1 && made > 0 && made < total {
-        let told = open(&desk.room, &Edition::Two.form()).map(|_| ()).err();
-        report.same("cut", &Some((3, 0)), &told);
+        let reported = open(&desk.buffer, &Edition::Two.form()).map(|_| ()).err();
+        report.same("cut", &Some((3, 0)), &reported);
     }
 }
 
@@ -580,16 +580,16 @@ fn beside(run: &Run, model: &mut Writer, other: &mut dyn Desk, total: u64, repor
     let mut left = total;
     let mut altered = false;
     for (number, call) in run.calls.iter().enumerate() {
-        let told = model.call(call, left);
+        let reported = model.call(call, left);
         let theirs = other.call(call, left);
-        report.same(&format!("call {number}"), &told, &theirs);
+        report.same(&format!("call {number}"), &reported, &theirs);
         report.same("record", &model.numbers(), &other.numbers());
         report.same("memory", &true, &(model.memory() == other.memory()));
-        left -= stores(call, &told);
+        left -= stores(call, &reported);
         match call {
             Call::Alter(_) => altered = true,
             Call::Begin(_) => altered = false,
-            _ if altered => report.judged(told != Err((24, 0))),
+            _ if altered => report.judged(reported != Err((24, 0))),
             _ => (),
         }
     }

@@ -44,8 +44,8 @@ pub fn write_traced(seed: u64, number: u64, file: &Path) -> io::Result<()> {
         return Err(io::Error::last_os_error());
     }
     let answers = play(&mut desk, &run.calls, u64::MAX);
-    match answers.iter().find(|told| told.is_err()) {
-        Some(told) => Err(io::Error::other(format!("a call was refused: {told:?}"))),
+    match answers.iter().find(|reported| reported.is_err()) {
+        Some(reported) => Err(io::Error::other(format!("a call was refused: {reported:?}"))),
         None => Ok(()),
     }
 }
@@ -98,7 +98,7 @@ fn step_through(
     report: &mut Report,
 ) -> io::Result<()> {
     let plan = Plan::of(run_of(seed, number), report);
-    std::fs::write(file, &plan.run.room)?;
+    std::fs::write(file, &plan.run.buffer)?;
     let child = Command::new(std::env::current_exe()?)
         .args(["write-traced", &seed.to_string(), &number.to_string()])
         .arg(file)

@@ -8,8 +8,8 @@ use crate::report::Report;
 use crate::runs::{play, worked_calls, Call};
 use crate::writer::{Writer, TEXT_AREA, TREE_AREA};
 
-fn desk(room: usize) -> Writer {
-    Writer::lent(vec![0; room], vec![0; TEXT_AREA], vec![0; TREE_AREA])
+fn desk(buffer: usize) -> Writer {
+    Writer::passed(vec![0; buffer], vec![0; TEXT_AREA], vec![0; TREE_AREA])
 }
 
 #[test]
@@ -17,9 +17,9 @@ fn worked_file() {
     let mut desk = desk(214);
     let answers = play(&mut desk, &worked_calls(), u64::MAX);
     assert_eq!(answers, [Ok(1), Ok(1), Ok(2), Ok(4), Ok(210)]);
-    assert_eq!(&desk.room[168..176], b"\xff\xff\xff\xbaa\0n\0");
+    assert_eq!(&desk.buffer[168..176], b"\xff\xff\xff\xbaa\0n\0");
     let lines = b"/ void 0\n/a void 0\n/a/n int 1\n";
-    assert_eq!(listing(&desk.room), lines);
+    assert_eq!(listing(&desk.buffer), lines);
 }
 
 /// "`K refused 3 0` for 0 to 214, then `215 opened`."
@@ -28,15 +28,15 @@ fn cut_drill() {
     for total in 0..=215 {
         let mut desk = desk(214);
         play(&mut desk, &worked_calls(), total);
-        let told = open(&desk.room, &Edition::Two.form()).map(|_| ()).err();
+        let reported = open(&desk.buffer, &Edition::Two.form()).map(|_| ()).err();
         let refused = (total < 215).then_some((3, 0));
-        assert_eq!(told, refused, "{total}");
+        assert_eq!(reported, refused, "{total}");
     }
 }
 
 /// "room 167 is 21, room 168 takes an empty tree; room 213 refuses the put above, 214 takes it".
 #[test]
-fn rooms() {
+fn buffers() {
     let empty = [worked_calls()[0].clone(), Call::Close];
     assert_eq!(
         play(&mut desk(167), &empty, 999),
@@ -52,14 +52,14 @@ fn rooms() {
 fn cases_on_each_side() {
     let mut desk = desk(214);
     play(&mut desk, &worked_calls(), u64::MAX);
-    let opened = open(&desk.room, &Edition::Two.form()).ok().unwrap();
-    let lent = Lent {
-        image: &desk.room,
+    let opened = open(&desk.buffer, &Edition::Two.form()).ok().unwrap();
+    let passed = Lent {
+        image: &desk.buffer,
         record: opened.record,
         strings: &opened.strings,
         entries: &opened.entries,
     };
-    let reader = judged(&lent).ok().unwrap();
+    let reader = judged(&passed).ok().unwrap();
     assert_eq!(reader.lookup(b"/"), Ok(0));
     for path in [b"".as_slice(), b"//a", b"/a/", b"/9a"] {
         assert_eq!(reader.lookup(path), Err(14));
@@ -82,11 +82,11 @@ fn aims() {
     let mut met = [0; 14];
     for number in 0..1500 {
         let image = image(20, number);
-        let told = open(&image.bytes, &form_for(&image.bytes));
+        let reported = open(&image.bytes, &form_for(&image.bytes));
         report.begin(20, number, &image);
-        report.opened(&image, &told);
+        report.opened(&image, &reported);
         report.end(&image.bytes);
-        met[told.err().map_or(0, |refusal| refusal.0 as usize)] += 1;
+        met[reported.err().map_or(0, |refusal| refusal.0 as usize)] += 1;
     }
     assert!(report.finish());
     assert!(

@@ -58,8 +58,8 @@ fn now() -> f64 {
         nanoseconds: 0,
     };
     // SAFETY: the struct is Linux's timespec on 64 bits, and the call writes nothing else.
-    let told = unsafe { clock_gettime(CLOCK_PROCESS_CPUTIME_ID, &mut time) };
-    assert_eq!(told, 0, "the clock");
+    let reported = unsafe { clock_gettime(CLOCK_PROCESS_CPUTIME_ID, &mut time) };
+    assert_eq!(reported, 0, "the clock");
     time.seconds as f64 + time.nanoseconds as f64 * 1e-9
 }
 
@@ -98,7 +98,7 @@ fn digest(message: &[u8], times: &Times) -> Fallible<()> {
 /// Opening must hand back the number: 0 for acceptance, else the refusal's.
 fn opening(image: &[u8], expected: u32, times: &Times) -> Fallible<()> {
     let form = form_for(image);
-    let number = |told: Result<Opened, (u32, u64)>| told.err().map_or(0, |refusal| refusal.0);
+    let number = |reported: Result<Opened, (u32, u64)>| reported.err().map_or(0, |refusal| refusal.0);
     times.print(|_| number(black_box(open(black_box(image), &form))) == expected)
 }
 
@@ -128,7 +128,7 @@ fn accepted(image: &[u8]) -> Fallible<Opened> {
     open(image, &form_for(image)).map_err(|refusal| format!("refused {refusal:?}").into())
 }
 
-fn lent<'a>(image: &'a [u8], opened: &'a Opened) -> Lent<'a> {
+fn passed<'a>(image: &'a [u8], opened: &'a Opened) -> Lent<'a> {
     Lent {
         image,
         record: opened.record,
@@ -140,12 +140,12 @@ fn lent<'a>(image: &'a [u8], opened: &'a Opened) -> Lent<'a> {
 /// Lookups of the keys in turn; each judges 24 again, as a public call does.
 fn lookup(image: &[u8], keys: &[Key], times: &Times) -> Fallible<()> {
     let opened = accepted(image)?;
-    let lent = lent(image, &opened);
+    let passed = passed(image, &opened);
     times.print(|turn| {
         let key = &keys[turn % keys.len()];
-        let told = judged(black_box(&lent)).and_then(|reader| reader.lookup(&key.path));
+        let reported = judged(black_box(&passed)).and_then(|reader| reader.lookup(&key.path));
         let expected = if key.node == 0 { Err(15) } else { Ok(key.node) };
-        black_box(told) == expected
+        black_box(reported) == expected
     })
 }
 
@@ -159,10 +159,10 @@ fn value(node: u64, index: usize) -> f64 {
 /// The views of the keys' nodes in turn, each with 24 judged again, and all elements decoded from the view.
 fn whole(image: &[u8], keys: &[Key], times: &Times) -> Fallible<()> {
     let opened = accepted(image)?;
-    let lent = lent(image, &opened);
+    let passed = passed(image, &opened);
     times.print(|turn| {
         let node = keys[turn % keys.len()].node;
-        let view = judged(black_box(&lent)).and_then(|reader| reader.view(node));
+        let view = judged(black_box(&passed)).and_then(|reader| reader.view(node));
         let Ok(Some(part)) = view else {
             return false;
         };
@@ -178,14 +178,14 @@ fn whole(image: &[u8], keys: &[Key], times: &Times) -> Fallible<()> {
 /// Listing order into an area, with 24 judged again; it must be the order of the numbers.
 fn order(image: &[u8], times: &Times) -> Fallible<()> {
     let opened = accepted(image)?;
-    let lent = lent(image, &opened);
+    let passed = passed(image, &opened);
     let nodes = opened.record.nodes;
     let mut area = vec![0; MOST + 1];
     times.print(|_| {
         area.fill(u32::MAX);
-        let told = judged(black_box(&lent)).and_then(|reader| reader.order_into(&mut area));
+        let reported = judged(black_box(&passed)).and_then(|reader| reader.order_into(&mut area));
         let mut numbers = (0..=nodes as u32).zip(&area);
-        told == Ok(nodes + 1) && numbers.all(|(number, listed)| number == *listed)
+        reported == Ok(nodes + 1) && numbers.all(|(number, listed)| number == *listed)
     })
 }
 
@@ -213,27 +213,27 @@ fn tree_of(file: &str) -> Fallible<Vec<Node>> {
     (1..).zip(text.lines()).map(node).collect()
 }
 
-/// Bytes of the room, as in bench/write.c.
-const ROOM: usize = 2 << 20;
+/// Bytes of the buffer, as in bench/write.c.
+const BUFFER_SIZE: usize = 2 << 20;
 
 /// A whole file: begin, make and put for each node, close. It is written to a file, and the script compares.
 fn build(nodes: &[Node], file: &str, times: &Times) -> Fallible<()> {
-    let mut writer = Writer::lent(vec![0; ROOM], vec![0; TEXT_AREA], vec![0; TREE_AREA]);
+    let mut writer = Writer::passed(vec![0; BUFFER_SIZE], vec![0; TEXT_AREA], vec![0; TREE_AREA]);
     if !built(&mut writer, nodes) {
         return Err("another answer than expected".into());
     }
-    std::fs::write(file, &writer.room[..writer.finished() as usize])?;
+    std::fs::write(file, &writer.buffer[..writer.finished() as usize])?;
     times.print(|_| built(black_box(&mut writer), nodes))
 }
 
-/// Whether every call is accepted and tells what is expected.
+/// Whether every call is accepted and reports what is expected.
 fn built(writer: &mut Writer, nodes: &[Node]) -> bool {
     writer.begin(&Edition::Two.form(), 1) == Ok(1)
         && (1..).zip(nodes).all(|(number, node)| {
             let made = writer.make(node.parent, &node.name) == Ok(number);
             let put = |data: &Vec<u8>| {
-                let told = writer.put(number, Kind::Double.code().into(), data, u64::MAX);
-                told == Ok(data.len() as u64)
+                let reported = writer.put(number, Kind::Double.code().into(), data, u64::MAX);
+                reported == Ok(data.len() as u64)
             };
             made && node.data.as_ref().is_none_or(put)
         })
@@ -259,9 +259,9 @@ mod tests {
             data,
         };
         let nodes = [node(0, b"a", data), node(1, b"b", None)];
-        let mut writer = Writer::lent(vec![0; ROOM], vec![0; TEXT_AREA], vec![0; TREE_AREA]);
+        let mut writer = Writer::passed(vec![0; BUFFER_SIZE], vec![0; TEXT_AREA], vec![0; TREE_AREA]);
         assert!(built(&mut writer, &nodes));
-        writer.room[..writer.finished() as usize].to_vec()
+        writer.buffer[..writer.finished() as usize].to_vec()
     }
 
     /// Each command takes right answers and refuses wrong ones.

@@ -6,7 +6,7 @@ use crate::md5::md5;
 /// "The writer has a text area of 32,768 bytes (zeros counted) and a tree area of 51,200 bytes."
 pub const TEXT_AREA: usize = 32_768;
 pub const TREE_AREA: usize = 51_200;
-/// Data go to the image at place 168 and on: behind the header of edition 2.
+/// Data go to the image at place 168 and on: after the header of edition 2.
 const HEADER: u64 = 168;
 /// "the tree area holds node n's entry at place 25(n − 1), 25 bytes".
 const SLOT: usize = 25;
@@ -24,13 +24,13 @@ pub struct Record {
     pub form: [u8; 12],
 }
 
-/// A writer with all that it is lent.
+/// A writer with all that it is passed.
 #[derive(Clone, PartialEq, Eq)]
 pub struct Writer {
     /// What the last call returned: its value, or the place of its refusal.
     pub last: u64,
     pub record: Record,
-    pub room: Vec<u8>,
+    pub buffer: Vec<u8>,
     pub text: Vec<u8>,
     pub tree: Vec<u8>,
 }
@@ -41,26 +41,26 @@ pub type Numbers = ([u64; 7], [u8; 12]);
 /// One store of a byte at a place.
 pub type Store = (usize, u8);
 
-/// What an accepted call tells: stores made, or for make the new node's number.
-pub type Told = Result<u64, Refusal>;
+/// What an accepted call reports: stores made, or for make the new node's number.
+pub type Reported = Result<u64, Refusal>;
 
 impl Writer {
-    /// A writer that has not begun, with areas and room as they are lent.
-    pub fn lent(room: Vec<u8>, text: Vec<u8>, tree: Vec<u8>) -> Writer {
+    /// A writer that has not begun, with areas and buffer as they are passed.
+    pub fn passed(buffer: Vec<u8>, text: Vec<u8>, tree: Vec<u8>) -> Writer {
         Writer {
             last: 0,
             record: Record::default(),
-            room,
+            buffer,
             text,
             tree,
         }
     }
 
-    /// Makes the first so many stores, and tells how many; 23 where the allowance is smaller than the stores needed.
-    fn store(&mut self, stores: &[Store], allowance: u64) -> Told {
+    /// Makes the first so many stores, and reports how many; 23 where the allowance is smaller than the stores needed.
+    fn store(&mut self, stores: &[Store], allowance: u64) -> Reported {
         let made = allowance.min(stores.len() as u64);
         for (place, byte) in &stores[..made as usize] {
-            self.room[*place] = *byte;
+            self.buffer[*place] = *byte;
         }
         if made < stores.len() as u64 {
             self.record.flag = 0;
@@ -70,9 +70,9 @@ impl Writer {
     }
 
     /// "Begin: 1, 21, 23." "begin puts 0 at place 0"; "An accepted begin clears both areas."
-    pub fn begin(&mut self, form: &[u8], allowance: u64) -> Told {
+    pub fn begin(&mut self, form: &[u8], allowance: u64) -> Reported {
         self.record = Record::default();
-        let length = self.room.len() as u64;
+        let length = self.buffer.len() as u64;
         let areas = self.text.len() == TEXT_AREA && self.tree.len() == TREE_AREA;
         if !areas || form.len() != 12 || length > LONGEST_IMAGE {
             return Err((1, 0));
@@ -86,14 +86,14 @@ impl Writer {
             form: form.try_into().expect("12 bytes"),
             ..Record::default()
         };
-        let told = self.store(&[(0, 0)], allowance)?;
+        let reported = self.store(&[(0, 0)], allowance)?;
         self.text.fill(0);
         self.tree.fill(0);
-        Ok(told)
+        Ok(reported)
     }
 
     /// "Make: 24, 22, 15, 14, 17, 20, 21." "Making a child stores nothing."
-    pub fn make(&mut self, parent: u64, name: &[u8]) -> Told {
+    pub fn make(&mut self, parent: u64, name: &[u8]) -> Reported {
         self.judge()?;
         if parent > self.record.nodes {
             return Err((15, 0));
@@ -141,7 +141,7 @@ impl Writer {
     }
 
     /// "Put: 24, 22, 15, 18, 19, 21, 23." "Each put stores its bytes ascending."
-    pub fn put(&mut self, node: u64, code: u64, bytes: &[u8], allowance: u64) -> Told {
+    pub fn put(&mut self, node: u64, code: u64, bytes: &[u8], allowance: u64) -> Reported {
         self.judge()?;
         if node > self.record.nodes {
             return Err((15, 0));
@@ -171,14 +171,14 @@ impl Writer {
         Ok(made)
     }
 
-    /// The stores of put: its bytes ascending, behind the data put before.
+    /// The stores of put: its bytes ascending, after the data put before.
     pub fn putting(&self, bytes: &[u8]) -> Vec<Store> {
         let offset = (HEADER + self.record.data) as usize;
         (offset..).zip(bytes.iter().copied()).collect()
     }
 
     /// "Close: 24, 22, 23." "Close stores strings, entries, header bytes 1 to 167 ascending, and last the `L` at place 0."
-    pub fn close(&mut self, allowance: u64) -> Told {
+    pub fn close(&mut self, allowance: u64) -> Reported {
         self.judge()?;
         let made = self.store(&self.closing(), allowance)?;
         self.record.flag = 0;
@@ -200,7 +200,7 @@ impl Writer {
 
     /// "at close the strings ... follow, then the entries in order of making, in edition 2."
     fn header(&self, symbols: &[u8], tree: &[u8]) -> Vec<u8> {
-        let data = &self.room[HEADER as usize..][..self.record.data as usize];
+        let data = &self.buffer[HEADER as usize..][..self.record.data as usize];
         let full = (1..=self.record.nodes)
             .filter(|number| self.node(*number).kind != Kind::Void)
             .count();
@@ -308,7 +308,7 @@ impl Writer {
     /// 24 of the writer, over all that is recorded.
     fn belongs(&self) -> bool {
         let record = &self.record;
-        let sizes = self.room.len() as u64 == record.length
+        let sizes = self.buffer.len() as u64 == record.length
             && record.length <= LONGEST_IMAGE
             && self.text.len() == TEXT_AREA
             && self.tree.len() == TREE_AREA

@@ -1,7 +1,7 @@
--- `drill` meets its contract: the room is that of the worked run cut after so many stores, and opening it gives the verdict. Assumes nothing.
+-- `drill` meets its contract: the buffer is that of the worked run cut after so many stores, and opening it gives the verdict. Assumes nothing.
 use borrow.Author.Needs.{needs}
 use native.Mathlib.Omega.{arith}
-use Rattle.aff_drill.proofs.DrillLaws.{drill-told}
+use Rattle.aff_drill.proofs.DrillLaws.{drill-reported}
 use Rattle.aff_drill.proofs.drill.Statement.{statement}
 use Rattle.aff_drill.proofs.drill.Tie as tie
 
@@ -10,7 +10,7 @@ returns c =
     let w = c .before .before .before .before .before .before in
     let f = w .before .before .before .before .before in
     let s = f .before in
-    drill-told (s .args .room .now) (w .write .last .0) (f .number-form .result) (omega (arith, s .good)) (s .args .allowance) (c .reopen .result) (f .number-form .ensures) (w .write .ensures)
+    drill-reported (s .args .buffer .now) (w .write .last .0) (f .number-form .result) (omega (arith, s .good)) (s .args .allowance) (c .reopen .result) (f .number-form .ensures) (w .write .ensures)
     (c .reopen .ensures)
 
 pub drill-spec : {M : Type 1} → statement M

@@ -9,7 +9,7 @@ returns c =
     let e = c .before .before .before .before .finish in
     let m = c .before .before .before .before .before .before .before .before .before .before .before .before .make-names in
     let a = c .before .before .before .before .before .before .before .before .before .before .before .before .before .before .before .before .before .before .before .args in
-    filled-cut (a .writer) (a .text .now) (a .tree .now) (a .room .now) (a .allowance) (m .result) (m .last .1 .1 .0) (m .last .1 .1 .1 .0) (e .last .0)
+    filled-cut (a .writer) (a .text .now) (a .tree .now) (a .buffer .now) (a .allowance) (m .result) (m .last .1 .1 .0) (m .last .1 .1 .1 .0) (e .last .0)
     (m .ensures .0) (m .ensures .1 .0) (m .ensures .1 .1) (e .ensures)
 
 pub fill-spec : {M : Type 1} → statement M

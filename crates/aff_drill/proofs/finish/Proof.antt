@@ -10,7 +10,7 @@ returns c =
     let l = c .before .before .before .before .before .left in
     let p = c .before .before .before .before .before .before .before .before .before .before .put-number in
     let a = c .before .before .before .before .before .before .before .before .before .before .before .before .before .before .before .before .args in
-    finished-cut (a .writer) (a .text .now) (a .tree .now) (a .room .now) (a .allowance) _ _ (p .result .writer) (p .last .1 .1 .1 .0) (p .last .0) (l .result) (e .last .0)
+    finished-cut (a .writer) (a .text .now) (a .tree .now) (a .buffer .now) (a .allowance) _ _ (p .result .writer) (p .last .1 .1 .1 .0) (p .last .0) (l .result) (e .last .0)
     (p .ensures .0) (p .ensures .1 .0) (p .ensures .1 .1 .0) (p .ensures .1 .1 .1) (l .ensures) (e .ensures .0) (e .ensures .1 .1)
 
 pub finish-spec : {M : Type 1} → statement M

@@ -9,7 +9,7 @@ returns c =
     let m = c .before .before .before .before .before .make2 in
     let l = c .before .before .before .before .before .before .before .before .before .before .before .before .before .make in
     let a = c .before .before .before .before .before .before .before .before .before .before .before .before .before .before .before .before .before .before .before .before .args in
-    both-left (a .writer) (a .text .now) (a .tree .now) (a .room .now) _ _ (l .result .writer) (l .last .1 .1 .0) (l .last .1 .1 .1 .0) (m .result .writer) (m .last .1 .1 .0) (m .last .1 .1 .1 .0)
+    both-left (a .writer) (a .text .now) (a .tree .now) (a .buffer .now) _ _ (l .result .writer) (l .last .1 .1 .0) (l .last .1 .1 .1 .0) (m .result .writer) (m .last .1 .1 .0) (m .last .1 .1 .1 .0)
     (l .ensures .0) (l .ensures .1 .0) (l .ensures .1 .1 .0) (l .ensures .1 .1 .1) (m .ensures .0) (m .ensures .1 .0) (m .ensures .1 .1 .0) (m .ensures .1 .1 .1)
 
 pub make-names-spec : {M : Type 1} → statement M

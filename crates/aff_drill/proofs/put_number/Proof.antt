@@ -10,7 +10,7 @@ returns c =
     let p = c .before .before .before .before .put in
     let a = c .before .before .before .before .before .before .before .before .before .before .before .args in
     let e = p .ensures in
-    put-left (a .writer) (a .text .now) (a .tree .now) (a .room .now) minusSeventy 2 3 (a .allowance) _ (p .result .writer) (p .last .1 .1 .1 .0) (p .last .0)
+    put-left (a .writer) (a .text .now) (a .tree .now) (a .buffer .now) minusSeventy 2 3 (a .allowance) _ (p .result .writer) (p .last .1 .1 .1 .0) (p .last .0)
     (e .0) (e .1 .0) (e .1 .1 .1) (e .1 .1 .0)
 
 pub put-number-spec : {M : Type 1} → statement M

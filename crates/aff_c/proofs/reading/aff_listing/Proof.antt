@@ -6,11 +6,11 @@ use Prim.Native.Nat.{ℕ}
 use lib.ListN.{length}
 use Rattle.aff_format.specs.Answer.{Answer}
 use Rattle.aff_open.specs.declared.reader.Reader.{Reader}
-use Rattle.aff_read.specs.Calls.{order, listingAnswer}
 use Rattle.aff_c.specs.Reading.{numberBy, leftBy}
 use Rattle.aff_c.proofs.ReadingLaws.{front-by}
 use Rattle.aff_c.proofs.reading.aff_listing.Statement.{statement}
 use Rattle.aff_c.proofs.reading.aff_listing.Tie as tie
+use Rattle.aff_read.specs.ListingOrder.{listingOrder, listingAnswer}
 
 returns : tie.Need-returns
 returns c =
@@ -19,7 +19,7 @@ returns c =
     let a = r .before .before .before .before .before .args in
     let p = c .put-number .ensures in
     let by : Reader → Answer ℕ = λ x. listingAnswer (a .image .now) x (a .strings .now) (a .entries .now) (length (a .output .now)) in
-    let text : Reader → List ℕ = λ x. order (a .image .now) x (a .strings .now) (a .entries .now) in
+    let text : Reader → List ℕ = λ x. listingOrder (a .image .now) x (a .strings .now) (a .entries .now) in
     let e = l .listing .ensures .0 ∙ ap by (r .reader-of .ensures) in
     (p .0 ∙ ap numberBy e, (l .listing .ensures .1 ∙ front-by e (ap text (r .reader-of .ensures)) _, p .1 ∙ ap (leftBy (λ (n : ℕ). n) _) e))
 

@@ -2,13 +2,13 @@
 use borrow.Author.Needs.{needs}
 use mathlib.Core.Path.{sym, ap, _∙_}
 use Rattle.aff_format.specs.Kind.{kindCode}
-use Rattle.aff_read.specs.Answers.{kindTold}
+use Rattle.aff_read.specs.Answers.{answerOfKind}
 use Rattle.aff_c.proofs.ReadingLaws.{its-number, kept}
 use Rattle.aff_c.proofs.reading.put_kind.Statement.{statement}
 use Rattle.aff_c.proofs.reading.put_kind.Tie as tie
 
 returns-2 : tie.Need-returns-2
-returns-2 c = let e = sym (ap kindTold (c .before .before .answer2 .given .1)) in (c .number .ensures ∙ its-number e, kept e kindCode _)
+returns-2 c = let e = sym (ap answerOfKind (c .before .before .answer2 .given .1)) in (c .number .ensures ∙ its-number e, kept e kindCode _)
 
 pub put-kind-spec : {M : Type 1} → statement M
 put-kind-spec =

@@ -2,18 +2,18 @@
 use borrow.Author.Needs.{needs}
 use mathlib.Core.Path.{sym, ap, _∙_}
 use Rattle.aff_open.specs.declared.reader.Span.{Span}
-use Rattle.aff_read.specs.Answers.{partTold}
+use Rattle.aff_read.specs.Answers.{answerOfPart}
 use Rattle.aff_c.proofs.ReadingLaws.{no-refusal, stored, its-number, kept}
 use Rattle.aff_c.proofs.reading.put_span.Statement.{statement}
 use Rattle.aff_c.proofs.reading.put_span.Tie as tie
 
 returns : tie.Need-returns
 returns c =
-    let e = sym (ap partTold (c .before .answer .given .1)) in (no-refusal e, (stored e (λ (s : Span). s .offset) _, stored e (λ (s : Span). s .size) _))
+    let e = sym (ap answerOfPart (c .before .answer .given .1)) in (no-refusal e, (stored e (λ (s : Span). s .offset) _, stored e (λ (s : Span). s .size) _))
 
 returns-2 : tie.Need-returns-2
 returns-2 c =
-    let e = sym (ap partTold (c .before .before .answer2 .given .1)) in
+    let e = sym (ap answerOfPart (c .before .before .answer2 .given .1)) in
     (c .number .ensures ∙ its-number e, (kept e (λ (s : Span). s .offset) _, kept e (λ (s : Span). s .size) _))
 
 pub put-span-spec : {M : Type 1} → statement M

@@ -9,7 +9,7 @@ returns c =
     let d = c .before .before .before .before in
     let w = d .before .before in
     let a = w .before .before .before .before .before .args in
-    closed-left (a .room .now) (a .numbers .now) (a .kept .now) (a .text .now) (a .tree .now) (w .writer-of .result) (w .writer-of .ensures)
+    closed-left (a .buffer .now) (a .numbers .now) (a .kept .now) (a .text .now) (a .tree .now) (w .writer-of .result) (w .writer-of .ensures)
     (d .close .result) (c .leave-next .result) (c .leave-next .last .1 .0) (c .leave-next .ensures .0) (c .leave-next .ensures .1)
     (a .allowance) (d .close .last .0) (d .close .ensures)
 

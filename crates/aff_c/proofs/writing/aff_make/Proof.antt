@@ -9,7 +9,7 @@ returns c =
     let d = c .before .before .before .before .before .before in
     let w = d .before .before .before in
     let a = w .before .before .before .before .before .before .args in
-    made-left (a .room .now) (a .numbers .now) (a .kept .now) (a .text .now) (a .tree .now) (w .writer-of .result) (w .writer-of .ensures)
+    made-left (a .buffer .now) (a .numbers .now) (a .kept .now) (a .text .now) (a .tree .now) (w .writer-of .result) (w .writer-of .ensures)
     (d .make .result) (c .leave-next .result) (c .leave-next .last .1 .0) (c .leave-next .ensures .0) (c .leave-next .ensures .1)
     (a .parent) (a .name .now) (d .make .last .1 .1 .0) (d .make .last .1 .1 .1 .0) (d .make .ensures)
 

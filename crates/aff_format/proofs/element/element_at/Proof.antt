@@ -12,17 +12,17 @@ use Rattle.aff_format.specs.declared.element.Element.the-variants as ele
 use Rattle.aff_format.proofs.element.element_at.Statement.{statement}
 use Rattle.aff_format.proofs.element.element_at.Tie as tie
 
-char-room : (c : tie.After-enum-told2) → c .before .before .before .args .k < length (c .before .before .before .args .bytes .now)
-char-room c = rw (c .enum-told2 .given .1) at (c .before .before .before .pre)
+char-size : (c : tie.After-enum-told2) → c .before .before .before .args .k < length (c .before .before .before .args .bytes .now)
+char-size c = rw (c .enum-told2 .given .1) at (c .before .before .before .pre)
 
-int-room : (c : tie.After-enum-told3) → c .before .before .before .args .k < length (c .before .before .before .args .bytes .now) / 4
-int-room c = rw (c .enum-told3 .given .1) at (c .before .before .before .pre)
+int-size : (c : tie.After-enum-told3) → c .before .before .before .args .k < length (c .before .before .before .args .bytes .now) / 4
+int-size c = rw (c .enum-told3 .given .1) at (c .before .before .before .pre)
 
-double-room : (c : tie.After-enum-told4) → c .before .before .before .args .k < length (c .before .before .before .args .bytes .now) / 8
-double-room c = rw (c .enum-told4 .given .1) at (c .before .before .before .pre)
+double-size : (c : tie.After-enum-told4) → c .before .before .before .args .k < length (c .before .before .before .args .bytes .now) / 8
+double-size c = rw (c .enum-told4 .given .1) at (c .before .before .before .pre)
 
-complex-room : (c : tie.After-enum-told5) → c .before .before .before .args .k < length (c .before .before .before .args .bytes .now) / 16
-complex-room c = rw (c .enum-told5 .given .1) at (c .before .before .before .pre)
+complex-size : (c : tie.After-enum-told5) → c .before .before .before .args .k < length (c .before .before .before .args .bytes .now) / 16
+complex-size c = rw (c .enum-told5 .given .1) at (c .before .before .before .pre)
 
 returns : tie.Need-returns
 unfolding elementAt
@@ -51,9 +51,9 @@ returns-5 c =
 pub element-at-spec : {M : Type 1} → statement M
 element-at-spec =
     tie.close
-    (tie.spec (λ c. search needs) (λ c. search needs) (λ c. omega (arith, char-room (c .before))) (λ c. search needs)
-    (λ c. omega (arith, int-room c)) (λ c κs. omega (arith, int-room c)) (λ c κs. search needs) (λ c. search needs)
-    (λ c. omega (arith, double-room c)) (λ c κs. omega (arith, double-room c)) (λ c κs. search needs) (λ c. search needs)
-    (λ c. omega (arith, complex-room c)) (λ c κs. omega (arith, complex-room c)) (λ c κs. search needs)
-    (λ c. omega (arith, complex-room (c .before .before))) (λ c. omega (arith, complex-room (c .before .before)))
-    (λ c κs. omega (arith, complex-room (c .before .before))) (λ c κs. search needs) returns returns-2 returns-3 returns-4 returns-5)
+    (tie.spec (λ c. search needs) (λ c. search needs) (λ c. omega (arith, char-size (c .before))) (λ c. search needs)
+    (λ c. omega (arith, int-size c)) (λ c κs. omega (arith, int-size c)) (λ c κs. search needs) (λ c. search needs)
+    (λ c. omega (arith, double-size c)) (λ c κs. omega (arith, double-size c)) (λ c κs. search needs) (λ c. search needs)
+    (λ c. omega (arith, complex-size c)) (λ c κs. omega (arith, complex-size c)) (λ c κs. search needs)
+    (λ c. omega (arith, complex-size (c .before .before))) (λ c. omega (arith, complex-size (c .before .before)))
+    (λ c κs. omega (arith, complex-size (c .before .before))) (λ c κs. search needs) returns returns-2 returns-3 returns-4 returns-5)

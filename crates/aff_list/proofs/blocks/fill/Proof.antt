@@ -1,5 +1,4 @@
 -- `fill` meets its contract: `Filling` holds at each turn.
-use borrow.Author.Needs.{needs}
 use Prim.Native.Nat.{_+_, _-_, _≤_}
 use native.Mathlib.Omega.{arith}
 use lib.ListN.{length}
@@ -14,53 +13,40 @@ Inv-loop image reader strings entries order from block₀ next₀ used₀ block 
 abbrev μ-loop : tie.MeasureT-loop
 μ-loop image reader strings entries order from block₀ next₀ used₀ block next used = reader .nodes + 1 - next
 
-loop-holds : tie.Need-loop-holds Inv-loop μ-loop
-loop-holds c = let s = c .before in filling-none (s .pre .0) (s .pre .1)
-
-put-row-requires : tie.Need-put-row-requires Inv-loop μ-loop
-put-row-requires c κs =
-    let p = c .before .before .before in
-    let t = p .before .before in
-    let lp = t .before .before in
-    let s = lp .before .before in
-    (s .pre .0 .belongs, rw (p .place .ensures) (number-within (s .pre .0) (lp .loop .next) (t .if1 .taken)), lp .loop .inv .inside)
-
 block-long : (c : tie.Then2 Inv-loop μ-loop) → rowLimit ≤ length (c .before .before .before .before .before .before .before .before .before .before .before .args .block .now)
 block-long c = let s = c .before .before .before .before .before .before .before .before .before .before .before in omega (arith, s .good)
-
-returns : tie.Need-returns Inv-loop μ-loop
-returns c =
-    let q = c .before in
-    let p = q .before .before .before .before in
-    let t = p .before .before in
-    let lp = t .before .before in
-    let s = lp .before .before in
-    filled-full (s .pre .0) (s .pre .1) (lp .loop .inv) (t .if1 .taken) (p .place .ensures) (q .put-row .ensures .0) (q .put-row .ensures .1) (block-long c) (c .if2 .taken)
-
-add-next : tie.Need-add-next Inv-loop μ-loop
-add-next c =
-    let t = c .before .before .before .before .before .before .before in
-    omega (arith, t .if1 .taken, t .before .before .before .before .pre .0 .belongs .few-nodes)
-
-loop-less : tie.Need-loop-less Inv-loop μ-loop
-loop-less c = omega (arith, c .before .before .before .before .before .before .before .if1 .taken)
-
-loop-again : tie.Need-loop-again Inv-loop μ-loop
-loop-again c =
-    let q = c .before in
-    let p = q .before .before .before .before in
-    let t = p .before .before in
-    let lp = t .before .before in
-    let s = lp .before .before in
-    filling-next (s .pre .0) (s .pre .1) (lp .loop .inv) (t .if1 .taken) (p .place .ensures) (q .put-row .ensures .0) (q .put-row .ensures .1) (c .if2 .left)
-
-returns-2 : tie.Need-returns-2 Inv-loop μ-loop
-returns-2 c =
-    let lp = c .before .before in
-    let s = lp .before .before in
-    filled-all (s .pre .0) (s .pre .1) (lp .loop .inv) (c .if1 .left)
 
 pub fill-spec : {M : Type 1} → statement M
 fill-spec =
     tie.close
-    (tie.spec Inv-loop μ-loop loop-holds (λ c κs. tt) put-row-requires returns add-next loop-less loop-again returns-2)
+    (tie.spec Inv-loop μ-loop
+    (λ c. let s = c .before in filling-none (s .pre .0) (s .pre .1))
+    (λ c κs. tt)
+    (λ c κs.
+    let p = c .before .before .before in
+    let t = p .before .before in
+    let lp = t .before .before in
+    let s = lp .before .before in
+    (s .pre .0 .belongs, rw (p .place .ensures) (number-within (s .pre .0) (lp .loop .next) (t .if1 .taken)), lp .loop .inv .inside))
+    (λ c.
+    let q = c .before in
+    let p = q .before .before .before .before in
+    let t = p .before .before in
+    let lp = t .before .before in
+    let s = lp .before .before in
+    filled-full (s .pre .0) (s .pre .1) (lp .loop .inv) (t .if1 .taken) (p .place .ensures) (q .put-row .ensures .0) (q .put-row .ensures .1) (block-long c) (c .if2 .taken))
+    (λ c.
+    let t = c .before .before .before .before .before .before .before in
+    omega (arith, t .if1 .taken, t .before .before .before .before .pre .0 .belongs .few-nodes))
+    (λ c. omega (arith, c .before .before .before .before .before .before .before .if1 .taken))
+    (λ c.
+    let q = c .before in
+    let p = q .before .before .before .before in
+    let t = p .before .before in
+    let lp = t .before .before in
+    let s = lp .before .before in
+    filling-next (s .pre .0) (s .pre .1) (lp .loop .inv) (t .if1 .taken) (p .place .ensures) (q .put-row .ensures .0) (q .put-row .ensures .1) (c .if2 .left))
+    (λ c.
+    let lp = c .before .before in
+    let s = lp .before .before in
+    filled-all (s .pre .0) (s .pre .1) (lp .loop .inv) (c .if1 .left)))

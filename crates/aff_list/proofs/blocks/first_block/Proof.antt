@@ -8,18 +8,14 @@ use Rattle.aff_list.proofs.FirstLaws.{first-long, first-short}
 use Rattle.aff_list.proofs.blocks.first_block.Statement.{statement}
 use Rattle.aff_list.proofs.blocks.first_block.Tie as tie
 
-returns : tie.Need-returns
-returns c =
-    let a = c .before .before .before .before .before .before .args in
-    let long : inputLimit < length (a .image .now) = omega (arith, c .before .before .before .before .if1 .taken) in
-    first-long (a .image .now) (a .strings .now) (a .entries .now) (a .order .now) long (c .before .before .before .none .ensures) (c .put .ensures)
-
-returns-2 : tie.Need-returns-2
-returns-2 c =
-    let a = c .before .before .before .before .before .before .before .args in
-    (c .first-lines .ensures .0, first-short (a .image .now) (a .strings .now) (a .entries .now) (a .order .now) (c .before .before .before .before .before .if1 .left) (c .first-lines .ensures .1))
-
 pub first-block-spec : {M : Type 1} → statement M
 first-block-spec =
     tie.close
-    (tie.spec (λ c κs. search needs) (λ c. search needs) (λ c κs. search needs) returns (λ c κs. search needs) returns-2)
+    (tie.spec (λ c κs. search needs) (λ c. search needs) (λ c κs. search needs)
+    (λ c.
+    let a = c .before .before .before .before .before .before .args in
+    let long : inputLimit < length (a .image .now) = omega (arith, c .before .before .before .before .if1 .taken) in
+    first-long _ _ _ _ long (c .before .before .before .none .ensures) (c .put .ensures))
+    (λ c κs. search needs)
+    (λ c.
+    (c .first-lines .ensures .0, first-short _ _ _ _ (c .before .before .before .before .before .if1 .left) (c .first-lines .ensures .1))))

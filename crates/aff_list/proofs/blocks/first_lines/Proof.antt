@@ -6,30 +6,26 @@ use Rattle.aff_list.proofs.ReadyLaws.{begun-ready}
 use Rattle.aff_list.proofs.blocks.first_lines.Statement.{statement}
 use Rattle.aff_list.proofs.blocks.first_lines.Tie as tie
 
-fill-requires : tie.Need-fill-requires
-fill-requires c κs =
-    let b = c .before .before .before .before .before .before .before .begin in
-    (begun-ready _ _ _ _ (b .result) (b .ensures) (c .before .before .before .before .enum-told .given .1), omega arith)
-
-returns : tie.Need-returns
-returns c =
-    let d = c .before .before .before .before .before .before in
-    let b = d .begin in
-    let s = d .before .before .before in
-    let z = s .before .before in
-    let a = z .args in
-    (first-refused (a .image .now) (a .strings .now) (a .entries .now) (a .order .now) (z .pre) (s .begin-arg .given .0 .1) (d .before .before .begin-arg2 .given .0 .1) (b .result) (b .ensures) _ (c .before .before .before .verdict .given .1) (c .put-refusal .ensures), b .ensures .1)
-
-returns-2 : tie.Need-returns-2
-returns-2 c =
-    let d = c .before .before .before .before .before .before .before .before in
-    let b = d .begin in
-    let s = d .before .before .before in
-    let z = s .before .before in
-    let a = z .args in
-    (first-accepted (a .image .now) (a .strings .now) (a .entries .now) (a .order .now) (z .pre) (s .begin-arg .given .0 .1) (d .before .before .begin-arg2 .given .0 .1) (b .result) (b .ensures) (c .before .before .before .before .before .enum-told .given .1) (c .fill .ensures), b .ensures .1)
-
 pub first-lines-spec : {M : Type 1} → statement M
 first-lines-spec =
     tie.close
-    (tie.spec (λ c κs. search needs) (λ c. search needs) (λ c κs. search needs) (λ c. search needs) fill-requires returns returns-2)
+    (tie.spec (λ c κs. search needs) (λ c. search needs) (λ c κs. search needs) (λ c. search needs)
+    (λ c κs.
+    let b = c .before .before .before .before .before .before .before .begin in
+    (begun-ready _ _ _ _ (b .result) (b .ensures) (c .before .before .before .before .enum-told .given .1), omega arith))
+    (λ c.
+    let d = c .before .before .before .before .before .before in
+    let b = d .begin in
+    let s = d .before .before .before in (
+      first-refused _ _ _ _ (s .before .before .pre) (s .begin-arg .given .0 .1) (d .before .before .begin-arg2 .given .0 .1) (b .result) (b .ensures) _
+          (c .before .before .before .verdict .given .1) (c .put-refusal .ensures),
+      b .ensures .1,
+    ))
+    (λ c.
+    let d = c .before .before .before .before .before .before .before .before in
+    let b = d .begin in
+    let s = d .before .before .before in (
+      first-accepted _ _ _ _ (s .before .before .pre) (s .begin-arg .given .0 .1) (d .before .before .begin-arg2 .given .0 .1) (b .result) (b .ensures)
+          (c .before .before .before .before .before .enum-told .given .1) (c .fill .ensures),
+      b .ensures .1,
+    )))

@@ -6,23 +6,12 @@ use Rattle.aff_list.specs.Lister.{pathChecks}
 use Rattle.aff_list.proofs.blocks.prepare.Statement.{statement}
 use Rattle.aff_list.proofs.blocks.prepare.Tie as tie
 
-returns : tie.Need-returns
-returns c =
+pub prepare-spec : {M : Type 1} → statement M
+prepare-spec =
+    tie.close
+    (tie.spec (λ c κs. search needs) (λ c κs. search needs) (λ c κs. search needs) (λ c. search needs) (λ c. search needs)
+    (λ c.
     let m = c .before .before .before in
     let n = m .before in
-    let a = n .before .before .before .before .before .before .args in (
-      verdict-refuses (pathChecks (a .image .now) (a .reader) (a .strings .now) (a .entries .now)) (m .measure .result) (m .measure .ensures) (a .reader) _ (c .before .refusal .given .1),
-      (n .none .ensures, n .before .listing-of .ensures .1),
-    )
-
-returns-2 : tie.Need-returns-2
-returns-2 c =
-    let m = c .before .before in
-    let n = m .before in
-    let a = n .before .before .before .before .before .before .args in (
-      verdict-accepts (pathChecks (a .image .now) (a .reader) (a .strings .now) (a .entries .now)) (m .measure .result) (m .measure .ensures) (a .reader) (a .reader) (c .enum-told .given .1) refl,
-      (refl, n .before .listing-of .ensures .1),
-    )
-
-pub prepare-spec : {M : Type 1} → statement M
-prepare-spec = tie.close (tie.spec (λ c κs. search needs) (λ c κs. search needs) (λ c κs. search needs) (λ c. search needs) (λ c. search needs) returns returns-2)
+    (verdict-refuses (pathChecks _ _ _ _) _ (m .measure .ensures) _ _ (c .before .refusal .given .1), (n .none .ensures, n .before .listing-of .ensures .1)))
+    (λ c. let m = c .before .before in (verdict-accepts (pathChecks _ _ _ _) _ (m .measure .ensures) _ _ (c .enum-told .given .1) refl, (refl, m .before .before .listing-of .ensures .1))))

@@ -5,77 +5,42 @@ use mathlib.Core.List.{[], _∷_}
 use Prim.Native.Nat.{_+_, _<_}
 use native.Mathlib.Omega.{arith}
 use lib.ListN.{length, length-append}
-use Rattle.aff_format.specs.Verdict.{numberTold}
-use Rattle.aff_read.specs.Calls.{lineAt}
+use Rattle.aff_format.specs.Verdict.{answerOfNumber}
+use Rattle.aff_list.specs.Line.{lineAt}
 use Rattle.aff_list.specs.Lister.{row}
-use Rattle.aff_list.proofs.RowLaws.{behind-full, row-refused, row-room, feed-inside, row-written}
+use Rattle.aff_list.proofs.RowLaws.{LineFirst, after-full, row-refused, row-size, feed-inside, row-written}
 use Rattle.aff_list.proofs.blocks.put_row.Statement.{statement}
 use Rattle.aff_list.proofs.blocks.put_row.Tie as tie
 
-returns : tie.Need-returns
-unfolding row
-returns c =
-    let a = c .before .before .before .before .before .args in
-    behind-full (a .used) (row (a .image .now) (a .reader) (a .strings .now) (a .entries .now) (a .node)) (a .block .now)
-    (omega (arith, c .if1 .taken, length-append (lineAt (a .image .now) (a .reader) (a .strings .now) (a .entries .now) (a .node)) (10 ∷ [])))
-
--- Something is left of the block.
-left : (c : tie.Else1) → let a = c .before .before .before .before .before .args in a .used < length (a .block .now)
-left c = omega (arith, c .if1 .left, c .before .before .before .before .before .pre .2)
+line-first : (c : tie.After-line-of) → let a = c .before .before .before .before .before .before .before .args in
+    LineFirst (lineAt (a .image .now) (a .reader) (a .strings .now) (a .entries .now) (a .node)) (a .block .now) (a .used)
+    (answerOfNumber (c .line-of .result)) (c .line-of .last .1 .1 .1 .1 .1 .0)
+line-first c =
+    record {
+      size = omega (arith, c .before .before .if1 .left, c .before .before .before .before .before .before .before .pre .2);
+      answer = c .line-of .ensures .0;
+      output = c .line-of .ensures .1;
+    }
 
 inside : (c : tie.After-known-told) → let a = c .before .before .before .before .before .before .before .before .before .before .before .before .args in
     a .used + c .before .size .given .0 .0 < length (a .block .now)
-inside c =
-    let w = c .before .before .before .before .before in
-    let f = w .before .before .before .before .before .before .before in
-    let a = f .args in
-    row-room (lineAt (a .image .now) (a .reader) (a .strings .now) (a .entries .now) (a .node)) (a .block .now) (a .used) (left (w .before .before)) (w .line-of .ensures .0) (w .line-of .ensures .1) (ap numberTold (c .before .size .given .1))
-
-add-end : tie.Need-add-end
-add-end c = omega (arith, inside c, c .before .before .before .before .before .before .before .before .before .before .before .before .good)
-
-slice-write-block : tie.Need-slice-write-block
-slice-write-block c =
-    let w = c .before .before .before .before .before in
-    let f = w .before .before .before .before .before .before .before in
-    let a = f .args in
-    feed-inside (lineAt (a .image .now) (a .reader) (a .strings .now) (a .entries .now) (a .node)) (a .block .now) (a .used) (left (w .before .before)) (w .line-of .ensures .0) (w .line-of .ensures .1) (ap numberTold (c .before .size .given .1))
-
-add-result : tie.Need-add-result
-add-result c = omega (arith, inside c, c .before .before .before .before .before .before .before .before .before .before .before .before .good)
-
-returns-2 : tie.Need-returns-2
-unfolding row
-returns-2 c =
-    let w = c .before .before .before .before in
-    let f = w .before .before .before .before .before .before .before in
-    let a = f .args in
-    row-refused (lineAt (a .image .now) (a .reader) (a .strings .now) (a .entries .now) (a .node)) (a .block .now) (a .used) (left (w .before .before)) (w .line-of .ensures .0) (w .line-of .ensures .1) _ (ap numberTold (c .enum-told .given .1))
-
-returns-3 : tie.Need-returns-3
-unfolding row
-returns-3 c =
-    let w = c .before .before .before .before .before in
-    let f = w .before .before .before .before .before .before .before in
-    let a = f .args in
-    row-written (lineAt (a .image .now) (a .reader) (a .strings .now) (a .entries .now) (a .node)) (a .block .now) (a .used) (left (w .before .before)) (w .line-of .ensures .0) (w .line-of .ensures .1) (ap numberTold (c .before .size .given .1))
+inside c = row-size (line-first (c .before .before .before .before .before)) (ap answerOfNumber (c .before .size .given .1))
 
 pub put-row-spec : {M : Type 1} → statement M
+unfolding row
 put-row-spec =
     tie.close
     (tie.spec
-    returns
+    (λ c.
+    let a = c .before .before .before .before .before .args in
+    let line = lineAt (a .image .now) (a .reader) (a .strings .now) (a .entries .now) (a .node) in
+    after-full (a .used) (row _ _ _ _ _) (a .block .now) (omega (arith, c .if1 .taken, length-append line (10 ∷ []))))
+    (λ c. search needs) (λ c. search needs) (λ c. search needs) (λ c. search needs) (λ c κs. search needs) (λ c. search needs)
     (λ c. search needs)
+    (λ c. omega (arith, inside c, c .before .before .before .before .before .before .before .before .before .before .before .before .good))
+    (λ c. feed-inside (line-first (c .before .before .before .before .before)) (ap answerOfNumber (c .before .size .given .1)))
+    (λ c. omega (arith, inside c, c .before .before .before .before .before .before .before .before .before .before .before .before .good))
     (λ c. search needs)
+    (λ c. row-refused (line-first (c .before .before .before .before)) _ (ap answerOfNumber (c .enum-told .given .1)))
     (λ c. search needs)
-    (λ c. search needs)
-    (λ c κs. search needs)
-    (λ c. search needs)
-    (λ c. search needs)
-    add-end
-    slice-write-block
-    add-result
-    (λ c. search needs)
-    returns-2
-    (λ c. search needs)
-    returns-3)
+    (λ c. row-written (line-first (c .before .before .before .before .before)) (ap answerOfNumber (c .before .size .given .1))))

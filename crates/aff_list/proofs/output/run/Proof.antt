@@ -5,10 +5,9 @@ use lib.Seq.{length-take-le}
 use Rattle.aff_list.proofs.output.run.Statement.{statement}
 use Rattle.aff_list.proofs.output.run.Tie as tie
 
-slice-aggregate-print : tie.Need-slice-aggregate-print
-slice-aggregate-print c = sym (length-take-le _ _ (c .before .before .read-input .ensures))
-
 pub run-spec : {M : Type 1} → statement M
 run-spec =
     tie.close
-    (tie.spec (λ c. search needs) (λ c κs. search needs) (λ c. search needs) slice-aggregate-print (λ c κs. search needs) (λ c. search needs))
+    (tie.spec (λ c. search needs) (λ c κs. search needs) (λ c. search needs)
+    (λ c. sym (length-take-le _ _ (c .before .before .read-input .ensures)))
+    (λ c κs. search needs) (λ c. search needs))

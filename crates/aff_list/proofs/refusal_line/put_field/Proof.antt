@@ -5,26 +5,24 @@ use mathlib.Core.Path.{ap}
 use Prim.Native.Nat.{ℕ, _+_, _≤_}
 use native.Mathlib.Omega.{arith}
 use lib.ListN.{length}
-use Rattle.aff_read.specs.Calls.{decimal}
-use Rattle.aff_read.proofs.LineLaws.{length-decimal}
+use Rattle.aff_list.specs.Line.{decimal}
+use Rattle.aff_list.proofs.DigitLaws.{length-decimal, twenty-digits}
 use Rattle.aff_read.proofs.WrittenLaws.{written-same, written-more}
-use Rattle.aff_list.proofs.DigitLaws.{twenty-digits}
 use Rattle.aff_list.proofs.refusal_line.put_field.Statement.{statement}
 use Rattle.aff_list.proofs.refusal_line.put_field.Tie as tie
 
-put-byte-requires : tie.Need-put-byte-requires
-put-byte-requires c κs =
+pub put-field-spec : {M : Type 1} → statement M
+put-field-spec =
+    tie.close
+    (tie.spec (λ c κs. search needs)
+    (λ c κs.
     let z = c .before .before .before .before .before .before in
-    let w = c .before .before .before .put-digits in
-    omega (arith, w .ensures .ends, w .kept, z .pre, length-decimal 20 (z .args .number))
-
-returns : tie.Need-returns
-returns c =
+    let w = c .before .before .before .put-decimal in
+    omega (arith, w .ensures .ends, w .kept, z .pre, length-decimal 20 (z .args .number)))
+    (λ c. search needs)
+    (λ c.
     let z = c .before .before .before .before .before .before .before .before .before in
     let a = z .args in
     let fits : a .at + length (decimal 20 (a .number)) ≤ length (a .out .now) = omega (arith, z .pre, length-decimal 20 (a .number)) in
     written-same (ap (λ (l : List ℕ). l ++ (a .byte ∷ [])) (twenty-digits (a .number) (z .fits .number .fits)))
-    (written-more (c .before .before .before .before .before .before .put-digits .ensures) fits (c .before .before .put-byte .ensures))
-
-pub put-field-spec : {M : Type 1} → statement M
-put-field-spec = tie.close (tie.spec (λ c κs. search needs) put-byte-requires (λ c. search needs) returns)
+    (written-more (c .before .before .before .before .before .before .put-decimal .ensures) fits (c .before .before .put-byte .ensures))))

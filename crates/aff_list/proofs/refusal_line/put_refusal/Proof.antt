@@ -4,8 +4,8 @@ use mathlib.Core.Path.{sym}
 use Rattle.aff_list.proofs.refusal_line.put_refusal.Statement.{statement}
 use Rattle.aff_list.proofs.refusal_line.put_refusal.Tie as tie
 
-returns : tie.Need-returns
-returns c = rw (sym (c .before .before .before .before .before .told .ensures)) (c .before .before .put-line .ensures)
-
 pub put-refusal-spec : {M : Type 1} → statement M
-put-refusal-spec = tie.close (tie.spec (λ c κs. search needs) (λ c. search needs) (λ c κs. search needs) (λ c. search needs) returns)
+put-refusal-spec =
+    tie.close
+    (tie.spec (λ c κs. search needs) (λ c. search needs) (λ c κs. search needs) (λ c. search needs)
+    (λ c. rw (sym (c .before .before .before .before .before .code .ensures)) (c .before .before .put-line .ensures)))

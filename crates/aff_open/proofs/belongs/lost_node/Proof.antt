@@ -8,8 +8,9 @@ use lib.ListN.{length, length-set}
 use Rattle.aff_format.specs.Lowest.{lowestFrom}
 use Rattle.aff_format.specs.declared.entry.FoundEntry.the-variants.{Whole}
 use Rattle.aff_format.proofs.LowestLaws.{lowest-here, lowest-on, lowest-end}
-use Rattle.aff_open.specs.Belongs.{nodeLost, ParentsCopied}
-use Rattle.aff_open.specs.Recorded.{recordedEntry}
+use Rattle.aff_open.specs.Belongs.{nodeLost}
+use Rattle.aff_open.specs.passes.Belongs.{ParentsCopied}
+use Rattle.aff_format.specs.Recorded.{recordedEntry}
 use Rattle.aff_open.proofs.LostLaws.{node-broken, node-whole, found-parent, copied-more, entry-kept}
 use Rattle.aff_open.proofs.belongs.lost_node.Statement.{statement}
 use Rattle.aff_open.proofs.belongs.lost_node.Tie as tie

@@ -7,7 +7,7 @@ use borrow.Author.Needs.{needs}
 use lib.ListN.{length-replicate}
 use Rattle.aff_format.specs.Lowest.{isAt}
 use Rattle.aff_format.specs.declared.lowest.Lowest.{Lowest}
-use Rattle.aff_open.specs.Belongs.{nodesBelong}
+use Rattle.aff_open.specs.passes.Belongs.{nodesBelong}
 use Rattle.aff_open.proofs.BelongsLaws.{climbs-decide, nodes-linked}
 use Rattle.aff_open.proofs.belongs.nodes_belong.Statement.{statement}
 use Rattle.aff_open.proofs.belongs.nodes_belong.Tie as tie

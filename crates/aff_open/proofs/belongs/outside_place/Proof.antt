@@ -8,7 +8,7 @@ use borrow.Author.Tests.{lt-ltb, le-ltb, le-leb, lt-leb}
 use Rattle.aff_format.specs.Lowest.{lowestFrom}
 use Rattle.aff_format.specs.declared.lowest.Lowest.the-variants.{At}
 use Rattle.aff_format.proofs.LowestLaws.{lowest-here, lowest-on, lowest-end}
-use Rattle.aff_open.specs.Belongs.{placeOutside}
+use Rattle.aff_open.specs.passes.Belongs.{placeOutside}
 use Rattle.aff_open.proofs.belongs.outside_place.Statement.{statement}
 use Rattle.aff_open.proofs.belongs.outside_place.Tie as tie
 

@@ -3,7 +3,7 @@ use mathlib.Core.Path.{sym, _∙_}
 use mathlib.Core.Bool.{and-false}
 use borrow.Author.Needs.{needs}
 use borrow.Author.Tests.{not-true, not-false}
-use Rattle.aff_open.specs.Belongs.{sectionsInside}
+use Rattle.aff_open.specs.passes.Belongs.{sectionsInside}
 use Rattle.aff_open.proofs.belongs.sections_inside.Statement.{statement}
 use Rattle.aff_open.proofs.belongs.sections_inside.Tie as tie
 

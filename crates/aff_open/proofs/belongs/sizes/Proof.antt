@@ -8,33 +8,6 @@ use Rattle.aff_open.proofs.BelongsLaws.{edition-decides}
 use Rattle.aff_open.proofs.belongs.sizes.Statement.{statement}
 use Rattle.aff_open.proofs.belongs.sizes.Tie as tie
 
-returns : tie.Need-returns
-unfolding sizesBelong
-returns c = simp (ne-eqb _ _ (c .if1 .taken))
-
-returns-2 : tie.Need-returns-2
-unfolding sizesBelong
-returns-2 c = simp (lt-leb _ _ (c .if2 .taken), and-false)
-
-returns-3 : tie.Need-returns-3
-unfolding sizesBelong
-returns-3 c = simp (ne-eqb _ _ (c .if3 .taken), and-false)
-
-returns-4 : tie.Need-returns-4
-unfolding sizesBelong
-returns-4 c = simp (ne-eqb _ _ (c .if4 .taken), and-false)
-
-returns-5 : tie.Need-returns-5
-unfolding sizesBelong
-returns-5 c = simp (lt-leb _ _ (c .if5 .taken), and-false)
-
-returns-6 : tie.Need-returns-6
-unfolding sizesBelong
-returns-6 c = simp (lt-leb _ _ (c .if6 .taken), and-false)
-
-is-edition-requires : tie.Need-is-edition-requires
-is-edition-requires c κs = search needs
-
 returns-7 : tie.Need-returns-7
 returns-7 c =
     let b = c .before .before .before in
@@ -44,14 +17,15 @@ returns-7 c =
     (b .if5 .left) (c .before .if6 .left))
 
 pub sizes-spec : {M : Type 1} → statement M
+unfolding sizesBelong
 sizes-spec =
     tie.close
     (tie.spec
-    returns
-    returns-2
-    returns-3
-    returns-4
-    returns-5
-    returns-6
-    is-edition-requires
+    (λ c. simp (ne-eqb _ _ (c .if1 .taken)))
+    (λ c. simp (lt-leb _ _ (c .if2 .taken), and-false))
+    (λ c. simp (ne-eqb _ _ (c .if3 .taken), and-false))
+    (λ c. simp (ne-eqb _ _ (c .if4 .taken), and-false))
+    (λ c. simp (lt-leb _ _ (c .if5 .taken), and-false))
+    (λ c. simp (lt-leb _ _ (c .if6 .taken), and-false))
+    (λ c κs. search needs)
     returns-7)

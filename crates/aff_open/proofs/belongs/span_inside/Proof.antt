@@ -1,4 +1,4 @@
--- `span_inside` meets its contract: what is behind the offset has room for the size. Assumes nothing.
+-- `span_inside` meets its contract: what is after the offset has room for the size. Assumes nothing.
 use mathlib.Core.Path.{_≡_, refl, sym}
 use mathlib.Core.Bool.{Bool, true, false}
 use Prim.Native.Nat.{ℕ, _+_, _-_, _≤_, _<_}

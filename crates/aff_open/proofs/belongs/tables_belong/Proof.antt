@@ -1,7 +1,7 @@
 -- `tables_belong` meets its contract: strings, then nodes. Assumes nothing.
 use mathlib.Core.Path.{sym, _∙_}
 use borrow.Author.Needs.{needs}
-use Rattle.aff_open.specs.Belongs.{tablesBelong}
+use Rattle.aff_open.specs.passes.Belongs.{tablesBelong}
 use Rattle.aff_open.proofs.belongs.tables_belong.Statement.{statement}
 use Rattle.aff_open.proofs.belongs.tables_belong.Tie as tie
 

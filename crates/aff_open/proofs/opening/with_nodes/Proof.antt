@@ -6,7 +6,7 @@ use Rattle.aff_format.specs.declared.section.Section.the-variants.{Symbol, Data
 use Rattle.aff_format.proofs.VerdictLaws.{verdict-refuses, verdict-accepts}
 use Rattle.aff_open.specs.Opening.{nodesChecked, readerFor}
 use Rattle.aff_open.proofs.OpeningLaws.{places-by, distinct-by, checked-by, reader-by, refused-answers}
-use Rattle.aff_open.proofs.TableLaws.{span-inside}
+use Rattle.aff_open.proofs.TablesLaws.{span-inside}
 use Rattle.aff_open.proofs.opening.with_nodes.Statement.{statement}
 use Rattle.aff_open.proofs.opening.with_nodes.Tie as tie
 

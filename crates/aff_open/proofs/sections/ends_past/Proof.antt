@@ -1,4 +1,4 @@
--- `sections::ends_past` meets its contract: what is left behind the offset is compared with the size. Assumes nothing.
+-- `sections::ends_past` meets its contract: what is left after the offset is compared with the size. Assumes nothing.
 use mathlib.Core.Path.{sym}
 use borrow.Author.Needs.{needs}
 use Rattle.aff_format.proofs.TestLaws.{left-short}

@@ -1,7 +1,7 @@
 -- `sections::sections` meets its contract: the sums are checked where nothing was wrong before. Assumes nothing.
 use mathlib.Core.Path.{sym, ap, _∙_}
 use borrow.Author.Needs.{needs}
-use Rattle.aff_format.specs.Verdict.{verdictTold}
+use Rattle.aff_format.specs.Verdict.{answerOfVerdict}
 use Rattle.aff_open.specs.Opening.{insideChecks, sumChecks}
 use Rattle.aff_format.proofs.VerdictLaws.{verdict-refuses-more, verdict-leaves}
 use Rattle.aff_open.proofs.SectionLaws.{inside-clear}
@@ -11,7 +11,7 @@ use Rattle.aff_open.proofs.sections.sections.Tie as tie
 sums-requires : tie.Need-sums-requires
 sums-requires c κs =
     let z = c .before .before .before .before in
-    let h = sym (c .before .before .inside .ensures) ∙ ap verdictTold (c .enum-told .given .1) in
+    let h = sym (c .before .before .inside .ensures) ∙ ap answerOfVerdict (c .enum-told .given .1) in
     record { whole = z .pre .0; inside = inside-clear (z .args .image .now) tt (z .args .edition) h; short = z .pre .1 }
 
 returns : tie.Need-returns

@@ -1,28 +1,19 @@
 -- `count` meets its contract: the judgement, then the entry's count.
 use borrow.Author.Needs.{needs}
 use mathlib.Core.Path.{ap}
+use Rattle.aff_format.specs.Answer.{accepted}
 use Rattle.aff_format.specs.declared.entry.Entry.{Entry}
-use Rattle.aff_format.proofs.VerdictLaws.{verdict-refuses, verdict-accepts}
-use Rattle.aff_read.specs.Answers.{nodeChecks, countAnswer}
+use Rattle.aff_read.specs.Answers.{countAnswer}
+use Rattle.aff_read.proofs.JudgeLaws.{judge-refuses, judge-answers}
 use Rattle.aff_read.proofs.node.count.Statement.{statement}
 use Rattle.aff_read.proofs.node.count.Tie as tie
 
-returns : tie.Need-returns
-unfolding countAnswer
-returns c =
-    let j = c .before .before .before in
-    let a = j .before .before .before .before .args in
-    verdict-refuses (nodeChecks (a .image .now) (a .reader) (a .strings .now) (a .entries .now) (a .node)) (j .judge .result) (j .judge .ensures) _ _ (c .before .refusal .given .1)
-
-returns-2 : tie.Need-returns-2
-unfolding countAnswer
-returns-2 c =
-    let e = c .before in
-    let j = e .before .before .before in
-    let a = j .before .before .before .before .args in
-    verdict-accepts (nodeChecks (a .image .now) (a .reader) (a .strings .now) (a .entries .now) (a .node)) (j .judge .result) (j .judge .ensures) _ _ (e .before .enum-told .given .1) (ap (λ (x : Entry). x .count) (e .recorded-entry .ensures))
-
 pub count-spec : {M : Type 1} → statement M
+unfolding countAnswer
 count-spec =
     tie.close
-    (tie.spec (λ c κs. search needs) (λ c. search needs) (λ c. search needs) (λ c κs. search needs) (λ c. search needs) returns returns-2)
+    (tie.spec (λ c κs. search needs) (λ c. search needs) (λ c. search needs) (λ c κs. search needs) (λ c. search needs)
+    (λ c. judge-refuses _ _ _ _ _ (c .before .before .before .judge .ensures) _ (c .before .refusal .given .1))
+    (λ c.
+    let e = c .before in
+    judge-answers _ _ _ _ _ (e .before .before .before .judge .ensures) _ (e .before .enum-told .given .1) (ap (λ (x : Entry). accepted (x .count)) (e .recorded-entry .ensures))))

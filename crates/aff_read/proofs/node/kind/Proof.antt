@@ -1,27 +1,17 @@
 -- `kind` meets its contract: the judgement, then the entry's kind.
 use borrow.Author.Needs.{needs}
 use mathlib.Core.Path.{ap}
+use Rattle.aff_format.specs.Answer.{accepted}
 use Rattle.aff_format.specs.declared.entry.Entry.{Entry}
-use Rattle.aff_format.proofs.VerdictLaws.{verdict-refuses, verdict-accepts}
-use Rattle.aff_read.specs.Answers.{nodeChecks, kindAnswer}
+use Rattle.aff_read.specs.Answers.{kindAnswer}
+use Rattle.aff_read.proofs.JudgeLaws.{judge-refuses, judge-answers}
 use Rattle.aff_read.proofs.node.kind.Statement.{statement}
 use Rattle.aff_read.proofs.node.kind.Tie as tie
 
-returns : tie.Need-returns
-unfolding kindAnswer
-returns c =
-    let j = c .before .before .before in
-    let a = j .before .before .before .before .args in
-    verdict-refuses (nodeChecks (a .image .now) (a .reader) (a .strings .now) (a .entries .now) (a .node)) (j .judge .result) (j .judge .ensures) _ _ (c .before .refusal .given .1)
-
-returns-2 : tie.Need-returns-2
-unfolding kindAnswer
-returns-2 c =
-    let j = c .before .before .before in
-    let a = j .before .before .before .before .args in
-    verdict-accepts (nodeChecks (a .image .now) (a .reader) (a .strings .now) (a .entries .now) (a .node)) (j .judge .result) (j .judge .ensures) _ _ (c .before .enum-told .given .1) (ap (λ (x : Entry). x .kind) (c .recorded-entry .ensures))
-
 pub kind-spec : {M : Type 1} → statement M
+unfolding kindAnswer
 kind-spec =
     tie.close
-    (tie.spec (λ c κs. search needs) (λ c. search needs) (λ c. search needs) (λ c κs. search needs) returns returns-2)
+    (tie.spec (λ c κs. search needs) (λ c. search needs) (λ c. search needs) (λ c κs. search needs)
+    (λ c. judge-refuses _ _ _ _ _ (c .before .before .before .judge .ensures) _ (c .before .refusal .given .1))
+    (λ c. judge-answers _ _ _ _ _ (c .before .before .before .judge .ensures) _ (c .before .enum-told .given .1) (ap (λ (x : Entry). accepted (x .kind)) (c .recorded-entry .ensures))))

@@ -4,10 +4,8 @@ use Rattle.aff_read.proofs.SpanLaws.{part-between}
 use Rattle.aff_read.proofs.node.span_of.Statement.{statement}
 use Rattle.aff_read.proofs.node.span_of.Tie as tie
 
-returns : tie.Need-returns
-returns c = let s = c .before .before .args .span in part-between (c .before .before .args .image .now) (s .offset) (s .size)
-
 pub span-of-spec : {M : Type 1} → statement M
 span-of-spec =
     tie.close
-    (tie.spec (λ c. search needs) (λ c. search needs) (λ c. search needs) (λ c. search needs) returns)
+    (tie.spec (λ c. search needs) (λ c. search needs) (λ c. search needs) (λ c. search needs)
+    (λ c. let s = c .before .before .args .span in part-between (c .before .before .args .image .now) (s .offset) (s .size)))

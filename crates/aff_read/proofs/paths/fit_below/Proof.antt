@@ -4,31 +4,12 @@ use mathlib.Core.Path.{_≡_, refl, ap, _∙_}
 use Prim.Native.Nat.{ℕ}
 use native.Mathlib.Omega.{arith}
 use lib.ListN.{getD}
-use Rattle.aff_open.specs.Recorded.{recordedEntry}
+use Rattle.aff_format.specs.Recorded.{recordedEntry}
 use Rattle.aff_read.specs.Recall.{nameSpan}
 use Rattle.aff_read.proofs.FitLaws.{below-none, below-end, below-other, below-slash}
 use Rattle.aff_read.proofs.FrontLaws.{name-starts, name-begins, name-there}
 use Rattle.aff_read.proofs.paths.fit_below.Statement.{statement}
 use Rattle.aff_read.proofs.paths.fit_below.Tie as tie
-
-returns : tie.Need-returns
-returns c =
-    let s = c .before .before .before .before .before in
-    let a = s .args in
-    below-none (s .pre .0 .0) (a .path .now) (a .node) (s .pre .0 .1) (s .pre .0 .2) (a .above) (s .pre .1 .1) (c .if1 .taken)
-
-returns-2 : tie.Need-returns-2
-returns-2 c =
-    let s = c .before .before .before .before .before .before in
-    let a = s .args in
-    below-end (s .pre .0 .0) (a .path .now) (a .node) (s .pre .0 .1) (s .pre .0 .2) (a .above) (s .pre .1 .1) (c .before .if1 .left) (c .if2 .taken)
-
-returns-3 : tie.Need-returns-3
-returns-3 c =
-    let i = c .before .before in
-    let s = i .before .before .before .before .before .before in
-    let a = s .args in
-    below-other (s .pre .0 .0) (a .path .now) (a .node) (s .pre .0 .1) (s .pre .0 .2) (a .above) (s .pre .1 .1) (i .before .if1 .left) (i .if2 .left) (c .if3 .taken)
 
 -- The name begins there.
 begins : (c : tie.After-place) → let a = c .before .before .before .before .before .before .before .before .before .before .args in
@@ -39,36 +20,37 @@ begins c =
     name-begins (a .image .now) (a .reader) (a .strings .now) (a .entries .now) (a .node) (λ q. omega (arith, s .pre .0 .2)) (recordedEntry (a .image .now) (a .entries .now) (a .node)) _ refl
     (c .place .ensures ∙ ap (λ (j : ℕ). getD (a .strings .now) j 0) (s .pre .1 .0))
 
-fit-from-requires : tie.Need-fit-from-requires
-fit-from-requires c κs =
-    let i = c .before .before .before .before .before in
-    let s = i .before .before .before .before .before .before in
-    let a = s .args in
-    let b = s .pre .0 .0 in
-    (rw (begins (c .before)) (name-starts (a .image .now) (a .reader) (a .strings .now) (a .entries .now) b (a .node) (s .pre .0 .1)), b .symbols-inside, omega (arith, i .if2 .left))
-
 returns-4 : tie.Need-returns-4
 returns-4 c =
     let p = c .before .before in
     let j = p .before .before in
     let i = j .before .before in
     let s = i .before .before .before .before .before .before in
-    let a = s .args in
     c .fit-from .ensures
-    ∙ below-slash (s .pre .0 .0) (a .path .now) (a .node) (s .pre .0 .1) (s .pre .0 .2) (a .above) (s .pre .1 .1) (i .before .if1 .left) (i .if2 .left) (j .if3 .left) _
-    (name-there (a .image .now) (a .reader) (a .strings .now) (a .entries .now) (a .node) (λ q. omega (arith, s .pre .0 .2)) _ (begins p))
+    ∙ below-slash (s .pre .0 .0) _ _ (s .pre .0 .1) (s .pre .0 .2) _ (s .pre .1 .1) (i .before .if1 .left) (i .if2 .left) (j .if3 .left) _
+    (name-there _ _ _ _ _ (λ q. omega (arith, s .pre .0 .2)) _ (begins p))
 
 pub fit-below-spec : {M : Type 1} → statement M
 fit-below-spec =
     tie.close
     (tie.spec
-    returns
+    (λ c.
+    let s = c .before .before .before .before .before in
+    below-none (s .pre .0 .0) _ _ (s .pre .0 .1) (s .pre .0 .2) _ (s .pre .1 .1) (c .if1 .taken))
     (λ c. search needs)
-    returns-2
+    (λ c.
+    let s = c .before .before .before .before .before .before in
+    below-end (s .pre .0 .0) _ _ (s .pre .0 .1) (s .pre .0 .2) _ (s .pre .1 .1) (c .before .if1 .left) (c .if2 .taken))
     (λ c. search needs)
-    returns-3
-    (λ c κs. search needs)
-    (λ c. search needs)
-    (λ c. search needs)
-    fit-from-requires
+    (λ c.
+    let i = c .before .before in
+    let s = i .before .before .before .before .before .before in
+    below-other (s .pre .0 .0) _ _ (s .pre .0 .1) (s .pre .0 .2) _ (s .pre .1 .1) (i .before .if1 .left) (i .if2 .left) (c .if3 .taken))
+    (λ c κs. search needs) (λ c. search needs) (λ c. search needs)
+    (λ c κs.
+    let i = c .before .before .before .before .before in
+    let s = i .before .before .before .before .before .before in
+    let a = s .args in
+    let b = s .pre .0 .0 in
+    (rw (begins (c .before)) (name-starts _ _ _ _ b (a .node) (s .pre .0 .1)), b .symbols-inside, omega (arith, i .if2 .left)))
     returns-4)

@@ -6,33 +6,21 @@ use Rattle.aff_read.proofs.FitLaws.{root-has, other-has}
 use Rattle.aff_read.proofs.paths.has_path.Statement.{statement}
 use Rattle.aff_read.proofs.paths.has_path.Tie as tie
 
-returns : tie.Need-returns
-returns c =
-    let s = c .before .before .before .before .before .before .before .before in
-    let a = s .args in
-    (s .pre .1 .0, c .is-root .ensures ∙ root-has (a .image .now) (a .reader) (a .strings .now) (a .entries .now) (a .path .now) (a .node) (c .before .if1 .taken))
-
-settle-requires : tie.Need-settle-requires
-settle-requires c κs =
-    let i = c .before .before .before in
-    let s = i .before .before .before .before .before .before .before in
-    ((s .pre .0 .0, omega (arith, i .if1 .left), s .pre .0 .1), s .pre .1)
-
-returns-2 : tie.Need-returns-2
-returns-2 c =
-    let w = c .before .before .before .before in
-    let i = w .before .before .before .before in
-    let a = i .before .before .before .before .before .before .before .args in
-    (w .settle .ensures .0, other-has (a .image .now) (a .reader) (a .strings .now) (a .entries .now) (a .path .now) (a .node) _ (i .if1 .left) (w .settle .ensures .1))
-
 pub has-path-spec : {M : Type 1} → statement M
 has-path-spec =
     tie.close
-    (tie.spec
-    (λ c κs. search needs)
-    returns
-    settle-requires
-    (λ c. search needs)
-    (λ c. search needs)
-    (λ c. search needs)
-    returns-2)
+    (tie.spec (λ c κs. search needs)
+    (λ c.
+    let s = c .before .before .before .before .before .before .before .before in
+    let a = s .args in
+    (s .pre .1 .0, c .is-root .ensures ∙ root-has _ _ _ _ _ (a .node) (c .before .if1 .taken)))
+    (λ c κs.
+    let i = c .before .before .before in
+    let s = i .before .before .before .before .before .before .before in
+    ((s .pre .0 .0, omega (arith, i .if1 .left), s .pre .0 .1), s .pre .1))
+    (λ c. search needs) (λ c. search needs) (λ c. search needs)
+    (λ c.
+    let w = c .before .before .before .before in
+    let i = w .before .before .before .before in
+    let a = i .before .before .before .before .before .before .before .args in
+    (w .settle .ensures .0, other-has _ _ _ _ _ (a .node) _ (i .if1 .left) (w .settle .ensures .1))))

@@ -4,13 +4,9 @@ use mathlib.Core.Path.{sym, _∙_}
 use Rattle.aff_read.proofs.paths.is_path.Statement.{statement}
 use Rattle.aff_read.proofs.paths.is_path.Tie as tie
 
-returns : tie.Need-returns
-returns c = rw (sym (c .before .before .grammar .ensures) ∙ c .enum-told .given .1)
-
-returns-2 : tie.Need-returns-2
-returns-2 c = rw (sym (c .before .before .grammar .ensures) ∙ c .enum-told2 .given .1)
-
 pub is-path-spec : {M : Type 1} → statement M
 is-path-spec =
     tie.close
-    (tie.spec (λ c κs. search needs) (λ c. search needs) (λ c. search needs) returns returns-2)
+    (tie.spec (λ c κs. search needs) (λ c. search needs) (λ c. search needs)
+    (λ c. rw (sym (c .before .before .grammar .ensures) ∙ c .enum-told .given .1))
+    (λ c. rw (sym (c .before .before .grammar .ensures) ∙ c .enum-told2 .given .1)))

@@ -9,8 +9,8 @@ use Rattle.aff_format.specs.Bytes.{sameBytes}
 use Rattle.aff_format.specs.Lowest.{lowestFrom}
 use Rattle.aff_format.specs.declared.lowest.Lowest.the-variants.{At}
 use Rattle.aff_format.proofs.LowestLaws.{lowest-here, lowest-on, lowest-end}
-use Rattle.aff_read.specs.Calls.{found}
-use Rattle.aff_read.specs.Fit.{Settled}
+use Rattle.aff_read.specs.Paths.{found}
+use Rattle.aff_read.specs.passes.Fit.{FitsSettled}
 use Rattle.aff_read.specs.Recall.{pathAt}
 use Rattle.aff_read.proofs.FitLaws.{settled-first}
 use Rattle.aff_read.proofs.paths.lowest_match.Statement.{statement}
@@ -20,7 +20,7 @@ abbrev Inv-loop : tie.InvT-loop
 Inv-loop image reader strings entries path chain₀ names₀ fits₀ k₀ chain names fits k =
     (length chain ≡ 2049)
     × (length names ≡ 2049)
-    × Settled image reader strings entries path fits
+    × FitsSettled image reader strings entries path fits
     × (lowestFrom (λ j. sameBytes (pathAt image reader strings entries j) path) (reader .nodes + 1 - k) (k + 0) ≡ found image reader strings entries path)
 
 abbrev μ-loop : tie.MeasureT-loop
@@ -37,34 +37,6 @@ loop-holds c =
       rw sub-zero,
     )
 
-slice-aggregate-has-path : tie.Need-slice-aggregate-has-path Inv-loop μ-loop
-slice-aggregate-has-path c = sym (c .before .before .before .loop .inv .0)
-
-slice-aggregate-has-path-2 : tie.Need-slice-aggregate-has-path-2 Inv-loop μ-loop
-slice-aggregate-has-path-2 c = sym (c .before .before .before .before .loop .inv .1)
-
-has-path-requires : tie.Need-has-path-requires Inv-loop μ-loop
-has-path-requires c κs =
-    let i = c .before .before .before in
-    let lp = i .before .before in
-    ((lp .before .before .before .before .before .pre, omega (arith, i .if1 .taken)), (lp .loop .inv .2, (lp .loop .inv .0, lp .loop .inv .1)))
-
-returns : tie.Need-returns Inv-loop μ-loop
-returns c =
-    let m = c .before .before .before in
-    let i = m .before .before .before .before in
-    let lp = i .before .before in
-    let h : lp .loop .k < lp .before .before .before .before .before .args .reader .nodes + 1 = omega (arith, i .if1 .taken) in
-    ap At (sym (add-zero (lp .loop .k))) ∙ lowest-here _ _ _ 0 h (rw (add-zero _) (sym (m .has-path .ensures .1) ∙ c .if2 .taken)) ∙ lp .loop .inv .3
-
-add-k : tie.Need-add-k Inv-loop μ-loop
-add-k c =
-    let i = c .before .before .before .before .before .before .before in
-    omega (arith, i .before .before .before .before .before .before .before .pre .few-nodes, i .if1 .taken)
-
-loop-less : tie.Need-loop-less Inv-loop μ-loop
-loop-less c = omega (arith, c .before .before .before .before .before .before .before .if1 .taken)
-
 loop-again : tie.Need-loop-again Inv-loop μ-loop
 loop-again c =
     let m = c .before .before .before in
@@ -77,25 +49,28 @@ loop-again c =
       lowest-on _ _ _ 0 h (rw (add-zero _) (sym (m .has-path .ensures .1) ∙ c .if2 .left)) ∙ lp .loop .inv .3,
     )
 
-returns-2 : tie.Need-returns-2 Inv-loop μ-loop
-returns-2 c =
-    let lp = c .before .before in
-    let h : lp .before .before .before .before .before .args .reader .nodes + 1 ≤ lp .loop .k = omega (arith, c .if1 .left) in
-    lowest-end _ _ _ 0 h ∙ lp .loop .inv .3
-
 pub lowest-match-spec : {M : Type 1} → statement M
 lowest-match-spec =
     tie.close
-    (tie.spec
-    Inv-loop
-    μ-loop
-    (λ c. search needs)
-    loop-holds
-    slice-aggregate-has-path
-    slice-aggregate-has-path-2
-    has-path-requires
-    returns
-    add-k
-    loop-less
+    (tie.spec Inv-loop μ-loop (λ c. search needs) loop-holds
+    (λ c. sym (c .before .before .before .loop .inv .0))
+    (λ c. sym (c .before .before .before .before .loop .inv .1))
+    (λ c κs.
+    let i = c .before .before .before in
+    let lp = i .before .before in
+    ((lp .before .before .before .before .before .pre, omega (arith, i .if1 .taken)), (lp .loop .inv .2, (lp .loop .inv .0, lp .loop .inv .1))))
+    (λ c.
+    let m = c .before .before .before in
+    let i = m .before .before .before .before in
+    let lp = i .before .before in
+    let h : lp .loop .k < lp .before .before .before .before .before .args .reader .nodes + 1 = omega (arith, i .if1 .taken) in
+    ap At (sym (add-zero (lp .loop .k))) ∙ lowest-here _ _ _ 0 h (rw (add-zero _) (sym (m .has-path .ensures .1) ∙ c .if2 .taken)) ∙ lp .loop .inv .3)
+    (λ c.
+    let i = c .before .before .before .before .before .before .before in
+    omega (arith, i .before .before .before .before .before .before .before .pre .few-nodes, i .if1 .taken))
+    (λ c. omega (arith, c .before .before .before .before .before .before .before .if1 .taken))
     loop-again
-    returns-2)
+    (λ c.
+    let lp = c .before .before in
+    let h : lp .before .before .before .before .before .args .reader .nodes + 1 ≤ lp .loop .k = omega (arith, c .if1 .left) in
+    lowest-end _ _ _ 0 h ∙ lp .loop .inv .3))

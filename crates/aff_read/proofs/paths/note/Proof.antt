@@ -22,21 +22,6 @@ begins c =
     let a = s .args in
     name-begins (a .image .now) (a .reader) (a .strings .now) (a .entries .now) (a .node) (λ q. omega (arith, s .pre .0 .1)) _ _ (e .recorded-entry .ensures) (c .place .ensures)
 
-name-end-requires : tie.Need-name-end-requires
-name-end-requires c κs =
-    let p = c .before in
-    let s = p .before .before .before .before .before .before .before in
-    let a = s .args in
-    let b = s .pre .0 .0 in
-    (rw (begins p) (name-starts (a .image .now) (a .reader) (a .strings .now) (a .entries .now) b (a .node) (s .pre .0 .2)), b .symbols-inside)
-
-cast-table : tie.Need-cast-table
-cast-table c =
-    let e = c .before .before .before .before in
-    let s = e .before .before .before .before .before in
-    let b = s .pre .0 .0 in
-    omega (arith, ap (λ (x : Entry). x .parent) (e .recorded-entry .ensures), parent-within b (s .args .node) (s .pre .0 .2), b .few-nodes)
-
 returns : tie.Need-returns
 returns c =
     let p = c .before .before in
@@ -45,28 +30,24 @@ returns c =
     let a = s .args in
     let up = ap (λ (x : Entry). x .parent) (e .recorded-entry .ensures) in
     let from : ℕ = p .place .result in
-    let text = name-there (a .image .now) (a .reader) (a .strings .now) (a .entries .now) (a .node) (λ q. omega (arith, s .pre .0 .1)) from (begins p) in
+    let text = name-there _ _ _ _ _ (λ q. omega (arith, s .pre .0 .1)) from (begins p) in
     (up, note-more (s .pre .0 .0) (s .pre .1) (a .node) (s .pre .0 .2) _ from _ up (begins p) (c .name-end .ensures .0 ∙ ap (λ (l : List ℕ). from + length l) text))
 
 pub note-spec : {M : Type 1} → statement M
 note-spec =
     tie.close
-    (tie.spec
-    (λ c κs. search needs)
+    (tie.spec (λ c κs. search needs) (λ c. search needs) (λ c κs. search needs) (λ c. search needs)
+    (λ c κs.
+    let p = c .before in
+    let s = p .before .before .before .before .before .before .before in
+    let a = s .args in
+    let b = s .pre .0 .0 in
+    (rw (begins p) (name-starts _ _ _ _ b (a .node) (s .pre .0 .2)), b .symbols-inside))
     (λ c. search needs)
-    (λ c κs. search needs)
-    (λ c. search needs)
-    name-end-requires
-    (λ c. search needs)
-    cast-table
-    (λ c. search needs)
-    (λ c. search needs)
-    (λ c. search needs)
-    (λ c. search needs)
-    (λ c. search needs)
-    (λ c. search needs)
-    (λ c. search needs)
-    (λ c. search needs)
-    (λ c. search needs)
-    (λ c. search needs)
-    returns)
+    (λ c.
+    let e = c .before .before .before .before in
+    let s = e .before .before .before .before .before in
+    let b = s .pre .0 .0 in
+    omega (arith, ap (λ (x : Entry). x .parent) (e .recorded-entry .ensures), parent-within b (s .args .node) (s .pre .0 .2), b .few-nodes))
+    (λ c. search needs) (λ c. search needs) (λ c. search needs) (λ c. search needs) (λ c. search needs) (λ c. search needs) (λ c. search needs)
+    (λ c. search needs) (λ c. search needs) (λ c. search needs) returns)

@@ -12,29 +12,20 @@ Inv-loop image reader strings entries node table₀ at₀ table at = Climbing im
 abbrev μ-loop : tie.MeasureT-loop
 μ-loop image reader strings entries node table₀ at₀ table at = length (frontAt image reader strings entries at)
 
-loop-holds : tie.Need-loop-holds Inv-loop μ-loop
-loop-holds c =
-    let s = c .before .before .before in
-    climbing-start (s .args .strings .now) (s .args .entries .now) (s .args .node) (s .pre .0 .1) (s .pre .1)
-
-note-requires : tie.Need-note-requires Inv-loop μ-loop
-note-requires c κs =
-    let lp = c .before .before in
-    ((lp .before .before .before .before .pre .0 .0, omega (arith, c .before .loop-test .taken), lp .loop .inv .there), lp .loop .inv .inside)
-
-loop-less : tie.Need-loop-less Inv-loop μ-loop
-loop-less c =
-    let lp = c .before .before .before in
-    climbing-less (lp .loop .inv) (lp .before .before .before .before .pre .0 .0) (c .before .before .loop-test .taken) _ (c .note .ensures .0)
-
-loop-again : tie.Need-loop-again Inv-loop μ-loop
-loop-again c =
-    let lp = c .before .before .before in
-    climbing-next (lp .loop .inv) (lp .before .before .before .before .pre .0 .0) (c .before .before .loop-test .taken) _ (c .note .ensures .0) (c .note .ensures .1)
-
-returns : tie.Need-returns Inv-loop μ-loop
-returns c = climbing-done (c .before .loop .inv) (c .loop-test .left)
-
 pub note-climb-spec : {M : Type 1} → statement M
 note-climb-spec =
-    tie.close (tie.spec Inv-loop μ-loop loop-holds note-requires loop-less loop-again returns)
+    tie.close
+    (tie.spec Inv-loop μ-loop
+    (λ c.
+    let s = c .before .before .before in
+    climbing-start (s .args .strings .now) (s .args .entries .now) (s .args .node) (s .pre .0 .1) (s .pre .1))
+    (λ c κs.
+    let lp = c .before .before in
+    ((lp .before .before .before .before .pre .0 .0, omega (arith, c .before .loop-test .taken), lp .loop .inv .there), lp .loop .inv .inside))
+    (λ c.
+    let lp = c .before .before .before in
+    climbing-less (lp .loop .inv) (lp .before .before .before .before .pre .0 .0) (c .before .before .loop-test .taken) _ (c .note .ensures .0))
+    (λ c.
+    let lp = c .before .before .before in
+    climbing-next (lp .loop .inv) (lp .before .before .before .before .pre .0 .0) (c .before .before .loop-test .taken) _ (c .note .ensures .0) (c .note .ensures .1))
+    (λ c. climbing-done (c .before .loop .inv) (c .loop-test .left)))

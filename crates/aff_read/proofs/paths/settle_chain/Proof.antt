@@ -4,7 +4,7 @@ use mathlib.Core.Path.{_≡_, ap, _∙_}
 use Prim.Native.Nat.{ℕ, _-_, _≤_, _<_}
 use native.Mathlib.Omega.{arith}
 use lib.ListN.{getD, set}
-use Rattle.aff_read.specs.Fit.{fitAt, Settled}
+use Rattle.aff_read.specs.passes.Fit.{fitAt, FitsSettled}
 use Rattle.aff_read.proofs.ChainLaws.{top-fit, parent-fit}
 use Rattle.aff_read.proofs.FitLaws.{settled-next}
 use Rattle.aff_read.proofs.paths.settle_chain.Statement.{statement}
@@ -12,7 +12,7 @@ use Rattle.aff_read.proofs.paths.settle_chain.Tie as tie
 
 abbrev Inv-loop : tie.InvT-loop
 Inv-loop image reader strings entries path chain names count fits₀ top k₀ fit₀ fits k fit =
-    (k ≤ count) × Settled image reader strings entries path fits × (fit ≡ fitAt image reader strings entries path (getD chain k 0))
+    (k ≤ count) × FitsSettled image reader strings entries path fits × (fit ≡ fitAt image reader strings entries path (getD chain k 0))
 
 abbrev μ-loop : tie.MeasureT-loop
 μ-loop image reader strings entries path chain names count fits₀ top k₀ fit₀ fits k fit = k
@@ -23,18 +23,6 @@ top-exists c =
     let s = c .before .before .before .before .before .before .before in
     let h = s .pre .1 .1 .0 in
     omega (arith, c .place .ensures, h .exist (s .args .count) (omega arith), s .pre .0 .few-nodes)
-
-mul-fit : tie.Need-mul-fit Inv-loop μ-loop
-mul-fit c = omega (arith, top-exists c)
-
-element-copy-out-fit : tie.Need-element-copy-out-fit Inv-loop μ-loop
-element-copy-out-fit c = omega (arith, top-exists c)
-
-loop-holds : tie.Need-loop-holds Inv-loop μ-loop
-loop-holds c =
-    let p = c .before in
-    let s = p .before .before .before .before .before .before .before in
-    (omega arith, s .pre .1 .0, top-fit (s .pre .1 .0) (s .pre .1 .1 .0) (p .place .ensures) (s .pre .1 .1 .1))
 
 fit-below-requires : tie.Need-fit-below-requires Inv-loop μ-loop
 fit-below-requires c κs =
@@ -69,46 +57,28 @@ node-low c =
     let s = c .before .before .before .before .before .before .before .before .before .before .before .before .before in
     omega (arith, node-exists c, s .pre .0 .few-nodes)
 
-mul-fits : tie.Need-mul-fits Inv-loop μ-loop
-mul-fits c = omega (arith, node-low c)
-
-element-write-fits : tie.Need-element-write-fits Inv-loop μ-loop
-element-write-fits c = omega (arith, node-low c)
-
 loop-again : tie.Need-loop-again Inv-loop μ-loop
 loop-again c =
     let n = c .before .before in
     let lp = n .before .before in
-    let a = lp .before .before .before .before .before .before .before .before .before .args in
     let m = node-exists c in (
       omega (arith, lp .loop .inv .0),
       settled-next (lp .loop .inv .1) (n .place2 .result) (m .1) _ (m .0) (ap (λ (fit : ℕ). set (lp .loop .fits) (n .place2 .result) fit) (c .fit-below .ensures)),
-      c .fit-below .ensures ∙ ap (fitAt (a .image .now) (a .reader) (a .strings .now) (a .entries .now) (a .path .now)) (n .place2 .ensures),
+      c .fit-below .ensures ∙ ap (fitAt _ _ _ _ _) (n .place2 .ensures),
     )
-
-returns : tie.Need-returns Inv-loop μ-loop
-returns c =
-    let lp = c .before in
-    let a = lp .before .before .before .before .before .before .before .before .before .args in
-    let z : lp .loop .k ≡ 0 = omega (arith, c .loop-test .left) in
-    (lp .loop .inv .1, lp .loop .inv .2 ∙ ap (λ (k : ℕ). fitAt (a .image .now) (a .reader) (a .strings .now) (a .entries .now) (a .path .now) (getD (a .chain .now) k 0)) z)
 
 pub settle-chain-spec : {M : Type 1} → statement M
 settle-chain-spec =
     tie.close
-    (tie.spec
-    Inv-loop
-    μ-loop
-    (λ c κs. search needs)
-    mul-fit
-    element-copy-out-fit
-    loop-holds
-    (λ c. omega arith)
-    (λ c κs. search needs)
-    (λ c κs. search needs)
-    fit-below-requires
-    mul-fits
-    element-write-fits
-    (λ c. omega arith)
-    loop-again
-    returns)
+    (tie.spec Inv-loop μ-loop (λ c κs. search needs) (λ c. omega (arith, top-exists c)) (λ c. omega (arith, top-exists c))
+    (λ c.
+    let p = c .before in
+    let s = p .before .before .before .before .before .before .before in
+    (omega arith, s .pre .1 .0, top-fit (s .pre .1 .0) (s .pre .1 .1 .0) (p .place .ensures) (s .pre .1 .1 .1)))
+    (λ c. omega arith) (λ c κs. search needs) (λ c κs. search needs) fit-below-requires (λ c. omega (arith, node-low c))
+    (λ c. omega (arith, node-low c)) (λ c. omega arith) loop-again
+    (λ c.
+    let lp = c .before in
+    let a = lp .before .before .before .before .before .before .before .before .before .args in
+    let z : lp .loop .k ≡ 0 = omega (arith, c .loop-test .left) in
+    (lp .loop .inv .1, lp .loop .inv .2 ∙ ap (λ (k : ℕ). fitAt (a .image .now) (a .reader) (a .strings .now) (a .entries .now) (a .path .now) (getD (a .chain .now) k 0)) z)))

@@ -1,11 +1,11 @@
--- `close_header` meets its contract: signature, section headers and sum are written one behind the other; the data lie inside the room. Assumes nothing.
+-- `close_header` meets its contract: signature, section headers and sum are written one after the other; the data lie inside the buffer. Assumes nothing.
 use borrow.Author.Needs.{needs}
 use native.Mathlib.Omega.{arith}
 use mathlib.Core.Path.{sym}
 use Prim.Native.Nat.{ℕ, _+_, _-_, _≤_}
 use lib.ListN.{length, take, drop, replicate, length-replicate}
 use Rattle.aff_write.proofs.PutLaws.{size-least, sizes-small}
-use Rattle.aff_write.proofs.CloseLaws.{used-length, data-lent, header-over}
+use Rattle.aff_write.proofs.CloseLaws.{used-length, data-lengths, header-over}
 use Rattle.aff_write.proofs.closing.close_header.Statement.{statement}
 use Rattle.aff_write.proofs.closing.close_header.Tie as tie
 
@@ -34,7 +34,7 @@ part-put-section-end c =
     let w = c17 .args .writer in
     let b = c17 .pre .0 in
     let h = c12 .header-size in
-    let n : h .result + w .«data» ≤ length (c17 .args .image .now) =
+    let n : h .result + w .«data» ≤ length (c17 .args .buffer .now) =
     omega (arith, h .ensures, size-least w (c17 .args .tree .now), b .size-fits, b .length-recorded) in
     n
 
@@ -48,7 +48,7 @@ returns c =
     let c18 = c15 .before .before .before in
     let c23 = c18 .before .before .before .before .before in
     let w = c23 .args .writer in
-    let i = c23 .args .image .now in
+    let i = c23 .args .buffer .now in
     let h = c18 .header-size in
     let f = h .result in
     let d = c15 .data-nodes in
@@ -56,7 +56,7 @@ returns c =
     let n : 168 ≤ length (replicate {A = ℕ} 168 0) = omega (arith, length-replicate {A = ℕ} 168 0) in
     header-over i w (c23 .args .text .now) (c23 .args .tree .now) (c23 .args .entries .now) (take (f + w .«data» - f) (drop f i)) (k .result) f (d .result)
     (replicate 168 0) (c13 .put-signature .last .0) (c9 .put-tables .last .0) (c4 .put-section .last .0) (c .before .put-sum .last .0)
-    n (c13 .put-signature .ensures .1) (c23 .pre .1) (data-lent i w f (h .ensures)) (k .ensures) (h .ensures) (d .ensures .0)
+    n (c13 .put-signature .ensures .1) (c23 .pre .1) (data-lengths i w f (h .ensures)) (k .ensures) (h .ensures) (d .ensures .0)
     (c13 .put-signature .ensures .0) (c9 .put-tables .ensures) (c4 .put-section .ensures) (c .before .put-sum .ensures)
 
 pub close-header-spec : {M : Type 1} → statement M

@@ -1,15 +1,15 @@
--- `close_open` meets its contract: the code's sum is the number of closing stores, and 23 is told where some are left. Assumes nothing.
+-- `close_open` meets its contract: the code's sum is the number of closing stores, and 23 is reported where some are left. Assumes nothing.
 use borrow.Author.Needs.{needs}
 use native.Mathlib.Omega.{arith}
 use mathlib.Core.Path.{sym, ap, _∙_}
 use Prim.Native.Nat.{_≤_, _<_}
 use lib.ListN.{length, replicate}
 use lib.Seq.{length-take-le}
-use Rattle.aff_format.specs.Verdict.{numberTold}
-use Rattle.aff_write.specs.Areas.{entriesOut}
+use Rattle.aff_format.specs.Verdict.{answerOfNumber}
+use Rattle.aff_areas.specs.Areas.{entriesOut}
+use Rattle.aff_areas.specs.Writer.{stopped}
 use Rattle.aff_write.specs.Close.{closeStores}
-use Rattle.aff_write.specs.Writer.{stopped}
-use Rattle.aff_write.proofs.SpentLaws.{told-spent, stopped-after, made-answer, made-room}
+use Rattle.aff_write.proofs.SpentLaws.{reported-spent, stopped-after, made-answer, made-buffer}
 use Rattle.aff_write.proofs.CloseLaws.{entries-most, front-fits, front-taken}
 use Rattle.aff_write.proofs.closing.close_open.Statement.{statement}
 use Rattle.aff_write.proofs.closing.close_open.Tie as tie
@@ -65,7 +65,7 @@ returns c =
     let c15 = c10 .before .before .before .before .before in
     let b = c15 .pre in
     let w = c15 .args .writer in
-    let i = c15 .args .image .now in
+    let i = c15 .args .buffer .now in
     let x = c15 .args .text .now in
     let t = c15 .args .tree .now in
     let s = c6 .store-closed in
@@ -75,9 +75,9 @@ returns c =
     let n = ap length f in
     let k = s .ensures .1 .1 in
     let h : s .result < length (closeStores i w x t) = omega (arith, c2 .if1 .taken) in
-    let g = told-spent (closeStores i w x t) (c15 .args .allowance) (s .result) i (s .last .0) (s .ensures .0) (s .ensures .1 .0) (stopped w) w
+    let g = reported-spent (closeStores i w x t) (c15 .args .allowance) (s .result) i (s .last .0) (s .ensures .0) (s .ensures .1 .0) (stopped w) w
     (c .before .stopped .result) (c .refused .result) h (c .before .stopped .ensures) (c .refused .ensures) in
-    (g .0, (g .1 .0 ∙ stopped-after (closeStores i w x t) (c15 .args .allowance) w (numberTold (c .refused .result .answer)) (g .0), g .1 .1))
+    (g .0, (g .1 .0 ∙ stopped-after (closeStores i w x t) (c15 .args .allowance) w (answerOfNumber (c .refused .result .answer)) (g .0), g .1 .1))
 
 returns-2 : tie.Need-returns-2
 returns-2 c =
@@ -86,7 +86,7 @@ returns-2 c =
     let c14 = c9 .before .before .before .before .before in
     let b = c14 .pre in
     let w = c14 .args .writer in
-    let i = c14 .args .image .now in
+    let i = c14 .args .buffer .now in
     let x = c14 .args .text .now in
     let t = c14 .args .tree .now in
     let s = c5 .store-closed in
@@ -97,7 +97,7 @@ returns-2 c =
     let k = s .ensures .1 .1 in
     let h : length (closeStores i w x t) ≤ s .result = omega (arith, c .before .if1 .left) in (
       made-answer (closeStores i w x t) (c14 .args .allowance) (s .result) i (s .last .0) (s .ensures .0) (s .ensures .1 .0) h,
-      (c .stopped2 .ensures, made-room (closeStores i w x t) (c14 .args .allowance) (s .result) i (s .last .0) (s .ensures .0) (s .ensures .1 .0) h),
+      (c .stopped2 .ensures, made-buffer (closeStores i w x t) (c14 .args .allowance) (s .result) i (s .last .0) (s .ensures .0) (s .ensures .1 .0) h),
     )
 
 pub close-open-spec : {M : Type 1} → statement M

@@ -1,4 +1,4 @@
--- `put_tables` meets its contract: one section header behind the other. Assumes nothing.
+-- `put_tables` meets its contract: one section header after the other. Assumes nothing.
 use borrow.Author.Needs.{needs}
 use mathlib.Core.Path.{ap}
 use Prim.Native.Nat.{ℕ, _+_}

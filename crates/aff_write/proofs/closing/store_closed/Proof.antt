@@ -1,11 +1,11 @@
--- `store_closed` meets its contract: what is stored is the closing stores, and their places lie inside the room. Assumes nothing.
+-- `store_closed` meets its contract: what is stored is the closing stores, and their places lie inside the buffer. Assumes nothing.
 use borrow.Author.Needs.{needs}
 use native.Mathlib.Omega.{arith}
 use mathlib.Core.Path.{_≡_, refl, sym, ap, _∙_}
 use mathlib.Core.List.{List}
 use Prim.Native.Nat.{ℕ, _+_, _≤_}
 use lib.ListN.{length, take}
-use Rattle.aff_write.specs.Stores.{Store, applyStores}
+use Rattle.aff_areas.specs.Stores.{Store, applyStores}
 use Rattle.aff_write.proofs.PutLaws.{sizes-small}
 use Rattle.aff_write.proofs.CloseLaws.{used-length, closed-fits, stores-closed, length-closeStores}
 use Rattle.aff_write.proofs.closing.store_closed.Statement.{statement}
@@ -31,9 +31,9 @@ store-file-requires c κs =
     let f = closed-fits b in
     let h = c6 .header-size in
     let u = used-length b in
-    let i : 168 ≤ length (c11 .args .image .now) = omega (arith, f .0) in
+    let i : 168 ≤ length (c11 .args .buffer .now) = omega (arith, f .0) in
     let k : length (c3 .close-header .result) ≡ 168 = omega arith in
-    let n : h .result + w .«data» + length (take (w .text) (c11 .args .text .now)) + length (c11 .args .entries .now) ≤ length (c11 .args .image .now) =
+    let n : h .result + w .«data» + length (take (w .text) (c11 .args .text .now)) + length (c11 .args .entries .now) ≤ length (c11 .args .buffer .now) =
     omega (arith, f .0, u, h .ensures, ap length (c11 .pre .1)) in
     (i, k, n)
 
@@ -44,7 +44,7 @@ returns c =
     let c9 = c6 .before .before .before in
     let c14 = c9 .before .before .before .before .before in
     let w = c14 .args .writer in
-    let i = c14 .args .image .now in
+    let i = c14 .args .buffer .now in
     let e = c2 .store-file .ensures in
     let h = c9 .header-size in
     let s = stores-closed i w (c14 .args .text .now) (c14 .args .tree .now) (h .result + w .«data») (take (w .text) (c14 .args .text .now)) (c14 .args .entries .now)

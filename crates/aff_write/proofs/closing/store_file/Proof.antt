@@ -1,18 +1,17 @@
--- `store_file` meets its contract: two runs and two runs behind them, under one allowance. Assumes nothing.
+-- `store_file` meets its contract: two runs and two runs after them, under one allowance. Assumes nothing.
 use borrow.Author.Needs.{needs}
 use native.Mathlib.Omega.{arith}
 use Prim.Native.Nat.{_-_}
-use Rattle.aff_write.proofs.StoreLaws.{length-take-most}
+use Rattle.aff_areas.proofs.StoreLaws.{length-take-most}
 use Rattle.aff_write.proofs.CloseLaws.{bodyStores, file-stored, file-most}
 use Rattle.aff_write.proofs.closing.store_file.Statement.{statement}
 use Rattle.aff_write.proofs.closing.store_file.Tie as tie
 
-sub-store-both-3 : tie.Need-sub-store-both-3
-sub-store-both-3 c =
-    let c5 = c .before .before .before .before .before in
-    let c11 = c5 .before .before .before .before .before .before in
-    let a = c11 .args in
-    omega (arith, c5 .store-both .ensures .0, length-take-most (a .allowance) (bodyStores (a .at) (a .symbols .now) (a .entries .now)))
+sub-left : tie.Need-sub-left
+sub-left c =
+    let s = c .before .before in
+    let a = s .before .before .before .before .before .before .args in
+    omega (arith, s .store-both .ensures .0, length-take-most (a .allowance) (bodyStores (a .at) (a .symbols .now) (a .entries .now)))
 
 add-result : tie.Need-add-result
 add-result c =
@@ -24,7 +23,7 @@ add-result c =
     let t = c2 .store-both2 in
     omega (
       arith,
-      file-most (a .at) (a .symbols .now) (a .entries .now) (a .header .now) (a .allowance) (s .result) (t .result) (a .room .now) (s .last .0) (t .last .0)
+      file-most (a .at) (a .symbols .now) (a .entries .now) (a .header .now) (a .allowance) (s .result) (t .result) (a .buffer .now) (s .last .0) (t .last .0)
           (c14 .pre .1) (s .ensures .0) (s .ensures .1) (t .ensures .0) (t .ensures .1),
     )
 
@@ -36,12 +35,11 @@ returns c =
     let a = c14 .args in
     let s = c8 .store-both in
     let t = c2 .store-both2 in
-    file-stored (a .at) (a .symbols .now) (a .entries .now) (a .header .now) (a .allowance) (s .result) (t .result) (a .room .now) (s .last .0)
+    file-stored (a .at) (a .symbols .now) (a .entries .now) (a .header .now) (a .allowance) (s .result) (t .result) (a .buffer .now) (s .last .0)
     (t .last .0) (c14 .pre .1) (s .ensures .0) (s .ensures .1) (t .ensures .0) (t .ensures .1)
 
 pub store-file-spec : {M : Type 1} → statement M
 store-file-spec =
     tie.close
-    (tie.spec (λ c. search needs) (λ c κs. search needs) (λ c. search needs) (λ c. search needs) (λ c. search needs)
-    (λ c. search needs) (λ c. search needs) (λ c. search needs) sub-store-both-3 (λ c κs. search needs) add-result
-    (λ c. search needs) returns)
+    (tie.spec (λ c. search needs) (λ c κs. search needs) sub-left (λ c. search needs) (λ c. search needs) (λ c. search needs)
+    (λ c. search needs) (λ c. search needs) (λ c. search needs) (λ c κs. search needs) add-result (λ c. search needs) returns)

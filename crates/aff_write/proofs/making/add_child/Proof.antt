@@ -15,8 +15,8 @@ cast-t10 c =
 put-slot-requires : tie.Need-put-slot-requires
 put-slot-requires c κs = let z = c .before .before .before .before .before in (omega arith, not-many (z .args .writer) (z .args .text .now) (z .args .name .now) (z .pre .1 .1) .0, z .pre .0 .0 .tree-area)
 
-grown-requires : tie.Need-grown-requires
-grown-requires c κs =
+with-child-requires : tie.Need-with-child-requires
+with-child-requires c κs =
     let z = c .before .before .before .before .before .before .before .before .before .before in
     let p = z .pre in
     let n = not-many (z .args .writer) (z .args .text .now) (z .args .name .now) (p .1 .1) in
@@ -28,7 +28,7 @@ returns c =
     let z = s .before .before .before .before .before .before in
     let p = z .pre in
     let old = is-old (z .args .writer) (z .args .text .now) (z .args .name .now) _ (p .0 .1) (p .0 .0 .text-strings) (c .before .if1 .taken) in
-    (c .grown .ensures ∙ rw old, (text-old (z .args .writer) (z .args .text .now) (z .args .name .now) old, s .put-slot .ensures ∙ tree-made (z .args .writer) (z .args .text .now) (z .args .name .now) _ _ _ (p .0 .1)))
+    (c .with-child .ensures ∙ rw old, (text-old (z .args .writer) (z .args .text .now) (z .args .name .now) old, s .put-slot .ensures ∙ tree-made (z .args .writer) (z .args .text .now) (z .args .name .now) _ _ _ (p .0 .1)))
 
 put-name-requires : tie.Need-put-name-requires
 put-name-requires c κs =
@@ -36,8 +36,8 @@ put-name-requires c κs =
     let p = z .pre in
     omega (arith, not-many (z .args .writer) (z .args .text .now) (z .args .name .now) (p .1 .1) .2, added-new (z .args .writer) (z .args .text .now) (z .args .name .now) _ (p .0 .1) (p .0 .0 .text-strings) (c .before .if1 .left), p .0 .0 .text-area)
 
-grown-requires-2 : tie.Need-grown-requires-2
-grown-requires-2 c κs =
+with-child-requires-2 : tie.Need-with-child-requires-2
+with-child-requires-2 c κs =
     let i = c .before .before .before .before in
     let z = i .before .before .before .before .before .before .before .before .before .before in
     let p = z .pre in
@@ -53,9 +53,9 @@ returns-2 c =
     let z = s .before .before .before .before .before .before in
     let p = z .pre in
     let new = is-new (z .args .writer) (z .args .text .now) (z .args .name .now) _ (p .0 .1) (p .0 .0 .text-strings) (i .if1 .left) in
-    (c .grown2 .ensures ∙ rw new, (t .put-name .ensures ∙ text-new (z .args .writer) (z .args .text .now) (z .args .name .now) new, s .put-slot .ensures ∙ tree-made (z .args .writer) (z .args .text .now) (z .args .name .now) _ _ _ (p .0 .1)))
+    (c .with-child2 .ensures ∙ rw new, (t .put-name .ensures ∙ text-new (z .args .writer) (z .args .text .now) (z .args .name .now) new, s .put-slot .ensures ∙ tree-made (z .args .writer) (z .args .text .now) (z .args .name .now) _ _ _ (p .0 .1)))
 
 pub add-child-spec : {M : Type 1} → statement M
 add-child-spec =
     tie.close
-    (tie.spec cast-t10 (λ c. search needs) put-slot-requires grown-requires (λ c. search needs) returns put-name-requires (λ c. search needs) grown-requires-2 (λ c. search needs) (λ c. search needs) returns-2)
+    (tie.spec cast-t10 (λ c. search needs) put-slot-requires with-child-requires (λ c. search needs) returns put-name-requires (λ c. search needs) with-child-requires-2 (λ c. search needs) (λ c. search needs) returns-2)

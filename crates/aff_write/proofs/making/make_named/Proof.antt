@@ -1,4 +1,4 @@
--- `make_named` meets its contract: the marks tell whether the parent has a child of that name, and which string is the name.
+-- `make_named` meets its contract: the marks report whether the parent has a child of that name, and which string is the name.
 use borrow.Author.Needs.{needs}
 use mathlib.Core.Path.{refl, sym, _∙_}
 use Prim.Native.Nat.{ℕ}
@@ -6,9 +6,9 @@ use native.Mathlib.Omega.{arith}
 use lib.ListN.{length-replicate}
 use lib.Seq.{length-take-le}
 use Rattle.aff_format.specs.declared.refusal.Refusal.the-variants.{ChildExists}
+use Rattle.aff_areas.proofs.NameLaws.{marks-first}
 use Rattle.aff_write.specs.Make.{namedChecks, sizeChecks}
-use Rattle.aff_write.proofs.MakeLaws.{refuses, passes}
-use Rattle.aff_write.proofs.NameLaws.{marks-first, marks-children}
+use Rattle.aff_write.proofs.MakeLaws.{refuses, passes, marks-children}
 use Rattle.aff_write.proofs.making.make_named.Statement.{statement}
 use Rattle.aff_write.proofs.making.make_named.Tie as tie
 
@@ -22,7 +22,7 @@ returns c =
     let a = c .before .before in
     let m = a .before .before .before .before in
     let z = m .before .before .before .before .before .before in
-    refuses (namedChecks (z .args .writer) (z .args .text .now) (z .args .tree .now) (z .args .parent) (z .args .name .now)) (z .args .writer) (z .args .text .now) (z .args .tree .now) (z .args .parent) (z .args .name .now) ChildExists refl (c .refused .ensures)
+    refuses (namedChecks (z .args .writer) (z .args .text .now) (z .args .tree .now) (z .args .parent) (z .args .name .now)) _ _ _ _ _ ChildExists refl (c .refused .ensures)
     (rw (sym (a .any-marked .ensures ∙ (marks-children (z .pre .0) (z .args .name .now) _ _ (length-replicate {A = ℕ} 2048 0) (m .mark-strings .ensures) (z .args .parent))) ∙ c .before .if1 .taken))
 
 make-sized-requires : tie.Need-make-sized-requires
@@ -39,7 +39,7 @@ returns-2 c =
     let a = i .before in
     let m = a .before .before .before .before in
     let z = m .before .before .before .before .before .before in
-    passes (namedChecks (z .args .writer) (z .args .text .now) (z .args .tree .now) (z .args .parent) (z .args .name .now)) (z .args .writer) (z .args .text .now) (z .args .tree .now) (z .args .parent) (z .args .name .now) (sizeChecks (z .args .writer) (z .args .text .now) (z .args .tree .now) (z .args .name .now)) (s .make-sized .result)
+    passes (namedChecks (z .args .writer) (z .args .text .now) (z .args .tree .now) (z .args .parent) (z .args .name .now)) _ _ _ _ _ (sizeChecks (z .args .writer) (z .args .text .now) (z .args .tree .now) (z .args .name .now)) (s .make-sized .result)
     (rw (sym (a .any-marked .ensures ∙ (marks-children (z .pre .0) (z .args .name .now) _ _ (length-replicate {A = ℕ} 2048 0) (m .mark-strings .ensures) (z .args .parent))) ∙ i .if1 .left)) (s .make-sized .ensures)
 
 pub make-named-spec : {M : Type 1} → statement M

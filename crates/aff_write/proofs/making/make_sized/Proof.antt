@@ -2,7 +2,7 @@
 use borrow.Author.Needs.{needs}
 use mathlib.Core.Path.{refl, sym, _∙_}
 use native.Mathlib.Omega.{arith}
-use Rattle.aff_format.specs.declared.refusal.Refusal.the-variants.{TooMany, NoRoom}
+use Rattle.aff_format.specs.declared.refusal.Refusal.the-variants.{TooMany, BufferTooSmall}
 use Rattle.aff_write.specs.Make.{sizeChecks}
 use Rattle.aff_write.proofs.MakeLaws.{refuses, accepts}
 use Rattle.aff_write.proofs.making.make_sized.Statement.{statement}
@@ -12,7 +12,7 @@ returns : tie.Need-returns
 returns c =
     let t = c .before .before in
     let z = t .before .before .before .before .before in
-    refuses (sizeChecks (z .args .writer) (z .args .text .now) (z .args .tree .now) (z .args .name .now)) (z .args .writer) (z .args .text .now) (z .args .tree .now) (z .args .parent) (z .args .name .now) TooMany refl (c .refused .ensures) (rw (sym (t .too-many .ensures) ∙ c .before .if1 .taken))
+    refuses (sizeChecks (z .args .writer) (z .args .text .now) (z .args .tree .now) (z .args .name .now)) _ _ _ _ _ TooMany refl (c .refused .ensures) (rw (sym (t .too-many .ensures) ∙ c .before .if1 .taken))
 
 returns-2 : tie.Need-returns-2
 returns-2 c =
@@ -20,8 +20,8 @@ returns-2 c =
     let i = r .before .before .before in
     let t = i .before in
     let z = t .before .before .before .before .before in
-    refuses (sizeChecks (z .args .writer) (z .args .text .now) (z .args .tree .now) (z .args .name .now)) (z .args .writer) (z .args .text .now) (z .args .tree .now) (z .args .parent) (z .args .name .now) NoRoom refl (c .refused2 .ensures)
-    (rw (sym (t .too-many .ensures) ∙ i .if1 .left, sym (r .no-room .ensures) ∙ c .before .if2 .taken))
+    refuses (sizeChecks (z .args .writer) (z .args .text .now) (z .args .tree .now) (z .args .name .now)) _ _ _ _ _ BufferTooSmall refl (c .refused2 .ensures)
+    (rw (sym (t .too-many .ensures) ∙ i .if1 .left, sym (r .too-small .ensures) ∙ c .before .if2 .taken))
 
 add-child-requires : tie.Need-add-child-requires
 add-child-requires c κs =
@@ -42,8 +42,8 @@ returns-3 c =
     let t = i .before in
     let z = t .before .before .before .before .before in
     let e = a .add-child .ensures in
-    accepts (sizeChecks (z .args .writer) (z .args .text .now) (z .args .tree .now) (z .args .name .now)) (z .args .writer) (z .args .text .now) (z .args .tree .now) (z .args .parent) (z .args .name .now)
-    (rw (sym (t .too-many .ensures) ∙ i .if1 .left, sym (r .no-room .ensures) ∙ j .if2 .left)) (e .0) (e .1 .0) (e .1 .1)
+    accepts (sizeChecks (z .args .writer) (z .args .text .now) (z .args .tree .now) (z .args .name .now)) _ _ _ _ _
+    (rw (sym (t .too-many .ensures) ∙ i .if1 .left, sym (r .too-small .ensures) ∙ j .if2 .left)) (e .0) (e .1 .0) (e .1 .1)
 
 pub make-sized-spec : {M : Type 1} → statement M
 make-sized-spec =

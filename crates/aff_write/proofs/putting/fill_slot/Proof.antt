@@ -5,7 +5,7 @@ use Prim.Native.Nat.{ℕ, _+_}
 use Rattle.aff_format.specs.Bytes.{spliced}
 use Rattle.aff_format.specs.Entry.{slotBytes}
 use Rattle.aff_format.specs.declared.entry.Entry.{Entry}
-use Rattle.aff_write.specs.Areas.{slotAt}
+use Rattle.aff_areas.specs.Areas.{slotAt}
 use Rattle.aff_write.proofs.PutLaws.{entry-filled}
 use Rattle.aff_write.proofs.putting.fill_slot.Statement.{statement}
 use Rattle.aff_write.proofs.putting.fill_slot.Tie as tie

@@ -5,10 +5,10 @@ use mathlib.Core.Path.{ap}
 use Prim.Native.Nat.{ℕ, _+_, _≤_, _<_}
 use lib.ListN.{length}
 use Rattle.aff_format.specs.declared.refusal.Refusal.the-variants.{AllowanceSpent}
+use Rattle.aff_areas.proofs.StoreLaws.{length-storesFrom}
 use Rattle.aff_write.specs.Put.{putPlace, putStores, putWriter}
-use Rattle.aff_write.proofs.StoreLaws.{length-storesFrom}
-use Rattle.aff_write.proofs.SpentLaws.{told-spent, made-answer, made-room}
-use Rattle.aff_write.proofs.PutLaws.{stores-made, stores-room, area-kept}
+use Rattle.aff_write.proofs.SpentLaws.{reported-spent, made-answer, made-buffer}
+use Rattle.aff_write.proofs.PutLaws.{stores-made, stores-buffer, area-kept}
 use Rattle.aff_write.proofs.putting.put_bytes.Statement.{statement}
 use Rattle.aff_write.proofs.putting.put_bytes.Tie as tie
 
@@ -24,9 +24,9 @@ returns c =
     let h = c7 .header-size in
     let n = length-storesFrom (putPlace w) l in
     let m : s .result < length (putStores w l) = omega (arith, c2 .if1 .taken) in
-    let t = told-spent (putStores w l) (c12 .args .allowance) (s .result) (c12 .args .image .now) (s .last .0)
+    let t = reported-spent (putStores w l) (c12 .args .allowance) (s .result) (c12 .args .buffer .now) (s .last .0)
     (stores-made (putPlace w) (c12 .args .allowance) (s .result) l (s .ensures .0))
-    (stores-room w (h .result + w .«data») (c12 .args .allowance) l (c12 .args .image .now) (s .last .0) (ap (λ (k : ℕ). k + w .«data») (h .ensures)) (s .ensures .1))
+    (stores-buffer w (h .result + w .«data») (c12 .args .allowance) l (c12 .args .buffer .now) (s .last .0) (ap (λ (k : ℕ). k + w .«data») (h .ensures)) (s .ensures .1))
     (putWriter w l) w (c .before .stopped .result) (c .refused .result) m (c .before .stopped .ensures) (c .refused .ensures) in
     (t .0, (t .1 .0, (t .1 .1, area-kept (AllowanceSpent (s .result)) (c .before .stopped .result) (c .refused .result) _ _ (c .refused .ensures))))
 
@@ -44,9 +44,9 @@ returns-2 c =
     let n = length-storesFrom (putPlace w) l in
     let m : length (putStores w l) ≤ s .result = omega (arith, c5 .if1 .left) in
     let p = stores-made (putPlace w) (c15 .args .allowance) (s .result) l (s .ensures .0) in
-    let q = stores-room w (h .result + w .«data») (c15 .args .allowance) l (c15 .args .image .now) (s .last .0) (ap (λ (k : ℕ). k + w .«data») (h .ensures)) (s .ensures .1) in (
-      made-answer (putStores w l) (c15 .args .allowance) (s .result) (c15 .args .image .now) (s .last .0) p q m,
-      (c .with-data .ensures, (made-room (putStores w l) (c15 .args .allowance) (s .result) (c15 .args .image .now) (s .last .0) p q m, c3 .fill-slot .ensures)),
+    let q = stores-buffer w (h .result + w .«data») (c15 .args .allowance) l (c15 .args .buffer .now) (s .last .0) (ap (λ (k : ℕ). k + w .«data») (h .ensures)) (s .ensures .1) in (
+      made-answer (putStores w l) (c15 .args .allowance) (s .result) (c15 .args .buffer .now) (s .last .0) p q m,
+      (c .with-data .ensures, (made-buffer (putStores w l) (c15 .args .allowance) (s .result) (c15 .args .buffer .now) (s .last .0) p q m, c3 .fill-slot .ensures)),
     )
 
 pub put-bytes-spec : {M : Type 1} → statement M

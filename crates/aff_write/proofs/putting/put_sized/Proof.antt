@@ -1,13 +1,13 @@
--- `put_sized` meets its contract: the two tests on what is left of the room are the one of 21; the data lie inside. Assumes nothing.
+-- `put_sized` meets its contract: the two tests on what is left of the buffer are the one of 21; the data lie inside. Assumes nothing.
 use borrow.Author.Needs.{needs}
 use native.Mathlib.Omega.{arith}
 use mathlib.Core.Path.{refl, _∙_}
 use Prim.Native.Nat.{_+_, _≤_, _<_}
 use lib.ListN.{length}
-use Rattle.aff_format.specs.declared.refusal.Refusal.the-variants.{NoRoom}
-use Rattle.aff_write.specs.Areas.{finishedSize}
-use Rattle.aff_write.specs.Put.{putPlace, putStores, putWriter, roomChecks}
-use Rattle.aff_write.proofs.PutLaws.{size-least, sizes-small, no-room, has-room, put-refused}
+use Rattle.aff_format.specs.declared.refusal.Refusal.the-variants.{BufferTooSmall}
+use Rattle.aff_areas.specs.Areas.{finishedSize}
+use Rattle.aff_write.specs.Put.{putPlace, bufferChecks}
+use Rattle.aff_write.proofs.PutLaws.{size-least, sizes-small, too-small, has-buffer, put-refused}
 use Rattle.aff_write.proofs.putting.put_sized.Statement.{statement}
 use Rattle.aff_write.proofs.putting.put_sized.Tie as tie
 
@@ -24,9 +24,7 @@ returns c =
     let t = c9 .args .tree .now in
     let f = c3 .finished-size .ensures in
     let h : w .length < finishedSize w t + 12 + length l = omega (arith, c .before .if1 .taken, c9 .pre .0 .size-fits) in
-    put-refused (roomChecks w t l (c9 .args .allowance)) (putStores w l) (putWriter w l) w
-    (c9 .args .image .now) t _ NoRoom (c .refused .result) (c .refused .ensures) refl
-    (no-room w t l (c9 .args .allowance) h)
+    put-refused (bufferChecks w t l (c9 .args .allowance)) _ _ _ _ _ _ BufferTooSmall _ (c .refused .ensures) refl (too-small w t l (c9 .args .allowance) h)
 
 returns-2 : tie.Need-returns-2
 returns-2 c =
@@ -38,9 +36,7 @@ returns-2 c =
     let t = c10 .args .tree .now in
     let f = c4 .finished-size .ensures in
     let h : w .length < finishedSize w t + 12 + length l = omega (arith, c .before .if2 .taken, c2 .if1 .left, c10 .pre .0 .size-fits) in
-    put-refused (roomChecks w t l (c10 .args .allowance)) (putStores w l) (putWriter w l) w
-    (c10 .args .image .now) t _ NoRoom (c .refused2 .result) (c .refused2 .ensures) refl
-    (no-room w t l (c10 .args .allowance) h)
+    put-refused (bufferChecks w t l (c10 .args .allowance)) _ _ _ _ _ _ BufferTooSmall _ (c .refused2 .ensures) refl (too-small w t l (c10 .args .allowance) h)
 
 put-bytes-requires : tie.Need-put-bytes-requires
 put-bytes-requires c κs =
@@ -51,10 +47,10 @@ put-bytes-requires c κs =
     let w = c11 .args .writer in
     let t = c11 .args .tree .now in
     let f = c5 .finished-size .ensures in
-    let d : putPlace w + length (c11 .args .bytes .now) ≤ length (c11 .args .image .now) =
+    let d : putPlace w + length (c11 .args .bytes .now) ≤ length (c11 .args .buffer .now) =
     omega (arith, size-least w t, b .length-recorded, b .size-fits, c3 .if1 .left) in
     let n : c11 .args .node ≤ 2048 = omega (arith, c11 .pre .2, b .few-nodes) in
-    let s : length (c11 .args .image .now) < 2147483648 = omega (arith, b .length-recorded, b .length-allowed) in
+    let s : length (c11 .args .buffer .now) < 2147483648 = omega (arith, b .length-recorded, b .length-allowed) in
     (c11 .pre .1, n, b .tree-area, c11 .pre .3, d, s)
 
 returns-3 : tie.Need-returns-3
@@ -70,7 +66,7 @@ returns-3 c =
     let f = c10 .finished-size .ensures in
     let e = c4 .put-bytes .ensures in
     let h : finishedSize w t + 12 + length l ≤ w .length = omega (arith, c7 .if2 .left, c8 .if1 .left, c16 .pre .0 .size-fits) in
-    (e .0 ∙ has-room w t l (c16 .args .allowance) h, e .1)
+    (e .0 ∙ has-buffer w t l (c16 .args .allowance) h, e .1)
 
 pub put-sized-spec : {M : Type 1} → statement M
 put-sized-spec =

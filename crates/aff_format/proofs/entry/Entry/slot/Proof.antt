@@ -1,4 +1,4 @@
--- `slot` meets its contract: the numbers are written one behind another, over zeros. Assumes nothing.
+-- `slot` meets its contract: the numbers are written one after another, over zeros. Assumes nothing.
 use borrow.Author.Needs.{needs}
 use Prim.Native.Nat.{ℕ}
 use mathlib.Core.Path.{refl, sym, _∙_, ap}

@@ -1,0 +1,50 @@
+-- The writer's record, and what a call leaves of it: document 01, 'Writing keys' and 'Numbers handed back'.
+use mathlib.Core.Bool.{Bool, true, false, cond, not}
+use mathlib.Core.List.{List, [], _∷_}
+use Prim.Native.Nat.{ℕ}
+use lib.Dec.{eqb}
+use lib.ListN.{replicate}
+use Rattle.aff_format.specs.Answer.{Answer, accepted, refused}
+use Rattle.aff_format.specs.Edition.{headerSize}
+use Rattle.aff_format.specs.declared.edition.Edition.{Edition}
+use Rattle.aff_format.specs.declared.edition.Edition.the-variants.{Two}
+use Rattle.aff_areas.specs.declared.writer.Writer.{Writer}
+
+-- The edition that is written.
+abbrev pub written : Edition
+written = Two
+
+-- Where the data of a file begin: after its header. A buffer has at least the header's bytes.
+abbrev pub dataPlace : ℕ
+dataPlace = headerSize written
+
+-- The all-zero record: what a begin refused by 1 or 21 leaves.
+abbrev pub noWriter : Writer
+noWriter = record { length = 0; form = replicate 12 0; strings = 0; text = 0; nodes = 0; «data» = 0; live = false }
+
+-- The record of an accepted begin.
+abbrev pub freshWriter : ℕ → List ℕ → Writer
+freshWriter size form = record { length = size; form = form; strings = 0; text = 0; nodes = 0; «data» = 0; live = true }
+
+-- The record, but closed or stopped.
+abbrev pub stopped : Writer → Writer
+stopped w =
+    record {
+      length = w .length;
+      form = w .form;
+      strings = w .strings;
+      text = w .text;
+      nodes = w .nodes;
+      «data» = w .«data»;
+      live = false;
+    }
+
+-- The record after a call: `next` where it is accepted; after 23 as before, but stopped; after another refusal the very record.
+abbrev pub writerAfter : Answer ℕ → Writer → Writer → Writer
+writerAfter (accepted n) next given = next
+writerAfter (refused t) next given = cond (eqb (t .number) 23) (stopped given) given
+
+-- An area after a call: only an accepted one changes it.
+abbrev pub areaAfter : Answer ℕ → List ℕ → List ℕ → List ℕ
+areaAfter (accepted n) next given = next
+areaAfter (refused t) next given = given

@@ -1,0 +1,2 @@
+-- Definitions that only the passes over an area need.
+pub mod Marks

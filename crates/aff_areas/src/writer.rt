@@ -1,0 +1,132 @@
+// The record of a file that is being written.
+use aff_format::NumberAnswer;
+use aff_format::Refusal;
+use aff_format::bytes;
+ghost use mathlib.Core.Path.{_≡_};
+ghost use Prim.Native.Nat.{_+_, _<_, _^_};
+ghost use lib.ListN.{length};
+ghost use Rattle.aff_format.specs.Limits.{nodeLimit};
+ghost use Rattle.aff_format.specs.declared.verdict.NumberAnswer.the-variants as answered;
+ghost use Rattle.aff_areas.specs.Writer.{noWriter, freshWriter, stopped};
+
+// What begin, make and put leave for the next call: the buffer's length, the 12 bytes of form, how many strings and how many bytes of text,
+// how many nodes, how many bytes of data, and whether the file is neither closed nor stopped.
+pub struct Writer {
+    pub length: usize,
+    pub form: [u8; 12],
+    pub strings: usize,
+    pub text: usize,
+    pub nodes: usize,
+    pub data: usize,
+    pub live: bool,
+}
+
+// The answer of a writer's call, and the record after it.
+pub struct Writing {
+    pub answer: NumberAnswer,
+    pub writer: Writer,
+}
+
+impl Writer {
+    // The all-zero record: what a begin refused by 1 or 21 leaves.
+    pub fn none() -> Writer
+        ensures { λ r. ⌜ r ≡ noWriter ⌝ }
+    {
+        Writer {
+            length: 0,
+            form: [0; 12],
+            strings: 0,
+            text: 0,
+            nodes: 0,
+            data: 0,
+            live: false,
+        }
+    }
+
+    // The record of an accepted begin.
+    pub fn fresh(size: usize, form: &[u8]) -> Writer
+        requires { ⌜ length (now form) ≡ 12 ⌝ }
+        ensures { λ r. ⌜ r ≡ freshWriter size (now (form .entry)) ⌝ }
+    {
+        let bytes = form_of(form);
+        Writer {
+            length: size,
+            form: bytes,
+            strings: 0,
+            text: 0,
+            nodes: 0,
+            data: 0,
+            live: true,
+        }
+    }
+
+    // The record, but closed or stopped.
+    pub fn stopped(self) -> Writer
+        ensures { λ r. ⌜ r ≡ stopped self ⌝ }
+    {
+        let form = self.form;
+        Writer {
+            length: self.length,
+            form,
+            strings: self.strings,
+            text: self.text,
+            nodes: self.nodes,
+            data: self.data,
+            live: false,
+        }
+    }
+
+    // The record with one node more, and so many strings and so many bytes of text.
+    pub fn with_child(self, strings: usize, text: usize) -> Writer
+        requires { ⌜ (self .nodes < nodeLimit) × (self .strings + strings < 2 ^ 63) × (self .text + text < 2 ^ 63) ⌝ }
+        ensures { λ r. ⌜ r ≡ record { length = self .length; form = self .form; strings = self .strings + strings; text = self .text + text; nodes = self .nodes + 1; «data» = self .«data»; live = self .live } ⌝ }
+    {
+        let form = self.form;
+        Writer {
+            length: self.length,
+            form,
+            strings: self.strings + strings,
+            text: self.text + text,
+            nodes: self.nodes + 1,
+            data: self.data,
+            live: self.live,
+        }
+    }
+
+    // The record with so many bytes of data more.
+    pub fn with_data(self, size: usize) -> Writer
+        requires { ⌜ self .«data» + size < 2147483648 ⌝ }
+        ensures { λ r. ⌜ r ≡ record { length = self .length; form = self .form; strings = self .strings; text = self .text; nodes = self .nodes; «data» = self .«data» + size; live = self .live } ⌝ }
+    {
+        let form = self.form;
+        Writer {
+            length: self.length,
+            form,
+            strings: self.strings,
+            text: self.text,
+            nodes: self.nodes,
+            data: self.data + size,
+            live: self.live,
+        }
+    }
+}
+
+// A refusal that hands back a record.
+pub fn refused(refusal: Refusal, writer: Writer) -> Writing
+    ensures { λ r. ⌜ r ≡ record { answer = answered.Refused refusal; writer = writer } ⌝ }
+{
+    Writing {
+        answer: NumberAnswer::Refused(refusal),
+        writer,
+    }
+}
+
+// The 12 bytes of a form.
+fn form_of(form: &[u8]) -> [u8; 12]
+    requires { ⌜ length (now form) ≡ 12 ⌝ }
+    ensures { λ r. ⌜ r ≡ now (form .entry) ⌝ }
+{
+    let mut out = [0u8; 12];
+    bytes::put(&mut out, 0, form);
+    out
+}

@@ -1,0 +1,47 @@
+-- A node's line: path, a space, type word, a space, count. Document 01, 'The lister'.
+use mathlib.Core.Bool.{cond}
+use mathlib.Core.List.{List, [], _∷_, _++_}
+use Prim.Native.Nat.{ℕ, zero, suc, _+_, _/_, _%_, _≤_}
+use lib.Dec.{ltb}
+use lib.ListN.{length}
+use Rattle.aff_format.specs.Answer.{Answer, check, refusal, firstWrong}
+use Rattle.aff_format.specs.declared.kind.Kind.{Kind}
+use Rattle.aff_format.specs.declared.kind.Kind.the-variants.{Void, Char, Int, Double, Complex}
+use Rattle.aff_open.specs.declared.reader.Reader.{Reader}
+use Rattle.aff_read.specs.Answers.{existsChecks}
+use Rattle.aff_read.specs.Recall.{kindAt, countAt, pathAt}
+use Rattle.aff_format.specs.Rule.{rule, By, Is}
+use Rattle.aff_open.specs.Belongs.{ReaderBelongs}
+use Rattle.aff_read.specs.Paths.{Output, frontWritten}
+
+-- Type words: `void`, `char`, `int`, `double`, `complex`.
+abbrev pub kindWord : Kind → List ℕ
+kindWord Void = 118 ∷ 111 ∷ 105 ∷ 100 ∷ []
+kindWord Char = 99 ∷ 104 ∷ 97 ∷ 114 ∷ []
+kindWord Int = 105 ∷ 110 ∷ 116 ∷ []
+kindWord Double = 100 ∷ 111 ∷ 117 ∷ 98 ∷ 108 ∷ 101 ∷ []
+kindWord Complex = 99 ∷ 111 ∷ 109 ∷ 112 ∷ 108 ∷ 101 ∷ 120 ∷ []
+
+-- The decimal digits of n, at most `most` of them: no leading zero, and one digit at least.
+unfoldable pub decimal : ℕ → ℕ → List ℕ
+decimal zero n = []
+decimal (suc most) n = cond (ltb n 10) ((48 + n) ∷ []) (decimal most (n / 10) ++ ((48 + n % 10) ∷ []))
+
+module _ (image : List ℕ) (reader : Reader) (strings entries : List ℕ) where
+  -- The line of a node. A count has at most ten digits (`count-digits` in proofs/LineLaws.antt).
+  unfoldable pub lineAt : ℕ → List ℕ
+  lineAt node = pathAt image reader strings entries node ++ (32 ∷ (kindWord (kindAt image entries node) ++ (32 ∷ decimal 10 (countAt image entries node))))
+
+  -- 24, 15, 21. It returns the line's length.
+  unfoldable pub lineAnswer : ℕ → ℕ → Answer ℕ
+  lineAnswer node size =
+      firstWrong (existsChecks image reader strings entries node ++ (check (ltb size (length (lineAt node))) (refusal 21) ∷ []))
+      (length (lineAt node))
+
+  -- What is proved of the call (`line-answers` in proofs/LineAnswerLaws.antt), for every record and memory: it answers by its rules, 24, 15, 21, in this
+  -- order, and what it leaves in the output.
+  pub record LineAnswers : Type 0 where
+    pub by-rules : (node size : ℕ)
+        → By (rule (ReaderBelongs image reader strings entries) (refusal 24) ∷ rule (node ≤ reader .nodes) (refusal 15) ∷ rule (length (lineAt node) ≤ size) (refusal 21) ∷ [])
+        (Is (length (lineAt node))) (lineAnswer node size)
+    pub leaves : (node : ℕ) (out : List ℕ) → Output (lineAnswer node (length out)) (lineAt node) out (frontWritten (lineAnswer node (length out)) (lineAt node) out)

@@ -1,0 +1,61 @@
+-- The rules of a file, one by one: document 01, 'Layout of a file'. `Obeys` says that all hold, `Faults` which refusal each brings where it fails.
+use mathlib.Core.Path.{_≡_}
+use mathlib.Core.Bool.{true, false}
+use mathlib.Core.List.{List, []}
+use Prim.Native.Nat.{ℕ, _+_, _*_, _≤_, _<_}
+use lib.ListN.{length, getD}
+use Rattle.md5.specs.Md5.{md5}
+use Rattle.aff_format.specs.Edition.{hasCounts}
+use Rattle.aff_format.specs.Kind.{elementSize, isVoid}
+use Rattle.aff_format.specs.Subkey.{isSubkey}
+use Rattle.aff_format.specs.Tree.{reachesBy}
+use Rattle.aff_format.specs.declared.section.Section.{Section}
+use Rattle.aff_format.specs.declared.section.Section.the-variants.{Data}
+use Rattle.aff_format.specs.declared.edition.Edition.{Edition}
+use Rattle.aff_format.specs.declared.entry.Entry.{Entry}
+use Rattle.aff_tables.specs.Tables.{nodeEntry}
+use Rattle.aff_open.specs.Sections.{sectionOffset, sectionSize, sectionRecords, sectionSum, sectionBytes}
+
+-- 6 and 7: a section lies inside the image, and its sum is right.
+abbrev pub Inside : Edition → Section → List ℕ → Type 0
+Inside e s image = sectionOffset e s image + sectionSize e s image ≤ length image
+
+abbrev pub Summed : Edition → Section → List ℕ → Type 0
+Summed e s image = sectionSum e s image ≡ md5 (sectionBytes e s image)
+
+-- 8 and 9: the record count of a section, where the edition has one, is n.
+abbrev pub Counted : Edition → Section → List ℕ → ℕ → Type 0
+Counted e s image n = hasCounts e ≡ true → sectionRecords e s image ≡ n
+
+-- 8: no string occurs twice.
+abbrev pub Distinct : List (List ℕ) → Type 0
+Distinct strings = (i k : ℕ) → i < k → k < length strings → getD strings i [] ≡ getD strings k [] → ⊥
+
+-- 10: node k's parent and string exist, and the string is a subkey.
+abbrev pub Linked : Edition → List (List ℕ) → List Entry → ℕ → Type 0
+Linked e strings entries k =
+    (nodeEntry entries k .parent ≤ length entries)
+    × (nodeEntry entries k .string < length strings)
+    × (isSubkey e (getD strings (nodeEntry entries k .string) []) ≡ true)
+
+-- 11: its climb reaches the root.
+abbrev pub Climbs : List Entry → ℕ → Type 0
+Climbs entries k = (steps : ℕ) × (reachesBy (λ j. nodeEntry entries j .parent) steps k ≡ true)
+
+-- 12: no lower-numbered sibling has its name.
+abbrev pub NameFree : List (List ℕ) → List Entry → ℕ → Type 0
+NameFree strings entries k =
+    (j : ℕ) → 0 < j → j < k → nodeEntry entries j .parent ≡ nodeEntry entries k .parent
+    → getD strings (nodeEntry entries j .string) [] ≡ getD strings (nodeEntry entries k .string) [] → ⊥
+
+-- 13: its data lie inside the data section.
+abbrev pub DataInside : Edition → List ℕ → List Entry → ℕ → Type 0
+DataInside e image entries k =
+    isVoid (nodeEntry entries k .kind) ≡ false
+    → (sectionOffset e Data image ≤ nodeEntry entries k .offset)
+    × (nodeEntry entries k .offset + nodeEntry entries k .count * elementSize (nodeEntry entries k .kind)
+    ≤ sectionOffset e Data image + sectionSize e Data image)
+
+-- Something holds of each node.
+abbrev pub EachNode : List Entry → (ℕ → Type 0) → Type 0
+EachNode entries P = (k : ℕ) → 0 < k → k ≤ length entries → P k

@@ -1,0 +1,62 @@
+-- Path and lookup: document 01, 'Reading keys', 'Order'.
+use mathlib.Core.Bool.{not}
+use mathlib.Core.List.{List, [], _∷_, _++_}
+use Prim.Native.Nat.{ℕ, _+_}
+use lib.Dec.{ltb}
+use lib.ListN.{length, drop, take}
+use Rattle.aff_format.specs.Answer.{Answer, accepted, refused, check, refusal, firstWrong}
+use Rattle.aff_format.specs.Bytes.{sameBytes}
+use Rattle.aff_format.specs.Edition.{editionOf}
+use Rattle.aff_format.specs.Lowest.{lowestFrom, isAt}
+use Rattle.aff_format.specs.Path.{isPath}
+use Rattle.aff_format.specs.declared.edition.Edition.{Edition}
+use Rattle.aff_format.specs.declared.lowest.Lowest.{Lowest}
+use Rattle.aff_format.specs.declared.lowest.Lowest.the-variants.{Nothing, At}
+use Rattle.aff_open.specs.Belongs.{readerBelongs}
+use Rattle.aff_open.specs.Sections.{orTwo}
+use Rattle.aff_open.specs.declared.reader.Reader.{Reader}
+use Rattle.aff_read.specs.Answers.{existsChecks}
+use Rattle.aff_read.specs.Recall.{pathAt}
+use mathlib.Core.Path.{_≡_}
+use Rattle.aff_format.specs.declared.refusal.RefusalCode.{RefusalCode}
+
+-- An output with text written at its front; the rest stays. A refusal leaves it as it was.
+abbrev pub frontWritten : Answer ℕ → List ℕ → List ℕ → List ℕ
+frontWritten (accepted n) text out = text ++ drop (length text) out
+frontWritten (refused t) text out = out
+
+-- The place of the lowest, 0 where there is none.
+abbrev pub lowestOr0 : Lowest → ℕ
+lowestOr0 Nothing = 0
+lowestOr0 (At k) = k
+
+-- The edition of a record that belongs.
+abbrev pub editionBy : Reader → Edition
+editionBy reader = orTwo (editionOf (reader .edition))
+
+module _ (image : List ℕ) (reader : Reader) (strings entries : List ℕ) where
+  -- Path: 24, 15, 21.
+  unfoldable pub pathAnswer : ℕ → ℕ → Answer ℕ
+  pathAnswer node size =
+      firstWrong (existsChecks image reader strings entries node ++ (check (ltb size (length (pathAt image reader strings entries node))) (refusal 21) ∷ []))
+      (length (pathAt image reader strings entries node))
+
+  -- The lowest node with a path.
+  unfoldable pub found : List ℕ → Lowest
+  found path = lowestFrom (λ k. sameBytes (pathAt image reader strings entries k) path) (reader .nodes + 1) 0
+
+  -- Lookup: 24, 14, 15.
+  unfoldable pub lookupAnswer : List ℕ → Answer ℕ
+  lookupAnswer path =
+      firstWrong
+      (check (not (readerBelongs image reader strings entries)) (refusal 24)
+      ∷ check (not (isPath (editionBy reader) path)) (refusal 14)
+      ∷ check (not (isAt (found path))) (refusal 15)
+      ∷ [])
+      (lowestOr0 (found path))
+
+-- What a call leaves in an output: a refusal leaves it as it was; an accepted call returns how many bytes or numbers it wrote. These are the text, and the
+-- rest is unchanged.
+pub record Output (answer : Answer ℕ) (text before after : List ℕ) : Type 0 where
+  pub by-refusal : (t : RefusalCode) → answer ≡ refused t → after ≡ before
+  pub by-acceptance : (n : ℕ) → answer ≡ accepted n → (take n after ≡ text) × (drop n after ≡ drop n before) × (length after ≡ length before)

@@ -1,0 +1,156 @@
+-- The strings that begin at the places of a section's strings are its strings; and what the symbol table answers. Assumes nothing.
+use mathlib.Core.Path.{_≡_, refl, sym, ap, _∙_}
+use mathlib.Core.Bool.{Bool, true, false, cond}
+use mathlib.Core.List.{List, [], _∷_, map}
+use Prim.Native.Nat.{ℕ, suc, _+_, _≤_, _<_}
+use native.Mathlib.Omega.{arith}
+use lib.Dec.{leb}
+use lib.ListN.{length, getD, take}
+use borrow.Author.Tests.{leb-true, leb-false, lt-ltb, le-ltb}
+use Rattle.aff_format.specs.Answer.{accepted, check, refusal, firstWrong}
+use Rattle.aff_format.specs.Bytes.{part, laidOver}
+use Rattle.aff_format.specs.Lowest.{lowestFrom, isAt}
+use Rattle.aff_format.specs.Strings.{stringsOf, endsInZero, placesOf}
+use Rattle.aff_format.specs.declared.edition.Edition.{Edition}
+use Rattle.aff_format.specs.declared.lowest.Lowest.{Lowest}
+use Rattle.aff_format.specs.declared.lowest.Lowest.the-variants.{Nothing, At}
+use Rattle.aff_format.proofs.AnswerLaws.{not-both}
+use Rattle.aff_format.proofs.BytesLaws.{length-part}
+use Rattle.aff_format.proofs.StringsLaws.{length-placesOf, placesOf-from, string-begins, string-ends, string-in-section}
+use Rattle.aff_tables.specs.passes.Distinct.{Places}
+use Rattle.aff_tables.specs.Tables.{symbolChecks, countDiffers, namesAt, repeats}
+use Rattle.aff_tables.specs.passes.Results.{splitOf, answerOfSymbols, repeatedOr, countedOf}
+use Rattle.aff_format.specs.Recorded.{recordedString, nameFrom}
+use Rattle.aff_tables.proofs.SlicedLaws.{sliced, sliced-part}
+use Rattle.aff_tables.specs.declared.symbols.SplitResult.{SplitResult}
+use Rattle.aff_tables.specs.declared.symbols.SplitResult.the-variants as parted
+use Rattle.aff_tables.specs.declared.symbols.Symbols.{Symbols}
+use Rattle.aff_tables.specs.declared.symbols.Symbols.the-variants as symbols
+use Rattle.aff_format.proofs.LaidLaws.{length-laid, laid-at, laid-front}
+
+-- Strings by their places.
+
+map-is : (f : ℕ → List ℕ) (ps : List ℕ) (ss : List (List ℕ)) → length ps ≡ length ss → ((i : ℕ) → i < length ss → f (getD ps i 0) ≡ getD ss i []) → map f ps ≡ ss
+map-is f [] [] l h = refl
+map-is f [] (s ∷ ss) l h = absurd (omega arith)
+map-is f (p ∷ ps) [] l h = absurd (omega arith)
+map-is f (p ∷ ps) (s ∷ ss) l h = rw (h 0 (omega arith), map-is f ps ss (omega arith) (λ i k. h (suc i) (omega arith)))
+
+module _ (image : List ℕ) (from size : ℕ) where
+  abbrev strings : List (List ℕ)
+  strings = stringsOf (part from size image)
+
+  name-is : (i : ℕ) → i < length strings → nameFrom image (from + size) (getD (placesOf from strings) i 0) ≡ getD strings i []
+  unfolding nameFrom
+  name-is i h = string-in-section image from size i h
+
+  pub names-are : namesAt image (from + size) (placesOf from strings) ≡ strings
+  names-are = map-is (nameFrom image (from + size)) (placesOf from strings) strings (length-placesOf from strings) name-is
+
+  module _ (area : List ℕ) (fits : length strings ≤ length area) where
+    pub string-recorded : (i : ℕ) → i < length strings → recordedString image (from + size) (laidOver area (placesOf from strings)) i ≡ getD strings i []
+    string-recorded i h = rw (laid-at area (placesOf from strings) i (rw length-placesOf h) (omega arith)) (name-is i h)
+
+    pub places-inside : length strings ≤ 2048 → from + size ≤ length image → length image < 2147483648
+        → Places image (from + size) (laidOver area (placesOf from strings)) (length strings)
+    places-inside f b s =
+        record {
+          few = f;
+          listed = rw length-laid fits;
+          inside = b;
+          short = s;
+          begins = λ k h.
+              rw (laid-at area (placesOf from strings) k (rw length-placesOf h) (omega arith))
+              (omega (arith, placesOf-from from strings k h, string-begins (part from size image) k h, length-part from size image b));
+        }
+
+    -- Of a section that ends in zero each string begins and ends inside it.
+    pub string-placed : endsInZero (part from size image) ≡ true → from + size ≤ length image → (i : ℕ) → i < length strings
+        → (from ≤ getD (laidOver area (placesOf from strings)) i 0)
+        × (getD (laidOver area (placesOf from strings)) i 0 + length (recordedString image (from + size) (laidOver area (placesOf from strings)) i) < from + size)
+    string-placed e b i h =
+        let p = laid-at area (placesOf from strings) i (rw length-placesOf h) (omega arith) in
+        let q = placesOf-from from strings i h in
+        let z = string-ends (part from size image) i e h in
+        let n = length-part from size image b in
+        (rw p (omega arith), rw (string-recorded i h, p) (omega arith))
+
+-- The answers of the symbol table.
+
+split-many : (limit n : ℕ) → splitOf limit n ≡ parted.TooMany → limit < n
+split-many limit n = go (leb n limit) refl
+  where
+    go : (b : Bool) → leb n limit ≡ b → cond b (parted.Strings n) parted.TooMany ≡ parted.TooMany → limit < n
+    go true h q = absurd (let z : _≡_ {A = ℕ} 0 1 = cc in omega arith)
+    go false h q = leb-false n limit h
+
+split-few : (limit n m : ℕ) → splitOf limit n ≡ parted.Strings m → (m ≡ n) × (n ≤ limit)
+split-few limit n m = go (leb n limit) refl
+  where
+    go : (b : Bool) → leb n limit ≡ b → cond b (parted.Strings n) parted.TooMany ≡ parted.Strings m → (m ≡ n) × (n ≤ limit)
+    go true h q = (cc, leb-true n limit h)
+    go false h q = absurd (let z : _≡_ {A = ℕ} 0 1 = cc in omega arith)
+
+counted-reported : (b : Bool) (low : Lowest) (n : ℕ)
+    → answerOfSymbols (cond b symbols.CountDiffers (repeatedOr n low)) ≡ firstWrong (check b (refusal 8) ∷ check (isAt low) (refusal 8) ∷ []) n
+counted-reported true low n = refl
+counted-reported false Nothing n = refl
+counted-reported false (At k) n = refl
+
+-- What the table of a section reports, and its area where it accepts.
+module _ (e : Edition) (records : ℕ) (image : List ℕ) (from size : ℕ) (area₀ area : List ℕ) where
+  abbrev pub SymbolTable : Symbols → Type 0
+  SymbolTable r =
+      (answerOfSymbols r ≡ firstWrong (symbolChecks e records (part from size image)) (length (stringsOf (part from size image))))
+      × ((n : ℕ) → answerOfSymbols r ≡ accepted n → area ≡ laidOver area₀ (placesOf from (stringsOf (part from size image))))
+
+module _ (e : Edition) (records : ℕ) (image : List ℕ) (from size : ℕ) (area₀ area : List ℕ) {b : Bool} (ends : b ≡ endsInZero (sliced image from size)) where
+  abbrev names : List (List ℕ)
+  names = stringsOf (part from size image)
+
+  ends-is : endsInZero (part from size image) ≡ b
+  ends-is = ap endsInZero (sym (sliced-part image from size)) ∙ sym ends
+
+  pub table-unended : b ≡ false → SymbolTable e records image from size area₀ area symbols.Unended
+  table-unended h = (rw (ends-is, h), λ n q. not-both q)
+
+  module _ (long : length area₀ ≡ 2048) {p : SplitResult} (parts : p ≡ splitOf (length area₀) (length (stringsOf (sliced image from size))))
+      (laid : area ≡ laidOver area₀ (placesOf from (stringsOf (sliced image from size)))) where
+    parts-are : splitOf 2048 (length names) ≡ p
+    parts-are = sym (parts ∙ rw (long, sliced-part image from size))
+
+    area-is : area ≡ laidOver area₀ (placesOf from names)
+    area-is = laid ∙ rw (sliced-part image from size)
+
+    pub table-many : b ≡ true → p ≡ parted.TooMany → SymbolTable e records image from size area₀ area symbols.TooMany
+    table-many h q = (rw (ends-is, h, lt-ltb 2048 (length names) (split-many 2048 (length names) (parts-are ∙ q))), λ n q. not-both q)
+
+    module _ {n : ℕ} (few : p ≡ parted.Strings n) where
+      number : (n ≡ length names) × (length names ≤ 2048)
+      number = split-few 2048 (length names) n (parts-are ∙ few)
+
+      pub table-places : from + size ≤ length image → length image < 2147483648 → Places image (from + size) area n
+      table-places inside short =
+          let f = number .1 in
+          rw (number .0, area-is) (places-inside image from size area₀ (omega arith) f inside short)
+
+      front : take n area ≡ placesOf from names
+      front =
+          let f = number in
+          let ps = placesOf from names in
+          let k : n ≡ length ps = f .0 ∙ sym (length-placesOf from names) in
+          let w : length ps ≤ length area₀ = omega arith in
+          rw (k, area-is) (laid-front area₀ ps w)
+
+      found : namesAt image (from + size) (take n area) ≡ names
+      found = rw front (names-are image from size)
+
+      pub table-counted : {reported : Symbols} → b ≡ true → reported ≡ countedOf e records image (from + size) (take n area) n
+          → SymbolTable e records image from size area₀ area reported
+      table-counted h q =
+          let f = number in
+          let m = length names in (
+            ap answerOfSymbols q
+                ∙ rw (found, f .0, ends-is, h, le-ltb 2048 m (f .1)) (counted-reported (countDiffers e records m) (lowestFrom (repeats names) m 0) m),
+            λ k a. area-is,
+          )
