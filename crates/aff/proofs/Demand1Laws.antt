@@ -196,6 +196,6 @@ demand1 =
       refused-run = λ run h e. run-refused run _ h (ne-eqb _ 23 e);
       exact-numbers = λ buffer stopped tree calls answers. exact-numbered calls answers buffer stopped tree;
       begin-reports = begin-reports;
-      tells = reports-made;
+      reports = reports-made;
       areas = run-held;
     }

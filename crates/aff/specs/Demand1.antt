@@ -1,8 +1,8 @@
 -- Demand 1. Every call ends, does nothing undefined and answers by document 01's table, whatever it is given. That each function ends, stays inside
 -- the caller's memory and meets its contract for every input is what the prover proves of it; each contract is an equation with a definition of
 -- specs/. This file says of those definitions: each call is accepted exactly when its rules hold, in document 01's order, and else refused by the
--- first that fails, for every record, memory and argument, altered or not (`By` and the rules are in Rules.antt, opening's in
--- crates/aff_open/specs/Faults.antt); what it then leaves in record, areas, buffer and output (Leaves.antt); when the numbers 24 and 22 come at all; and that
+-- first that fails, for every record, memory and argument, altered or not (the rules are in Rules.antt, opening's in
+-- crates/aff_open/specs/Faults.antt; `By` is in crates/aff_format/specs/Rule.antt); what it then leaves in record, areas, buffer and output (Leaves.antt); when the numbers 24 and 22 come at all; and that
 -- in a run a writer's answers are decided by the tree that the calls describe. So a writer that refuses every call cannot pass.
 use mathlib.Core.Path.{_≡_}
 use mathlib.Core.Bool.{Bool, true, false, _||_}
@@ -64,10 +64,10 @@ pub record EachReading (Sort : (A : Type 0) → Answer A → Type 0) (image : Li
   pub listing : (size : ℕ) → Sort _ (listingAnswer image r strings entries size)
 
 -- The same of each writing call.
-pub record EachWriting (Sort : (A : Type 0) → Answer A → Type 0) (image : List ℕ) (w : Writer) (text tree : List ℕ) : Type 0 where
-  pub make : (parent : ℕ) (name : List ℕ) → Sort _ (makeAnswer (length image) w text tree parent name)
-  pub put : (node type : ℕ) (bytes : List ℕ) (allowance : ℕ) → Sort _ (putAnswer (length image) w text tree node type bytes allowance)
-  pub close : (allowance : ℕ) → Sort _ (closeAnswer image w text tree allowance)
+pub record EachWriting (Sort : (A : Type 0) → Answer A → Type 0) (buffer : List ℕ) (w : Writer) (text tree : List ℕ) : Type 0 where
+  pub make : (parent : ℕ) (name : List ℕ) → Sort _ (makeAnswer (length buffer) w text tree parent name)
+  pub put : (node type : ℕ) (bytes : List ℕ) (allowance : ℕ) → Sort _ (putAnswer (length buffer) w text tree node type bytes allowance)
+  pub close : (allowance : ℕ) → Sort _ (closeAnswer buffer w text tree allowance)
 
 -- No answer of a run is 24, and an answer is 22 exactly if the writer was closed or stopped before: by an accepted close or a 23.
 abbrev pub Numbered : Bool → List Call → List (Answer ℕ) → Type 0
@@ -107,7 +107,7 @@ pub record Demand1 : Type 0 where
   -- The record that a refused opening returns, all zero, gets 24 from each reading call, over any image and areas.
   pub refused-reads : (image form : List ℕ) (strings entries : ℕ) {t : RefusalCode} → openAnswer image form strings entries ≡ refused t
       → (other ss es : List ℕ) → EachReading Is24 other (readerAfter (openAnswer image form strings entries)) ss es
-  -- The record that a begin refused otherwise than by 23 returns, all zero, gets 24 from each writing call, over any image and areas.
+  -- The record that a begin refused otherwise than by 23 returns, all zero, gets 24 from each writing call, over any buffer and areas.
   pub refused-writes : (run : Run) {t : RefusalCode} → runBegin run .answer ≡ refused t → (t .number ≡ 23 → ⊥)
       → (other text tree : List ℕ) → EachWriting Is24 other (runBegin run .writer) text tree
   -- A run: a begin and then any calls with any arguments. After an accepted begin `AnswersFromTree` gives each answer: 22 exactly after an accepted close
@@ -124,9 +124,9 @@ pub record Demand1 : Type 0 where
   pub exact-numbers : (size : ℕ) (stopped : Bool) (tree : Tree) (calls : List Call) (answers : List (Answer ℕ))
       → AnswersFromTree size stopped tree calls answers → Numbered stopped calls answers
   -- No answer reports more stores than its call needs, and none are reported but where a call is accepted or answers 23. (By definition the stores of
-  -- `begun` and `step` are the first of those needed, as many as the answer reports. That an accepted call reports all of them and a 23 the allowance is
+  -- `beginStep` and `step` are the first of those needed, as many as the answer reports. That an accepted call reports all of them and a 23 the allowance is
   -- in `begin`, `writing` and `AnswersFromTree`; that the buffer then holds these and no others is in `begin-leaves` and `writing-leaves`.)
   pub begin-reports : (run : Run) → length (runBegin run .stores) ≡ storesReported (runBegin run .answer)
-  pub tells : (s : State) (c : Call) → length (step s c .stores) ≡ callStores c (step s c .answer)
+  pub reports : (s : State) (c : Call) → length (step s c .stores) ≡ callStores c (step s c .answer)
   -- The areas of a run: the text area holds the strings so far, each with its zero, the tree area each node's entry; zeros after them.
   pub areas : (run : Run) {n : ℕ} → runBegin run .answer ≡ accepted n → AreasHold (runTree run) (runState run)

@@ -1,6 +1,6 @@
 -- Document 01's table 'Numbers handed back' and its 'Order' for each call: the rules that the call asks, in order, each with what is reported where it
 -- fails. They speak of the record, the memory passed and the arguments, whatever these hold. Opening's rules are `rules` in
--- crates/aff_open/specs/Faults.antt, where `Rule`, `AllHold` and `FirstFails` are too.
+-- crates/aff_open/specs/Faults.antt. `Rule`, `AllHold`, `FirstFails` and `By` are in crates/aff_format/specs/Rule.antt.
 use mathlib.Core.Path.{_≡_}
 use mathlib.Core.Bool.{true}
 use mathlib.Core.List.{List, [], _∷_}

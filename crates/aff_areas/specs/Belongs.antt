@@ -21,8 +21,8 @@ use Rattle.aff_areas.specs.declared.writer.Writer.{Writer}
 
 -- The buffer's length is the recorded one, each area has its size, and no count passes its size.
 unfoldable pub writerSizesBelong : ℕ → Writer → List ℕ → List ℕ → Bool
-writerSizesBelong limit writer text tree =
-    eqb limit (writer .length)
+writerSizesBelong size writer text tree =
+    eqb size (writer .length)
     && (leb (writer .length) imageLimit
     && (eqb (length text) textArea
     && (eqb (length tree) treeArea
@@ -41,7 +41,7 @@ slotLost strings size k (Whole e) = leb k (e .parent) || (noString strings e || 
 unfoldable pub writerNodeLost : ℕ → ℕ → List ℕ → ℕ → Bool
 writerNodeLost strings size tree k = slotLost strings size k (foundSlot tree k)
 
--- The nodes, and the finished size, which is to have room.
+-- The nodes, and the finished size, which has to fit.
 unfoldable pub writerNodesBelong : Writer → List ℕ → Bool
 writerNodesBelong writer tree =
     noneFrom (writerNodeLost (writer .strings) (writer .«data») tree) (writer .nodes) 1 && leb (finishedSize writer tree) (writer .length)
@@ -71,7 +71,7 @@ pub record WriterBelongs (size : ℕ) (writer : Writer) (text tree : List ℕ) :
   pub data-begins : (k : ℕ) → 0 < k → k ≤ writer .nodes → isVoid (slotEntry tree k .kind) ≡ false → dataPlace ≤ slotEntry tree k .offset
   pub data-ends : (k : ℕ) → 0 < k → k ≤ writer .nodes → isVoid (slotEntry tree k .kind) ≡ false
       → slotEntry tree k .offset + slotEntry tree k .count * elementSize (slotEntry tree k .kind) ≤ dataPlace + writer .«data»
-  -- The finished size has room.
+  -- The finished size fits.
   pub size-fits : finishedSize writer tree ≤ writer .length
 
 -- ---- 24 and 22: what make, put and close judge first.

@@ -3,16 +3,16 @@ use crate::writer::Writer;
 use aff_format::Edition;
 use aff_format::Entry;
 use aff_format::FoundEntry;
-use aff_format::Kind;
 use aff_format::bytes;
 use aff_format::entry;
+use aff_format::recorded;
 ghost use mathlib.Core.Path.{_≡_};
 ghost use mathlib.Core.Bool.{cond};
 ghost use mathlib.Core.List.{[], _∷_, _++_};
 ghost use Prim.Native.Nat.{_+_, _*_, _≤_, _<_};
 ghost use lib.ListN.{length, replicate, take, drop};
 ghost use Rattle.aff_format.specs.Bytes.{spliced};
-ghost use Rattle.aff_format.specs.Entry.{slotBytes, orNone};
+ghost use Rattle.aff_format.specs.Entry.{slotBytes};
 ghost use Rattle.aff_format.specs.Kind.{entrySize, isVoid};
 ghost use Rattle.aff_format.specs.Limits.{imageLimit, nodeLimit, textArea, treeArea};
 ghost use Rattle.aff_areas.specs.Areas.{slotAt, foundSlot, slotEntry, entrySizes, entriesOut, dataNodes, finishedSize};
@@ -25,30 +25,15 @@ pub fn found_slot(tree: &[u8], node: usize) -> FoundEntry
     entry::entry_at(tree, 25 * (node - 1))
 }
 
-fn or_none(found: FoundEntry) -> Entry
-    ensures { λ r. ⌜ r ≡ orNone found ⌝ }
-{
-    match found {
-        FoundEntry::Whole(entry) => entry,
-        FoundEntry::Broken => Entry {
-            kind: Kind::Void,
-            parent: 0,
-            string: 0,
-            count: 0,
-            offset: 0,
-        },
-    }
-}
-
 // The entry of a node; the root has none of its own.
 pub fn slot_entry(tree: &[u8], node: usize) -> Entry
     requires { ⌜ node ≤ nodeLimit ⌝ }
     ensures { λ r. ⌜ r ≡ slotEntry (now (tree .entry)) node ⌝ }
 {
     if node == 0 {
-        return or_none(FoundEntry::Broken);
+        return recorded::or_none(FoundEntry::Broken);
     }
-    or_none(found_slot(tree, node))
+    recorded::or_none(found_slot(tree, node))
 }
 
 // Bytes of a node's entry in a file.

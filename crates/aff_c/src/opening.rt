@@ -72,7 +72,7 @@ fn put_bytes(output: &mut [u8], bytes: [u8; 12])
     }
 }
 
-// Opens an image that is passed whole, as `aff_open::open` does, and returns 0 where it is accepted, else the refusal's number. It writes 12
+// Opens a complete image in memory, as `aff_open::open` does, and returns 0 where it is accepted, else the refusal's number. It writes 12
 // numbers into the record: the place that a refusal reports, or 0; and of an accepted image, else zeros, its length, its edition, offset and
 // size of the symbol, the tree and the data section, how many strings and how many nodes it has, and the data section's record count.
 // Where the record has fewer than 12 numbers, it opens nothing, changes nothing and returns 255.

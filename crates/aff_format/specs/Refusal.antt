@@ -6,7 +6,7 @@ use Rattle.aff_format.specs.declared.refusal.RefusalCode.{RefusalCode}
 use Rattle.aff_format.specs.declared.refusal.Refusal.{Refusal}
 use Rattle.aff_format.specs.declared.refusal.Refusal.the-variants.{WrongLength, ShortImage, UnknownText, WrongForm, WrongHeaderSum, SectionOutside, WrongSectionSum, BadSymbolTable, BadTreeTable, BadLink, EndlessClimb, RepeatedName, DataOutside, Malformed, Absent, IndexTooLarge, ChildExists, DataTaken, WrongData, TooMany, BufferTooSmall, NotOpen, AllowanceSpent, WrongRecord}
 
--- Columns 'No.' and 'Place reported'. Every promise about a refusal goes through this table.
+-- Columns 'No.' and 'Place told'. Every promise about a refusal goes through this table.
 abbrev pub codeOfRefusal : Refusal → RefusalCode
 codeOfRefusal WrongLength = refusal 1
 codeOfRefusal ShortImage = refusal 2

@@ -25,7 +25,7 @@ abbrev pub Settled : {A : Type 0} → List Rule → A → Answer A → Type 0
 Settled rules v (accepted w) = AllHold rules × (v ≡ w)
 Settled rules v (refused t) = FirstFails rules t
 
--- One rule for each of the `left` nodes from k on, in ascending order, reported with its node; then more rules.
+-- One rule for each of the `left` numbers from k on, of nodes or strings, in ascending order, reported with its number; then more rules.
 unfoldable pub eachFrom : ℕ → (ℕ → Type 0) → ℕ → ℕ → List Rule → List Rule
 eachFrom number holds zero k more = more
 eachFrom number holds (suc left) k more = rule (holds k) (refusalAt number k) ∷ eachFrom number holds left (k + 1) more

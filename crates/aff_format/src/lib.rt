@@ -1,4 +1,4 @@
-// The vocabulary of the AFF format: what opening, reading and writing share, and nothing that knows of a record or a passed area.
+// The vocabulary of the AFF format: what opening, reading and writing share, and nothing that knows of a record.
 pub mod section; // the three sections
 pub mod edition; // the layout of each edition
 pub mod kind; // the types of a node

@@ -30,7 +30,8 @@ pub fn found_entry(image: &[u8], entries: &[u32], node: usize) -> FoundEntry
     entry::entry_at(image, place(entries, node - 1))
 }
 
-fn or_none(found: FoundEntry) -> Entry
+// The entry found, or the root's where none is.
+pub fn or_none(found: FoundEntry) -> Entry
     ensures { λ r. ⌜ r ≡ orNone found ⌝ }
 {
     match found {

@@ -6,7 +6,7 @@ ghost use Rattle.aff_format.specs.Refusal.{codeOfRefusal, numberOf, plac
 
 // A case for each row of the table, with what it reports.
 pub enum Refusal {
-    // A passed area or the 12 bytes has another length, or the image is too long.
+    // A work area or the 12 bytes has another length, or the image is too long.
     WrongLength,
     // The image is shorter than its edition's header.
     ShortImage,
@@ -128,7 +128,7 @@ impl Refusal {
         code.number
     }
 
-    // Column 'Place reported'.
+    // Column 'Place told'.
     pub fn place(self) -> usize
         ensures { λ r. ⌜ r ≡ placeOf self ⌝ }
     {

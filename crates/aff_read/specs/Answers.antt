@@ -13,18 +13,18 @@ use Rattle.aff_open.specs.declared.reader.Span.{Span}
 use Rattle.aff_open.specs.declared.reader.Reader.{Reader}
 use Rattle.aff_read.specs.Recall.{kindAt, countAt, nameSpan, dataSpan, spanBytes, bytesAt}
 use Rattle.aff_read.specs.declared.answers.KindAnswer.{KindAnswer}
-use Rattle.aff_read.specs.declared.answers.KindAnswer.the-variants as kind
+use Rattle.aff_read.specs.declared.answers.KindAnswer.the-variants as kindCase
 use Rattle.aff_read.specs.declared.answers.PartAnswer.{PartAnswer}
-use Rattle.aff_read.specs.declared.answers.PartAnswer.the-variants as part
+use Rattle.aff_read.specs.declared.answers.PartAnswer.the-variants as partCase
 
 -- The number or the refusal of document 01 in each case of an answer.
 abbrev pub answerOfKind : KindAnswer → Answer Kind
-answerOfKind (kind.Value k) = accepted k
-answerOfKind (kind.Refused r) = refused (codeOfRefusal r)
+answerOfKind (kindCase.Value k) = accepted k
+answerOfKind (kindCase.Refused r) = refused (codeOfRefusal r)
 
 abbrev pub answerOfPart : PartAnswer → Answer Span
-answerOfPart (part.At s) = accepted s
-answerOfPart (part.Refused r) = refused (codeOfRefusal r)
+answerOfPart (partCase.At s) = accepted s
+answerOfPart (partCase.Refused r) = refused (codeOfRefusal r)
 
 -- The part itself: empty where the call is refused.
 abbrev pub partOf : List ℕ → Answer Span → List ℕ

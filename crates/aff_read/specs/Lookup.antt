@@ -1,4 +1,4 @@
--- Which node has a path, said of the paths alone. Document 01, 'Reading keys': 'A lookup names the lowest node there, the only one while nothing passed
+-- Which node has a path, said of the paths alone. Document 01, 'Reading keys': 'A lookup names the lowest node there, the only one while nothing lent
 -- has been altered since opening'; where there is none the answer is 15.
 use mathlib.Core.Path.{_≡_}
 use mathlib.Core.List.{List}

@@ -18,7 +18,7 @@ use Rattle.aff_open.specs.declared.reader.Span.{Span}
 pub record PartIs (image : List ℕ) (answer : Answer Span) (bytes : List ℕ) : Type 0 where
   pub span : Span
   pub answers : answer ≡ accepted span
-  pub part : partOf image answer ≡ bytes
+  pub bytes-are : partOf image answer ≡ bytes
 
 module _ (image : List ℕ) (r : Reader) (strings entries : List ℕ) where
   -- A definition, of this record and this memory.

@@ -51,13 +51,13 @@ module _ (image : List ℕ) (r : Reader) (strings entries : List ℕ) (here : re
   unfolding nameAnswer
   name-part l bytes e =
       let passes = le-ltb (r .nodes) n l in
-      record { span = nameSpan image r strings entries n; answers = rw (here, passes); part = rw (here, passes) e }
+      record { span = nameSpan image r strings entries n; answers = rw (here, passes); bytes-are = rw (here, passes) e }
 
   pub view-part : n ≤ r .nodes → (bytes : List ℕ) → spanBytes image (dataSpan image entries n) ≡ bytes → PartIs image (viewAnswer image r strings entries n) bytes
   unfolding viewAnswer
   view-part l bytes e =
       let passes = le-ltb (r .nodes) n l in
-      record { span = dataSpan image entries n; answers = rw (here, passes); part = rw (here, passes) e }
+      record { span = dataSpan image entries n; answers = rw (here, passes); bytes-are = rw (here, passes) e }
 
   -- A number of no node.
   pub number-absent : r .nodes < n → Absent image r strings entries n

@@ -1,4 +1,4 @@
--- Runs of the writer, the tree that they describe, and what a file shows.
+-- Runs of the writer, what they answer and store, and the tree that they describe.
 pub mod TreeSizes
 pub mod Run
 pub mod AnswersFromTree

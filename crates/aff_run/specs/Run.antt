@@ -1,4 +1,4 @@
--- A run of the writer: a begin and then any list of calls, each given what the call before it left. The turns are made of the very
+-- A run of the writer: a begin and then any list of calls, each given what the call before it left. The steps are made of the very
 -- definitions that the contracts of begin, make, put and close cite.
 use mathlib.Core.Bool.{Bool, true, false, _&&_, _||_}
 use mathlib.Core.List.{List, [], _∷_, _++_}
@@ -90,7 +90,7 @@ completed s (close allowance) =
       buffer = applyStores (s .buffer) (closeStores (s .buffer) (s .writer) (s .text) (s .tree));
     }
 
--- Its turn, by the answer: of the stores needed the first, as many as the answer reports.
+-- Its step, by the answer: of the stores needed the first, as many as the answer reports.
 abbrev pub stepBy : State → Call → Answer ℕ → Step
 stepBy s c a =
     record {
