@@ -167,7 +167,7 @@ class Script:
         return answer[0] == "accepted"
 
     def case(self, title, buffer=None, fill=0xEE):
-        """Begins a case: its title, the lengths lent, and a room full of one byte."""
+        """Begins a case: its title, the lengths passed, and a buffer full of one byte."""
         self.cases += 1
         self.step("#", data=title.encode())
         self.out.append(title + "\n")
@@ -209,7 +209,7 @@ class Script:
         getattr(self.w, area)[place] = byte
 
     def sums(self):
-        """The MD5 sums of room and areas."""
+        """The MD5 sums of buffer and areas."""
         self.step("s")
         areas = (self.w.buffer, self.w.text, self.w.tree)
         self.out.append("sums %s\n" % " ".join(md5(bytes(a[:n])).hex() for a, n in zip(areas, self.w.passed)))
@@ -238,7 +238,7 @@ class Script:
         return [(p, n, k, len(d) // SIZE.get(k, 1)) for p, n, k, d in self.tree]
 
     def listed(self):
-        """The room as `list` prints it."""
+        """The buffer as `list` prints it."""
         self.step("l")
         self.out.append(brief(lines(self.rows())).decode())
 
@@ -247,7 +247,7 @@ class Script:
         self.out.append("refused %d %d\n" % (number, place))
 
     def opened(self):
-        """The room opened, and every answer of every node; and that it begins with the file of the tree."""
+        """The buffer opened, and every answer of every node; and that it begins with the file of the tree."""
         file, strings, full = self.layout()
         assert bytes(self.w.buffer[:len(file)]) == file
         self.step("o")

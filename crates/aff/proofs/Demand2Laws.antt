@@ -1,6 +1,6 @@
 -- Demand 2 from the laws of opening (`accepted-obeys`, `obeys-accepted`, `refused-first`, `first-refused`, `opened-belongs`, `opened-shape`), of lookup
 -- (`lookup-accepts`, `lookup-absent`, `lookup-only`, `lookup-path`), of listing order and of the cases. What is new here: the answers of name and data by
--- the definitions after them, and that record and areas of an opened file show its own tables. Assumes nothing.
+-- the definitions under them, and that record and areas of an opened file show its own tables. Assumes nothing.
 use mathlib.Core.Path.{_≡_, refl, sym, ap, subst, _∙_}
 use mathlib.Core.Bool.{Bool, true, false, cond, not, true≢false}
 use mathlib.Core.List.{List, [], _∷_, _++_}

@@ -89,6 +89,8 @@ pub record BeginLeaves (run : Run) : Type 0 where
 
 pub record WritingLeaves (s : State) (c : Call) : Type 0 where
   -- Accepted: what the call is to leave, with all its stores made.
+  -- Accepted: `completed`. Of record and areas this is the definition of `step`, made of what the contracts of make, put and close cite; of the buffer it
+  -- says that all stores needed were made.
   pub by-acceptance : (n : ℕ) → step s c .answer ≡ accepted n → afterCall s c ≡ completed s c
   -- Refused by 23: the record, but stopped; both areas as they were; in the buffer the first stores needed, as many as the refusal reports. (A make never
   -- reports 23.)

@@ -91,7 +91,7 @@ module _ (writer : Writer) (tree : List ℕ) where
   unfolding writerNodesBelong
   size-decides h = rw h
 
-  -- The finished size has no buffer where header and data have none.
+  -- The finished size does not fit where header and data do not.
   pub data-decide : writer .length < dataPlace + writer .«data» → writerNodesBelong writer tree ≡ false
   unfolding writerNodesBelong finishedSize
   data-decide h =
@@ -189,7 +189,7 @@ module _ {size : ℕ} {writer : Writer} {text tree : List ℕ} (b : WriterBelong
       ∙ size-decides writer tree nodes-none
       ∙ le-leb (finishedSize writer tree) (writer .length) (b .size-fits)
 
--- The all-zero record never belongs: a header has no buffer in it.
+-- The all-zero record never belongs: a header does not fit its length 0.
 pub none-belongs : (size : ℕ) (text tree : List ℕ) → writerBelongs size noWriter text tree ≡ false
 unfolding writerBelongs
 none-belongs size text tree = rw (data-decide noWriter tree (omega arith)) (simp and-false)

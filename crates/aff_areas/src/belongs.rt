@@ -19,7 +19,7 @@ ghost use Rattle.aff_format.specs.Verdict.{answerOfVerdict};
 ghost use Rattle.aff_areas.specs.Belongs.{writerSizesBelong, textBelongs, slotLost, writerNodeLost, writerNodesBelong, writerBelongs as belongsOf, writerChecks};
 ghost use Rattle.aff_areas.specs.Writer.{dataPlace};
 
-// The image's length, the areas' sizes and the counts.
+// The buffer's length, the areas' sizes and the counts.
 fn sizes(buffer: &[u8], writer: Writer, text: &[u8], tree: &[u8]) -> bool
     ensures { λ r. ⌜ r ≡ writerSizesBelong (length (now (buffer .entry))) writer (now (text .entry)) (now (tree .entry)) ⌝ }
 {

@@ -1,4 +1,4 @@
--- What the exported reading functions hand back and leave after the caller's references. Assumes nothing.
+-- What the exported reading functions return, and what they leave in the memory that the caller's references point to. Assumes nothing.
 use mathlib.Core.Bool.{cond}
 use mathlib.Core.List.{List}
 use Prim.Native.Nat.{ℕ}
@@ -56,7 +56,7 @@ imaginaryPart (Int z) = ofInt binary64 (pos 0)
 imaginaryPart (Real x) = ofInt binary64 (pos 0)
 imaginaryPart (Pair x y) = y
 
--- An element of a held view whose kind is reported by its code: 255 where no kind has it.
+-- An element of a held view whose kind is given by its code: 255 where no kind has it.
 abbrev pub decodedBy : FoundKind → List ℕ → ℕ → Answer Element
 decodedBy (Known kind) bytes index = decoded kind bytes index
 decodedBy Unknown bytes index = refused (refusal 255)

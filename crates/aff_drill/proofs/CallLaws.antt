@@ -1,4 +1,4 @@
--- The calls of the drill are the turns of a run, since their contracts cite what a turn is made of; handed down, one allowance gives the run cut there.
+-- The calls of the drill are the steps of a run, since their contracts cite what a step is made of; handed down, one allowance gives the run cut there.
 -- Assumes nothing.
 use mathlib.Core.Path.{_≡_, refl, sym, ap, ap₂, _∙_}
 use mathlib.Core.List.{List, _∷_}

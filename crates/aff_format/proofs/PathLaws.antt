@@ -197,7 +197,7 @@ pub subkeys-more : (e : Edition) (ks : List (List ℕ)) (k : List ℕ) → Subke
 subkeys-more e [] k s h = (h, tt)
 subkeys-more e (j ∷ ks) k s h = (s .0, subkeys-more e ks k (s .1) h)
 
--- Subkeys are reported by their path.
+-- Subkeys are determined by their path.
 pub joined-injective : (e : Edition) (ks js : List (List ℕ)) → Subkeys e ks → Subkeys e js → joinedPath ks ≡ joinedPath js → ks ≡ js
 unfolding joinedPath
 joined-injective e [] [] s t h = refl
@@ -207,7 +207,7 @@ joined-injective e (k ∷ ks) (j ∷ js) s t h =
     let q : k ++ joinedPath ks ≡ j ++ joinedPath js = cc in
     sym (between-joined k ks (subkeys-without e (k ∷ ks) s)) ∙ ap betweenSlashes q ∙ between-joined j js (subkeys-without e (j ∷ js) t)
 
--- What ends in a slash and a text without one is reported by its last slash.
+-- What ends in a slash and a text without one is determined by its last slash.
 slash-in : (front text : List ℕ) → Without 47 (front ++ (47 ∷ text)) → ⊥
 slash-in [] text w = true≢false (w .0)
 slash-in (x ∷ front) text w = slash-in front text (w .1)

@@ -1,4 +1,4 @@
--- `sameBytes` reports equality, and the two runs may be compared byte by byte from the front. By induction on the runs.
+-- `sameBytes` decides equality, and the two runs may be compared byte by byte from the front. By induction on the runs.
 use mathlib.Core.Path.{_≡_, refl, sym, ap, ap₂, _∙_}
 use mathlib.Core.Bool.{Bool, true, false, true≢false}
 use mathlib.Core.List.{List, [], _∷_}

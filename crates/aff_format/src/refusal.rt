@@ -46,7 +46,7 @@ pub enum Refusal {
     WrongData,
     // One node or string too many, or text past its area.
     TooMany,
-    // The size is below the least, the finished size passes it, or the output is too short.
+    // The buffer is below the least, the finished size passes it, or the output is too short.
     BufferTooSmall,
     // The writer is closed or stopped.
     NotOpen,

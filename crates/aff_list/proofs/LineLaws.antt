@@ -80,7 +80,7 @@ line-is image reader strings entries node e is w = rw (written-taken w, is)
 
 -- ---- A path and a text after it.
 
--- The path was written, or refused, in the buffer that the text leaves of the output: the answer, and what that buffer holds then.
+-- The path was written, or refused, in the part of the output that the text leaves of the output: the answer, and what that buffer holds then.
 pub record PathFirst (path text o : List ℕ) (size : ℕ) (r : Answer ℕ) (q : List ℕ) : Type 0 where
   pub left : size + length text ≡ length o
   pub answer : r ≡ textAnswer (length (take size o)) path

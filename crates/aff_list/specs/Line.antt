@@ -4,7 +4,7 @@ use mathlib.Core.List.{List, [], _∷_, _++_}
 use Prim.Native.Nat.{ℕ, zero, suc, _+_, _/_, _%_, _≤_}
 use lib.Dec.{ltb}
 use lib.ListN.{length}
-use Rattle.aff_format.specs.Answer.{Answer, check, refusal, firstWrong}
+use Rattle.aff_format.specs.Answer.{Answer, check, refusal, firstWrong, accepted, refused}
 use Rattle.aff_format.specs.declared.kind.Kind.{Kind}
 use Rattle.aff_format.specs.declared.kind.Kind.the-variants.{Void, Char, Int, Double, Complex}
 use Rattle.aff_open.specs.declared.reader.Reader.{Reader}
@@ -13,6 +13,10 @@ use Rattle.aff_read.specs.Recall.{kindAt, countAt, pathAt}
 use Rattle.aff_format.specs.Rule.{rule, By, Is}
 use Rattle.aff_open.specs.Belongs.{ReaderBelongs}
 use Rattle.aff_read.specs.Paths.{Output, frontWritten}
+use mathlib.Core.Path.{_≡_}
+use mathlib.Core.Logic.{_↔_}
+use Rattle.aff_format.specs.declared.refusal.RefusalCode.{RefusalCode}
+use Rattle.aff_open.specs.Opening.{openAnswer, readerAfter, stringsAfter, entriesAfter}
 
 -- Type words: `void`, `char`, `int`, `double`, `complex`.
 abbrev pub kindWord : Kind → List ℕ
@@ -39,9 +43,18 @@ module _ (image : List ℕ) (reader : Reader) (strings entries : List ℕ) where
       (length (lineAt node))
 
   -- What is proved of the call (`line-answers` in proofs/LineAnswerLaws.antt), for every record and memory: it answers by its rules, 24, 15, 21, in this
-  -- order, and what it leaves in the output.
+  -- order; when 24 comes; and what it leaves in the output.
   pub record LineAnswers : Type 0 where
     pub by-rules : (node size : ℕ)
         → By (rule (ReaderBelongs image reader strings entries) (refusal 24) ∷ rule (node ≤ reader .nodes) (refusal 15) ∷ rule (length (lineAt node) ≤ size) (refusal 21) ∷ [])
         (Is (length (lineAt node))) (lineAnswer node size)
+    pub at-24 : (node size : ℕ) → (lineAnswer node size ≡ refused (refusal 24)) ↔ (ReaderBelongs image reader strings entries → ⊥)
     pub leaves : (node : ℕ) (out : List ℕ) → Output (lineAnswer node (length out)) (lineAt node) out (frontWritten (lineAnswer node (length out)) (lineAt node) out)
+
+-- After an accepted opening the call never answers 24; with the record of a refused opening, all zero, it always does (`line-after-opening`).
+pub record LineAfterOpening : Type 0 where
+  pub opened-reads : (image form strings entries : List ℕ) {r : Reader} → openAnswer image form (length strings) (length entries) ≡ accepted r
+      → (node size : ℕ) (t : RefusalCode)
+      → lineAnswer image r (stringsAfter image form strings entries) (entriesAfter image form strings entries) node size ≡ refused t → t .number ≡ 24 → ⊥
+  pub refused-reads : (image form : List ℕ) (strings entries : ℕ) {t : RefusalCode} → openAnswer image form strings entries ≡ refused t
+      → (other ss es : List ℕ) (node size : ℕ) → lineAnswer other (readerAfter (openAnswer image form strings entries)) ss es node size ≡ refused (refusal 24)

@@ -94,7 +94,7 @@ pub fn begin(
     }
 }
 
-// Puts a node's line and a line feed after the first `used` bytes of a block, and returns where they end. A block that has no size for them
+// Puts a node's line and a line feed after the first `used` bytes of a block, and returns where they end. A block that has no room for them
 // stays, and `used` is returned.
 fn put_row(
     image: &[u8],
@@ -137,7 +137,7 @@ pub struct Filled {
     pub used: usize,
 }
 
-// Fills a block from its front with the lines from a place in listing order on, one at least and as many as it has size for; the rest of it
+// Fills a block from its front with the lines from a place in listing order on, one at least and as many as it has room for; the rest of it
 // stays.
 pub fn fill(
     image: &[u8],

@@ -52,7 +52,7 @@ pub sum-inside : (e : Edition) (s : Section) (image : List ℕ) → headerSize e
 sum-inside One s image h = omega (arith, section-header-most One s, section-sum-last One s)
 sum-inside Two s image h = omega (arith, section-header-most Two s, section-sum-last Two s)
 
--- Whether `size` from `from` on end past `length`, reported without their sum.
+-- Whether `size` from `from` on end past `length`, decided without their sum.
 pub begins-past : (from size length : ℕ) → length < from → ltb length (from + size) ≡ true
 begins-past from size length h = lt-ltb length (from + size) (omega arith)
 

@@ -1,4 +1,5 @@
--- The rules of a file, one by one: document 01, 'Layout of a file'. `Obeys` says that all hold, `Faults` which refusal each brings where it fails.
+-- The rules of a file that need a name, since `Obeys` and `Faults` both cite them: document 01, 'Layout of a file'. `Obeys` says that all hold, `Faults`
+-- which refusal each brings where it fails.
 use mathlib.Core.Path.{_≡_}
 use mathlib.Core.Bool.{true, false}
 use mathlib.Core.List.{List, []}

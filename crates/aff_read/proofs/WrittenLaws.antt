@@ -77,7 +77,7 @@ pub text-written : {end : ℕ} {text o p : List ℕ} → length text ≤ length 
     → (accepted end ≡ textAnswer (length o) text) × (p ≡ text ++ drop (length text) o)
 text-written {end} {text} {o} h w = let f = written-front w in (rw (le-ltb (length o) (length text) h) (ap accepted (f .0)), f .1)
 
--- What the answer of a text says of the buffer.
+-- What the answer of a text says of the output's size.
 pub text-accepted : (size : ℕ) (text : List ℕ) {n : ℕ} → textAnswer size text ≡ accepted n → (n ≡ length text) × (length text ≤ size)
 text-accepted size text h =
     let checks = check (ltb size (length text)) (refusal 21) ∷ [] in

@@ -17,7 +17,7 @@ use Rattle.aff_read.specs.declared.answers.KindAnswer.the-variants as ki
 use Rattle.aff_read.specs.declared.answers.PartAnswer.{PartAnswer}
 use Rattle.aff_read.specs.declared.answers.PartAnswer.the-variants as partCase
 
--- The number or the refusal of document 01 in each case of an answer.
+-- The value or the refusal of document 01 in each case of an answer.
 abbrev pub answerOfKind : KindAnswer → Answer Kind
 answerOfKind (kindCase.Value k) = accepted k
 answerOfKind (kindCase.Refused r) = refused (codeOfRefusal r)

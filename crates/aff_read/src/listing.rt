@@ -102,7 +102,7 @@ fn list_child(
     at
 }
 
-// Writes listing order at the front of an area with size for it, for a record that belongs. Each node is listed once: at most (nodes + 1)²
+// Writes listing order at the front of an area with room for it, for a record that belongs. Each node is listed once: at most (nodes + 1)²
 // comparisons of parents. Recursion depth is the number of levels of the tree, at most 2,049, and a frame is 96 bytes as compiled for x86-64: with the
 // parents, 8,196 bytes, about 205,000 bytes of stack.
 pub fn listing_of(

@@ -1,5 +1,5 @@
 -- A run whose allowances give out after some number of stores makes exactly that many first stores of the uncut run, and answers the same before
--- that point. By induction on the calls: each turn is the uncut one, or it makes all the stores that are left and stops the writer. Assumes nothing.
+-- that point. By induction on the calls: each step is the uncut one, or it makes all the stores that are left and stops the writer. Assumes nothing.
 use mathlib.Core.Path.{_≡_, refl, sym, ap, ap₂, _∙_}
 use mathlib.Core.Bool.{Bool, true, false, cond}
 use mathlib.Core.List.{List, [], _∷_, _++_, append-nil}
@@ -25,7 +25,7 @@ use Rattle.aff_run.specs.Run.{Call, make, put, close, State, Step, next,
 use Rattle.aff_run.specs.Cut.{limited, limitCalls, cut}
 use Rattle.aff_run.proofs.StepLaws.{asleep-step, asleep-next, run-buffer}
 
--- ---- One turn with its own allowance, and with what is left where that is less.
+-- ---- One step with its own allowance, and with what is left where that is less.
 
 -- The two are alike and the stores suffice; or the stores that are left are all made, more were wanted, the answer is 23 with their number, and the
 -- writer sleeps.
@@ -65,7 +65,7 @@ module _ (before : List Check) (none : Others 23 before) (all : List Store) wher
       by-checks (accepted c) e = by-number c e (ltb allowance (length all)) refl
       by-checks (refused t) e = rw (stands t allowance e, others-reported 23 before none 0 e)
 
-  -- Its turn goes by its answer.
+  -- Its step goes by its answer.
   module _ (by : Answer ℕ → Step) (answers : (a : Answer ℕ) → by a .answer ≡ a) (made : (a : Answer ℕ) → by a .stores ≡ take (storesReported a) all)
       (stops : (t : RefusalCode) → eqb (t .number) 23 ≡ true → by (refused t) .writer .live ≡ false) (allowance left : ℕ) where
     alike-by : (a : Answer ℕ) → judged (min allowance left) ≡ a → judged allowance ≡ a → length (take (storesReported a) all) ≤ left
@@ -110,7 +110,7 @@ module _ (before : List Check) (none : Others 23 before) (all : List Store) wher
     compared : Compared (by (judged (min allowance left))) (by (judged allowance)) left
     compared = by-checks (firstWrong before 0) refl
 
--- Where the stores suffice, the turn is the same.
+-- Where the stores suffice, the step is the same.
 enough : {lengths full : Step} {left : ℕ} → Compared lengths full left → length (full .stores) ≤ left → lengths ≡ full
 enough (alike e h) k = e
 enough (givesOut e h reported asleep) k = absurd (omega arith)
@@ -202,7 +202,7 @@ abbrev AnswerOut : List Call → Call → List Call → State → ℕ → Type 0
 AnswerOut before c cs s left = length (storesOf s before) ≤ left → left < length (storesOf s (before ++ (c ∷ [])))
     → take 1 (drop (length before) (answersOf s (limitCalls s left cs))) ≡ refused (refusalAt 23 (left - length (storesOf s before))) ∷ []
 
--- The same of the calls after a turn, of a call or of begin, and with the stores of that turn.
+-- The same of the calls after a step, of a call or of begin, and with the stores of that step.
 module _ (buffer : List ℕ) (lengths full : Step) (left : ℕ) (turns : Compared lengths full left) where
   abbrev uncut : State
   uncut = next full buffer

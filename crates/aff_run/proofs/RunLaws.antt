@@ -1,4 +1,4 @@
--- A call in a good state leaves a good one, with the tree grown, or it closes or stops the writer (`outcome`). So where a close is accepted among some calls,
+-- A call in a good state leaves a good one, with the call applied to the tree, or it closes or stops the writer (`outcome`). So where a close is accepted among some calls,
 -- the buffer after all their stores has whatever each closed buffer has. By induction on the calls, and for each call by its answer. Assumes nothing.
 use mathlib.Core.Path.{_≡_, refl, sym, ap, _∙_, subst}
 use mathlib.Core.Bool.{Bool, true, false, cond, _&&_, _||_, true≢false}
@@ -73,7 +73,7 @@ next-unchanged s c t e h = rw (step-refused s t e c h)
 
 -- ---- A call in a good state.
 
--- The writer goes on, with the tree grown; or the call closes or stops it, and the tree stays.
+-- The writer goes on, with the call applied to the tree; or the call closes or stops it, and the tree stays.
 pub data Outcome (s : State) (tree : Tree) (c : Call) : Type 0 where
   goesOn : stops c (step s c .answer) ≡ false → Invariant (afterCall s c) (applyCall tree c (isAccepted (step s c .answer)))
       → (FromPlace s tree → FromPlace (afterCall s c) (applyCall tree c (isAccepted (step s c .answer)))) → Outcome s tree c

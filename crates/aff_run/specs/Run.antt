@@ -173,7 +173,7 @@ withCalls run calls =
     record { buffer = run .buffer; form = run .form; text = run .text; tree = run .tree; allowance = run .allowance; calls = calls }
 
 module _ (run : Run) where
-  -- Begin's turn, and what it leaves.
+  -- Begin's step, and what it leaves.
   abbrev pub runBegin : Step
   runBegin = beginStep (run .buffer) (run .form) (run .text) (run .tree) (run .allowance)
 

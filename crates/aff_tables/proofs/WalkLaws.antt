@@ -1,4 +1,4 @@
--- The walk over the entries of a section: what is left of the buffer and of the section has the rest of its entries. Assumes nothing.
+-- The walk over the entries of a section: what is left of the limit and of the section has the rest of its entries. Assumes nothing.
 use mathlib.Core.Path.{_≡_, refl, sym, ap, _∙_}
 use mathlib.Core.List.{List, [], _∷_}
 use Prim.Native.Nat.{ℕ, zero, suc, _+_, _-_, _≤_, _<_}

@@ -10,7 +10,7 @@ use Rattle.aff_areas.specs.Stores.{Store, storesFrom}
 use Rattle.aff_areas.specs.Writer.{dataPlace, noWriter, freshWriter, stopped}
 use Rattle.aff_areas.specs.declared.writer.Writer.{Writer}
 
--- 1: an area has another length than its own, the form is not 12 bytes, or the image is too long.
+-- 1: an area has another length than its own, the form is not 12 bytes, or the buffer is too long.
 unfoldable pub beginLengthsWrong : List ℕ → List ℕ → List ℕ → List ℕ → Bool
 beginLengthsWrong buffer form text tree =
     not (eqb (length form) 12) || (not (eqb (length text) textArea) || (not (eqb (length tree) treeArea) || ltb imageLimit (length buffer)))
@@ -32,8 +32,8 @@ beginAnswer buffer form text tree allowance = firstWrong (beginChecks buffer for
 
 -- The record: all zero after 1 and 21; after 23 as an accepted begin makes it, but stopped.
 abbrev pub beginWriter : Answer ℕ → ℕ → List ℕ → Writer
-beginWriter (accepted n) buffer form = freshWriter buffer form
-beginWriter (refused t) buffer form = cond (eqb (t .number) 23) (stopped (freshWriter buffer form)) noWriter
+beginWriter (accepted n) size form = freshWriter size form
+beginWriter (refused t) size form = cond (eqb (t .number) 23) (stopped (freshWriter size form)) noWriter
 
 -- An area: an accepted begin clears it.
 abbrev pub beginArea : Answer ℕ → List ℕ → List ℕ

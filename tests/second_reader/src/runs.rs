@@ -307,7 +307,7 @@ pub fn random_run(random: &Random) -> Run {
         add(&mut run, &mut model, random.pick(&more));
     }
     if style == Style::Usual && closed && random.one_in(3) {
-        // The finished size, or one byte around it: the last calls that need buffer are refused or just fit.
+        // The finished size, or one byte around it: the last calls that need room are refused or just fit.
         run.buffer
             .resize(model.finished() as usize - 1 + random.below(3), 5);
     }

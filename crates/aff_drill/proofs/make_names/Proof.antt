@@ -1,4 +1,4 @@
--- `make_names` meets its contract: two makes are two turns. Assumes nothing.
+-- `make_names` meets its contract: two makes are two steps. Assumes nothing.
 use borrow.Author.Needs.{needs}
 use Rattle.aff_drill.proofs.CallLaws.{both-left}
 use Rattle.aff_drill.proofs.make_names.Statement.{statement}

@@ -1,4 +1,4 @@
--- `put_number` meets its contract: the put is a turn. Assumes nothing.
+-- `put_number` meets its contract: the put is a step. Assumes nothing.
 use borrow.Author.Needs.{needs}
 use Rattle.aff.specs.Worked.{minusSeventy}
 use Rattle.aff_drill.proofs.CallLaws.{put-left}

@@ -6,10 +6,10 @@ use lib.Dec.{leb}
 use lib.ListN.{length}
 use Rattle.aff_format.specs.Bytes.{spliced}
 
--- Where the text ends; `used` where there is no buffer for it.
+-- Where the text ends; `used` where there is no room for it.
 unfoldable pub endAfter : ℕ → List ℕ → List ℕ → ℕ
 endAfter used text block = cond (leb (used + length text) (length block)) (used + length text) used
 
--- The block after it; unchanged where there is no buffer.
+-- The block after it; unchanged where there is no room.
 unfoldable pub putAfter : ℕ → List ℕ → List ℕ → List ℕ
 putAfter used text block = cond (leb (used + length text) (length block)) (spliced used text block) block

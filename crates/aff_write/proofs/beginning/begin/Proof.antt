@@ -20,7 +20,7 @@ use Rattle.aff_write.proofs.beginning.begin.Statement.{statement}
 use Rattle.aff_write.proofs.beginning.begin.Tie as tie
 
 module _ (buffer form text tree : List ℕ) (allowance : ℕ) where
-  -- What is promised of an answer and of enough and areas after it.
+  -- What is promised of an answer and of buffer and areas after it.
   abbrev Promised : Writing → List ℕ → List ℕ → List ℕ → Type 0
   Promised r image' text' tree' =
       (answerOfNumber (r .answer) ≡ beginAnswer buffer form text tree allowance)
