@@ -39,8 +39,8 @@ module _ (image : List ℕ) (reader : Reader) (strings entries : List ℕ) where
   -- A record that belongs: no rule that fails has the number 24.
   not-24 : ReaderBelongs image reader strings entries → (node size : ℕ) (t : RefusalCode) → FirstFails (rules node size) t → t .number ≡ 24 → ⊥
   not-24 b node size t (inl (n, e)) h = n b
-  not-24 b node size t (inr (_, inl (n, e))) h = let q : 15 ≡ 24 = ap (λ (x : RefusalCode). x .number) e ∙ h in omega arith
-  not-24 b node size t (inr (_, inr (_, inl (n, e)))) h = let q : 21 ≡ 24 = ap (λ (x : RefusalCode). x .number) e ∙ h in omega arith
+  not-24 b node size t (inr (_, inl (n, e))) h = let q : _≡_ {A = ℕ} 15 24 = ap (λ (x : RefusalCode). x .number) e ∙ h in omega arith
+  not-24 b node size t (inr (_, inr (_, inl (n, e)))) h = let q : _≡_ {A = ℕ} 21 24 = ap (λ (x : RefusalCode). x .number) e ∙ h in omega arith
   not-24 b node size t (inr (_, inr (_, inr f))) h = f
 
   pub line-not-24 : ReaderBelongs image reader strings entries → (node size : ℕ) (t : RefusalCode)
