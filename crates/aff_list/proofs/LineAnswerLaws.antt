@@ -41,7 +41,7 @@ module _ (image : List ℕ) (reader : Reader) (strings entries : List ℕ) where
   not-24 b node size t (inl (n, e)) h = n b
   not-24 b node size t (inr (_, inl (n, e))) h = let q : _≡_ {A = ℕ} 15 24 = ap (λ (x : RefusalCode). x .number) e ∙ h in omega arith
   not-24 b node size t (inr (_, inr (_, inl (n, e)))) h = let q : _≡_ {A = ℕ} 21 24 = ap (λ (x : RefusalCode). x .number) e ∙ h in omega arith
-  not-24 b node size t (inr (_, inr (_, inr f))) h = f
+  not-24 b node size t (inr (_, inr (_, inr f))) h = f .1
 
   pub line-not-24 : ReaderBelongs image reader strings entries → (node size : ℕ) (t : RefusalCode)
       → lineAnswer image reader strings entries node size ≡ refused t → t .number ≡ 24 → ⊥
