@@ -17,7 +17,7 @@ use Rattle.aff_format.specs.Recorded.{recordedEntry, nameFrom}
 use Rattle.aff_open.specs.declared.reader.Reader.{Reader}
 use Rattle.aff_format.proofs.RecordedLaws.{name-part}
 use Rattle.aff_read.specs.Recall.{symbolsEnd, parentAt, nameAt, nameSpan, spanBytes, pathAt}
-use Rattle.aff_read.proofs.WrittenLaws.{Parted}
+use Rattle.aff_read.proofs.WrittenLaws.{TwoParts}
 use Rattle.aff_read.proofs.SpanLaws.{part-between, name-from}
 
 module _ (parent : ℕ → ℕ) (name : ℕ → List ℕ) where
@@ -27,7 +27,7 @@ module _ (parent : ℕ → ℕ) (name : ℕ → List ℕ) where
   front-left (suc left) n p up f g = let e : suc left - 1 ≡ left = omega arith in rw (e, up) (front-up parent name left n g)
 
   pub front-parted : (left n p : ℕ) → p ≡ parent n → (left ≡ 0 → ⊥) → (n ≡ 0 → ⊥) → (o : List ℕ) → length (frontBy parent name left n) ≤ length o
-      → Parted (frontBy parent name (left - 1) p) (47 ∷ name n) (frontBy parent name left n) o
+      → TwoParts (frontBy parent name (left - 1) p) (47 ∷ name n) (frontBy parent name left n) o
   front-parted left n p up f g o h = record { is = front-left left n p up f g; fits = h }
 
   pub front-none : (left n : ℕ) → left ≡ 0 → frontBy parent name left n ≡ []

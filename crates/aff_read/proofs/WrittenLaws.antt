@@ -45,12 +45,12 @@ written-cons at v x o h w =
     written-more (written-one at v o (omega arith)) fits w
 
 -- A text of two parts, for an output that is long enough.
-pub record Parted (x y whole o : List ℕ) : Type 0 where
+pub record TwoParts (x y whole o : List ℕ) : Type 0 where
   pub is : whole ≡ x ++ y
   pub fits : length whole ≤ length o
 
 -- The first part is written at the front of the output, then the other after it.
-module _ {x y whole o : List ℕ} (t : Parted x y whole o) where
+module _ {x y whole o : List ℕ} (t : TwoParts x y whole o) where
   whole-length : length whole ≡ length x + length y
   whole-length = ap length (t .is) ∙ length-append x y
 
