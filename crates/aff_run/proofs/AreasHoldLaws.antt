@@ -21,7 +21,7 @@ use Rattle.aff_areas.specs.Areas.{slotAt}
 use Rattle.aff_run.specs.TreeSizes.{namesOf, dataSize}
 use Rattle.aff_run.specs.AreasHold.{SlotOf, AreasHold}
 use Rattle.aff_run.specs.Run.{Call, State, Step, next, step, afterCall, answersOf, stateAfter, isAccepted, applyCall, treeAfter, Run, runBegin, runStart, runState, runTree}
-use Rattle.aff_run.proofs.InvariantLaws.{Invariant, Blank, FromPlace, count-same, storables, stored-in, text-after, tree-after}
+use Rattle.aff_run.proofs.InvariantLaws.{Invariant, Blank, ZerosAfter, count-same, storables, stored-in, text-after, tree-after}
 use Rattle.aff_run.proofs.BeginInvariantLaws.{begin-good, begin-after}
 use Rattle.aff_run.proofs.SlotsLaws.{slotsOf, length-slotsOf, drop-slots, node-storable}
 use Rattle.aff_run.proofs.StepLaws.{asleep-described, asleep-after}
@@ -62,7 +62,7 @@ module _ (s : State) (tree : Tree) (g : Invariant s tree) where
         last = λ v. rw b (last-zero (nodeEntry (g .entries) n) (ap isVoid (t .kind-is) ∙ v));
       }
 
-  module _ (b : FromPlace s tree) where
+  module _ (b : ZerosAfter s tree) where
     text-zeros : g .text-rest ≡ replicate (textArea - length (textOf (namesOf tree))) 0
     text-zeros =
         let n : length (g .text-rest) ≡ textArea - length (textOf (namesOf tree)) =
@@ -110,10 +110,10 @@ sleeps-held tree s t z h =
 
 -- ---- The run.
 
-abbrev HeldFrom : List Call → Type 0
-HeldFrom cs = (s : State) (tree : Tree) → Invariant s tree → FromPlace s tree → AreasHold (treeAfter tree cs (answersOf s cs)) (stateAfter s cs)
+abbrev AreasFrom : List Call → Type 0
+AreasFrom cs = (s : State) (tree : Tree) → Invariant s tree → ZerosAfter s tree → AreasHold (treeAfter tree cs (answersOf s cs)) (stateAfter s cs)
 
-module _ (s : State) (tree : Tree) (g : Invariant s tree) (b : FromPlace s tree) (c : Call) (cs : List Call) (later : HeldFrom cs) where
+module _ (s : State) (tree : Tree) (g : Invariant s tree) (b : ZerosAfter s tree) (c : Call) (cs : List Call) (later : AreasFrom cs) where
   -- The same, after call c.
   by-step : Outcome s tree c
       → AreasHold (treeAfter (applyCall tree c (isAccepted (step s c .answer))) cs (answersOf (afterCall s c) cs)) (stateAfter (afterCall s c) cs)
@@ -123,9 +123,9 @@ module _ (s : State) (tree : Tree) (g : Invariant s tree) (b : FromPlace s tree)
       rw (t, asleep-described (afterCall s c) asleep tree cs, asleep-after (afterCall s c) asleep cs)
       (sleeps-held tree s (step s c) z (good-held s tree g b))
 
-held-from : (cs : List Call) → HeldFrom cs
-held-from [] s tree g b = good-held s tree g b
-held-from (c ∷ cs) s tree g b = by-step s tree g b c cs (held-from cs) (outcome s tree g c)
+areas-from : (cs : List Call) → AreasFrom cs
+areas-from [] s tree g b = good-held s tree g b
+areas-from (c ∷ cs) s tree g b = by-step s tree g b c cs (areas-from cs) (outcome s tree g c)
 
 pub run-held : (run : Run) {n : ℕ} → runBegin run .answer ≡ accepted n → AreasHold (runTree run) (runState run)
-run-held run h = held-from (run .calls) (runStart run) [] (begin-good run h) (begin-after run h)
+run-held run h = areas-from (run .calls) (runStart run) [] (begin-good run h) (begin-after run h)

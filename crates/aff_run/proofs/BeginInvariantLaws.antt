@@ -19,7 +19,7 @@ use Rattle.aff_areas.proofs.StoreLaws.{apply-length}
 use Rattle.aff_write.specs.Begin.{beginLengthsWrong, beginStores, beginChecks, beginAnswer}
 use Rattle.aff_run.specs.TreeSizes.{namesFrom, dataSize, entriesSize, sizeOf}
 use Rattle.aff_run.specs.Run.{beginStep, Run, runBegin, runStart}
-use Rattle.aff_run.proofs.InvariantLaws.{Invariant, Blank, FromPlace}
+use Rattle.aff_run.proofs.InvariantLaws.{Invariant, Blank, ZerosAfter}
 use Rattle.aff_run.proofs.SlotsLaws.{slotsOf}
 
 -- What is passed is right where check 1 finds nothing.
@@ -96,7 +96,7 @@ module _ (run : Run) {n : ℕ} (h : runBegin run .answer ≡ accepted n) where
       (apply-length (run .buffer) (take n beginStores)) (a .0) (length-replicate (length (run .text)) 0 ∙ a .1) (length-replicate (length (run .tree)) 0 ∙ a .2)
       (a .3) (ltb-false (length (run .buffer)) dataPlace (clear .1 .0)))
 
-  pub begin-after : FromPlace (runStart run) []
+  pub begin-after : ZerosAfter (runStart run) []
   unfolding beginStep namesFrom textOf
   begin-after = rw h (record { text-blank = blank-zeros (length (run .text)); tree-blank = blank-zeros (length (run .tree)) })
 

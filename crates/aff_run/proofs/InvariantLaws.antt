@@ -94,7 +94,7 @@ abbrev pub Blank : List ℕ → Type 0
 Blank l = l ≡ replicate (length l) 0
 
 -- Zeros after the strings and after the slots: what an accepted begin, which clears both areas, leaves besides.
-pub record FromPlace (s : State) (tree : Tree) : Type 0 where
+pub record ZerosAfter (s : State) (tree : Tree) : Type 0 where
   pub text-blank : Blank (drop (length (textOf (namesOf tree))) (s .text))
   pub tree-blank : Blank (drop (25 * length tree) (s .tree))
 

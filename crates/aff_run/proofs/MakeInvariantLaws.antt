@@ -33,7 +33,7 @@ use Rattle.aff_areas.specs.Writer.{written}
 use Rattle.aff_write.specs.Make.{addedStrings, addedText, tooMany, isChild, childExists, childChecks, madeText, madeEntry, madeTree}
 use Rattle.aff_run.specs.TreeSizes.{withChild, addName, namesOf, dataSize, entriesSize, sizeOf}
 use Rattle.aff_run.specs.Run.{make, State, completed, step, afterCall}
-use Rattle.aff_run.proofs.InvariantLaws.{Stored, Each, Invariant, FromPlace, blank-drop, each-snoc, each-kept, names-in, count-same, entry-in, stored-in, name-in, size-in, text-after, tree-after}
+use Rattle.aff_run.proofs.InvariantLaws.{Stored, Each, Invariant, ZerosAfter, blank-drop, each-snoc, each-kept, names-in, count-same, entry-in, stored-in, name-in, size-in, text-after, tree-after}
 use Rattle.aff_run.proofs.NamesLaws.{index-in, index-name, length-add, text-add, add-longer, add-old, text-stored, subkeys-add, distinct-add, names-snoc}
 use Rattle.aff_run.proofs.SlotsLaws.{slotsOf, slot-added}
 use Rattle.aff_run.proofs.StepLaws.{accepted-clear}
@@ -236,7 +236,7 @@ module _ (s : State) (tree : Tree) (g : Invariant s tree) (parent : ℕ) (name :
   made-good = rw left-is made-left
 
   -- Zeros after stay zeros.
-  left-after : FromPlace s tree → FromPlace left (withChild tree parent name)
+  left-after : ZerosAfter s tree → ZerosAfter left (withChild tree parent name)
   unfolding made-left text-left
   left-after b =
       record {
@@ -244,5 +244,5 @@ module _ (s : State) (tree : Tree) (g : Invariant s tree) (parent : ℕ) (name :
         tree-blank = rw (tree-after left (withChild tree parent name) made-left) (blank-drop 25 (g .tree-rest) (rw (tree-after s tree g) at (b .tree-blank)));
       }
 
-  pub made-after : FromPlace s tree → FromPlace (afterCall s (make parent name)) (withChild tree parent name)
+  pub made-after : ZerosAfter s tree → ZerosAfter (afterCall s (make parent name)) (withChild tree parent name)
   made-after b = rw left-is (left-after b)

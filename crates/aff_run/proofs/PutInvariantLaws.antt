@@ -32,7 +32,7 @@ use Rattle.aff_areas.proofs.StoreLaws.{apply-spliced}
 use Rattle.aff_write.specs.Put.{takesNone, wrongData, dataKind, putPlace, putStores, dataChecks, putWriter, putEntry, putTree}
 use Rattle.aff_run.specs.TreeSizes.{withData, addName, namesFrom, namesOf, dataSize, entriesSize, sizeOf}
 use Rattle.aff_run.specs.Run.{put, State, step, afterCall}
-use Rattle.aff_run.proofs.InvariantLaws.{Stored, Each, Invariant, FromPlace, each-set, each-kept, is-void, count-same, entry-in, stored-in, size-in, text-after, tree-after}
+use Rattle.aff_run.proofs.InvariantLaws.{Stored, Each, Invariant, ZerosAfter, each-set, each-kept, is-void, count-same, entry-in, stored-in, size-in, text-after, tree-after}
 use Rattle.aff_run.proofs.SlotsLaws.{slotsOf, slot-changed}
 use Rattle.aff_run.proofs.StepLaws.{accepted-clear}
 
@@ -268,7 +268,7 @@ module _ (s : State) (tree : Tree) (g : Invariant s tree) (node type : ℕ) (byt
   put-good = rw left-is put-left
 
   -- Zeros after stay zeros.
-  left-after : FromPlace s tree → FromPlace left after
+  left-after : ZerosAfter s tree → ZerosAfter left after
   unfolding put-left
   left-after b =
       record {
@@ -276,5 +276,5 @@ module _ (s : State) (tree : Tree) (g : Invariant s tree) (node type : ℕ) (byt
         tree-blank = rw (tree-after left after put-left) (rw (tree-after s tree g) at (b .tree-blank));
       }
 
-  pub put-after : FromPlace s tree → FromPlace (afterCall s (put node type bytes allowance)) after
+  pub put-after : ZerosAfter s tree → ZerosAfter (afterCall s (put node type bytes allowance)) after
   put-after b = rw left-is (left-after b)

@@ -18,7 +18,7 @@ use Rattle.aff_write.specs.Close.{closeStores}
 use Rattle.aff_write.specs.Put.{putStores}
 use Rattle.aff_run.specs.AnswersFromTree.{isSpent, stops}
 use Rattle.aff_run.specs.Run.{Call, make, put, close, State, Step, answerTo, needed, completed, step, afterCall, answersOf, storesOf, isAccepted, applyCall, treeAfter, isClose, closedBy}
-use Rattle.aff_run.proofs.InvariantLaws.{Invariant, FromPlace}
+use Rattle.aff_run.proofs.InvariantLaws.{Invariant, ZerosAfter}
 use Rattle.aff_run.proofs.MakeInvariantLaws.{made-good, made-after}
 use Rattle.aff_run.proofs.PutInvariantLaws.{put-good, put-after}
 use Rattle.aff_run.proofs.ClosedLaws.{closed, closed-buffer}
@@ -76,7 +76,7 @@ next-unchanged s c t e h = rw (step-refused s t e c h)
 -- The writer goes on, with the call applied to the tree; or the call closes or stops it, and the tree stays.
 pub data Outcome (s : State) (tree : Tree) (c : Call) : Type 0 where
   goesOn : stops c (step s c .answer) ≡ false → Invariant (afterCall s c) (applyCall tree c (isAccepted (step s c .answer)))
-      → (FromPlace s tree → FromPlace (afterCall s c) (applyCall tree c (isAccepted (step s c .answer)))) → Outcome s tree c
+      → (ZerosAfter s tree → ZerosAfter (afterCall s c) (applyCall tree c (isAccepted (step s c .answer)))) → Outcome s tree c
   ends : stops c (step s c .answer) ≡ true → applyCall tree c (isAccepted (step s c .answer)) ≡ tree → Sleeps s (step s c) → Outcome s tree c
 
 module _ (s : State) (tree : Tree) (g : Invariant s tree) where
