@@ -106,7 +106,7 @@ HOSTILE = [
         lambda path: write_image(path, table([b"a" * 2**25] + SHORT_NAMES[1:]), MANY, chain(range(MANY)), MANY),
     ),
     ("one string of 64 MiB, the name of one node", 0, lambda path: write_image(path, b"a" * 2**26 + b"\0", 1, void(0, 0), 1)),
-    ("64 MiB of symbol table, all zeros", 8, lambda path: write_image(path, bytes(2**26), 2**26, b"", 0)),
+    ("64 MiB of symbol table, all zeros", 25, lambda path: write_image(path, bytes(2**26), 2**26, b"", 0)),
     ("64 MiB of tree table, all zeros", 9, lambda path: write_image(path, b"", 0, bytes(2**26), 2**26)),
 ]
 

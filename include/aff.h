@@ -35,7 +35,7 @@ enum {
     AFF_ERR_HEADER_SUM = 5,   // The header's MD5 sum is wrong.
     AFF_ERR_SECTION = 6,      // A section ends past the image. Place: 1 symbols, 2 tree, 3 data.
     AFF_ERR_SECTION_SUM = 7,  // A section's MD5 sum is wrong. Place: 1 symbols, 2 tree, 3 data.
-    AFF_ERR_SYMBOLS = 8,      // The symbol table lacks its last zero, has over 2,048 strings, another number than the header says, or a string twice.
+    AFF_ERR_SYMBOLS = 8,      // The symbol table is not empty, and its last byte is not zero.
     AFF_ERR_TREE = 9,         // A tree entry is cut short, of no type, or the 2,049th. Place: the entry; 0 if their number is not the header's.
     AFF_ERR_NODE = 10,        // A node's parent or string does not exist, or its name is malformed. Place: the lowest such node.
     AFF_ERR_CYCLE = 11,       // A node's parents do not lead to the root. Place: the lowest such node.
@@ -52,6 +52,9 @@ enum {
     AFF_ERR_CLOSED = 22,      // The file is closed or stopped.
     AFF_ERR_ALLOWANCE = 23,   // The allowance is smaller than the number of bytes to store. Place: how many were stored.
     AFF_ERR_MISMATCH = 24,    // Record, work areas and buffer do not belong together.
+    AFF_ERR_STRINGS = 25,     // The symbol table has over 2,048 strings. Place: 2,048, the first string beyond; strings are counted from 0.
+    AFF_ERR_COUNT = 26,       // The number of strings is not the header's.
+    AFF_ERR_REPEATED = 27,    // A string of the symbol table equals an earlier one. Place: the lowest such string.
     AFF_ERR_ARGUMENT = 255    // aff_open_image: the record is too short. aff_decode: there is no such type.
 };
 
@@ -68,11 +71,11 @@ enum { AFF_VOID = 1, AFF_CHAR = 2, AFF_INT = 3, AFF_DOUBLE = 4, AFF_COMPLEX = 5 
 bool aff_form_for(const uint8_t *image, size_t image_length, uint8_t *output, size_t output_length);
 
 // Checks a complete file in memory against all rules of the format, MD5 sums included, and fills both work areas and the record, which the reading
-// calls take. record[0] is the place of a refusal (else 0), [1] the image's length, [2] the edition, [3] and [4] offset and size of the symbol
+// calls take. record[0] is the place of a refusal (else 0): a section, a string, an entry or a node, as its number says. [1] the image's length, [2] the edition, [3] and [4] offset and size of the symbol
 // section, [5] and [6] of the tree section, [7] and [8] of the data section, [9] the number of strings, [10] of nodes without the root, [11] of data
 // records as the header has it.
-// After a refusal with 1 the work areas are unchanged, after 2 to 13 they are all zero; record[1] to record[11] are 0 after both. Returns 255 and changes
-// nothing if the record has fewer than 12 numbers.
+// The numbers of its refusals are, in this order, 1 to 8, 25 to 27 and 9 to 13. After 1 the work areas are unchanged, after the others they are all zero;
+// record[1] to record[11] are 0 after all. Returns 255 and changes nothing if the record has fewer than 12 numbers.
 uint32_t aff_open_image(const uint8_t *image, size_t image_length, const uint8_t *form, size_t form_length, uint32_t *strings,
     size_t strings_length, uint32_t *entries, size_t entries_length, uint64_t *record, size_t record_length);
 

@@ -21,7 +21,7 @@ static const char *meaning(uint32_t number) {
         "the header is damaged: its MD5 sum is wrong",
         "a section ends past the file (1 symbols, 2 tree, 3 data)",
         "a section is damaged: its MD5 sum is wrong (1 symbols, 2 tree, 3 data)",
-        "the symbol table is malformed",
+        "the symbol table does not end in a zero byte",
         "the tree table is malformed at this entry (0: the number of entries)",
         "the parent or the name of this node does not exist, or the name is malformed",
         "the parents of this node do not lead to the root",
@@ -38,6 +38,9 @@ static const char *meaning(uint32_t number) {
         "the file is closed or stopped",
         "the allowance of stores is spent",
         "record, work areas and image do not belong together",
+        "there are more than 2,048 strings; this is the first beyond, counted from 0",
+        "the number of strings is not the one in the header",
+        "this string, counted from 0, equals an earlier one",
     };
     return number < sizeof meanings / sizeof *meanings ? meanings[number] : "an argument is wrong";
 }

@@ -18,7 +18,7 @@ import sys
 import time
 
 import make_chains
-from make_images import DOUBLE
+from make_images import DOUBLE, changed
 from make_listings import WORKED, make
 
 ROOT = os.path.dirname(os.path.dirname(os.path.abspath(__file__)))
@@ -91,6 +91,7 @@ def sources():
     worked = make(2, WORKED)
     unfinished = image_file("unfinished.aff", b"\0" + worked[1:])
     empty = image_file("empty.aff", make(2, [(0, b"e", DOUBLE, 0)]))
+    repeated = image_file("repeated.aff", changed(2, strings=[b"a", b"n", b"a"]).bytes())
     runs = []
     for language, standard in (("c", "c99"), ("c++", "c++11")):
         compile_it, read = program("samples/read.c", language=language, standard=standard)
@@ -101,6 +102,7 @@ def sources():
             ends([read, empty, "/e"], err="an empty array"),
             ends([read, WORKED_FILE, "/b"], 1, err="refused 15 0"),
             ends([read, unfinished, "/a"], 1, err="refused 3 0"),
+            ends([read, repeated, "/a"], 1, err="refused 27 2: this string, counted from 0, equals an earlier one"),
             ends([read], 2, err="usage"),
         ]
     print(f"   samples/read.c: {sum(runs)} of {len(runs)} compilations and runs as expected")

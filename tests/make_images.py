@@ -1,8 +1,8 @@
 #!/usr/bin/env python3
 """Makes the images of the test program test_open: lawful odd files, and damaged ones on both sides of each boundary.
 
-It shares no code with the library: it is written from source document 003 and document 01, and what each image must be
-answered with is said here by hand. It writes crates/test_open/stdin (each
+It shares no code with the library: it is written from source document 003, document 01 and request C-11, and what each
+image must be answered with is said here by hand. It writes crates/test_open/stdin (each
 image after its length in 4 bytes), crates/test_open/stdout and tests/test_open.txt.
 
     tests/make_images.py [FOLDER]      FOLDER: where these are written, the repository where none is given
@@ -215,21 +215,65 @@ def section_faults():
 
 
 def symbol_faults():
+    many = [b"s%d" % k for k in range(2049)]
+    one = [entry(VOID, 0, 0)]
     for ed in (1, 2):
         i = Image(ed)
         i.symbols = b"a\0n"
         case(f"edition {ed}: the last string has no zero", i, refused(8))
-        for names in ([b"a", b"n", b"a"], [b"a", b"n", b"x", b"x"], [b"", b"a", b""]):
-            case(f"edition {ed}: strings {names} repeat", changed(ed, strings=names), refused(8))
-        many = [b"s%d" % k for k in range(2049)]
-        i = Image(ed, strings=many[:2048], entries=[entry(VOID, 0, 0)])
+        for names, place in (
+            ([b"a", b"n", b"a"], 2),
+            ([b"a", b"n", b"x", b"x"], 3),
+            ([b"", b"a", b""], 2),
+            ([b"a", b"a"], 1),
+            ([b"a", b"n", b"a", b"n", b"a"], 2),
+            ([b"a", b"b", b"b", b"a"], 2),
+        ):
+            case(f"edition {ed}: strings {names}", changed(ed, strings=names), refused(27, place))
+        i = changed(ed, strings=[b"a", b"n", b"aa", b"an", b"A"])
+        case(f"edition {ed}: strings that begin alike or differ in case", i, opened(i))
+        i = Image(ed, strings=many[:2048], entries=one)
         case(f"edition {ed}: 2,048 strings", i, opened(i))
-        i = Image(ed, strings=many, entries=[entry(VOID, 0, 0)])
-        case(f"edition {ed}: 2,049 strings", i, refused(8))
-        i = Image(ed, strings=many[:2047] + [b"s0"], entries=[entry(VOID, 0, 0)])
-        case(f"edition {ed}: string 2,047 equals string 0", i, refused(8))
+        case(f"edition {ed}: 2,049 strings", Image(ed, strings=many, entries=one), refused(25, 2048))
+        case(f"edition {ed}: 3,000 strings", Image(ed, strings=[b"s%d" % k for k in range(3000)], entries=one), refused(25, 2048))
+        i = Image(ed, strings=many[:2047] + [b"s0"], entries=one)
+        case(f"edition {ed}: string 2,047 equals string 0", i, refused(27, 2047))
+        i = Image(ed, strings=many[:2048] + [b"s0"], entries=one)
+        case(f"edition {ed}: string 2,048 equals string 0", i, refused(25, 2048))
     for n in (1, 3, 2**32 + 2):
-        case(f"edition 2: a string count of {n} for 2", changed(2, count={"symbol": n}), refused(8))
+        case(f"edition 2: a string count of {n} for 2", changed(2, count={"symbol": n}), refused(26))
+    case("edition 2: a string count of 1 for none", changed(2, strings=[], entries=[], data=b"", count={"symbol": 1}), refused(26))
+
+
+def symbol_faults_together():
+    """Two faults or more, of which the first in the order 7, 8, 25, 26, 27, 9 is reported."""
+    many = [b"s0", b"s0"] + [b"s%d" % k for k in range(2, 2049)]
+    twice = [b"a", b"n", b"a"]
+    one = [entry(VOID, 0, 0)]
+    for ed in (1, 2):
+        i = Image(ed, strings=many, entries=one)
+        i.count = {"symbol": 2}
+        case(f"edition {ed}: 2,049 strings, the first two equal, the count wrong", i, refused(25, 2048))
+        i = changed(ed, strings=twice, count={"symbol": 2})
+        case(f"edition {ed}: the count wrong and strings {twice}", i, refused(26) if ed == 2 else refused(27, 2))
+        i = changed(ed, strings=twice)
+        i.tree = i.tree[:-1]
+        case(f"edition {ed}: strings {twice} and a tree table cut short", i, refused(27, 2))
+        i = changed(ed, strings=twice, count={"tree": 3})
+        case(f"edition {ed}: strings {twice} and a node count of 3 for 2", i, refused(27, 2))
+        i = Image(ed, strings=twice, entries=[entry(VOID, 9, 9)])
+        case(f"edition {ed}: strings {twice} and a node astray", i, refused(27, 2))
+        i = Image(ed, strings=many, entries=one)
+        i.symbols = i.symbols[:-1]
+        case(f"edition {ed}: 2,049 strings, the last without its zero", i, refused(8))
+        i = Image(ed, strings=[b"s%d" % k for k in range(3000)], entries=one)
+        i.symbols = i.symbols[:-1]
+        case(f"edition {ed}: 3,000 strings, the last without its zero", i, refused(8))
+        i = changed(ed, strings=twice, count={"symbol": 9})
+        i.symbols = i.symbols[:-1]
+        case(f"edition {ed}: strings {twice}, the count wrong, the last without its zero", i, refused(8))
+        i = changed(ed, strings=twice, sums={"data": bytes(16)})
+        case(f"edition {ed}: strings {twice} and the data's sum wrong", i, refused(7, 3))
 
 
 def tree_faults():
@@ -336,6 +380,7 @@ def main():
     header_faults()
     section_faults()
     symbol_faults()
+    symbol_faults_together()
     tree_faults()
     node_faults()
     crate = os.path.join(top, "crates", "test_open")

@@ -10,7 +10,7 @@ crates/test_list/stdin (each image after its length in 4 bytes) and stdout, stdi
 import os
 import struct
 
-from make_images import CHAR, COMPLEX, DOUBLE, HEADER, INT, VOID, Image, destination, entry, md5
+from make_images import CHAR, COMPLEX, DOUBLE, HEADER, INT, VOID, Image, changed, destination, entry, md5
 
 WORD = {VOID: "void", CHAR: "char", INT: "int", DOUBLE: "double", COMPLEX: "complex"}
 SIZE = {CHAR: 1, INT: 4, DOUBLE: 8, COMPLEX: 16}
@@ -95,6 +95,10 @@ def cases():
     yield "no byte", b"", [b"refused 2 0\n"]
     yield "a wrong header sum", worked[:40] + b"\1" + worked[41:], [b"refused 5 0\n"]
     yield "a wrong sum of the tree table", worked[:-1] + b"\1", [b"refused 7 2\n"]
+    yield "strings a, n, a", changed(2, strings=[b"a", b"n", b"a"]).bytes(), [b"refused 27 2\n"]
+    yield "a string count of 3 for 2", changed(2, count={"symbol": 3}).bytes(), [b"refused 26 0\n"]
+    yield "2,049 strings", changed(2, strings=[b"s%d" % k for k in range(2049)]).bytes(), [b"refused 25 2048\n"]
+    yield "the last string without its zero", changed(2, symbols=b"a\0n").bytes(), [b"refused 8 0\n"]
     yield "its own parent", make(2, [(1, b"a", VOID, 0)]), [b"refused 11 1\n"]
     yield "65,536 bytes", padded(worked, LIMIT), lines(WORKED)
     yield "65,537 bytes", padded(worked, LIMIT + 1), [b"too long\n"]

@@ -16,8 +16,9 @@ use Rattle.aff_format.specs.declared.refusal.RefusalCode.{RefusalCode}
 use Rattle.aff_format.proofs.AnswerLaws.{Others, others-reported, others-both, passed}
 use Rattle.aff_format.proofs.LowestLaws.{others-lowest}
 use Rattle.aff_tables.specs.Nodes.{Contents, linkWrong, climbEndless, nameTaken, dataOutside, nodeChecks}
-use Rattle.aff_open.specs.Opening.{lengthsWrong, headerChecks, sectionChecks, nodesChecked, tableChecks, bodyChecks, contentsIn, upToTables, openChecks, openAnswer, readerFor, stringsAfter, entriesAfter}
-use Rattle.aff_open.specs.Sections.{editionIn, sectionOffset, sectionSize}
+use Rattle.aff_tables.specs.Tables.{repeats}
+use Rattle.aff_open.specs.Opening.{lengthsWrong, headerChecks, sectionChecks, nodesChecked, treeChecked, tableChecks, bodyChecks, contentsIn, upToTables, openChecks, openAnswer, readerFor, stringsAfter, entriesAfter}
+use Rattle.aff_open.specs.Sections.{editionIn, sectionOffset, sectionSize, stringsIn}
 use Rattle.aff_open.specs.declared.reader.Reader.{Reader}
 use Rattle.aff_open.specs.Belongs.{readerBelongs}
 use Rattle.aff_open.proofs.BelongsLaws.{belongs-record}
@@ -37,7 +38,7 @@ use Rattle.aff_read.proofs.OutputLaws.{text-fits, wrote}
 
 -- ---- Opening.
 
--- The checks after the first report 2 to 13.
+-- The checks after the first report other numbers than 1.
 node-others : (e : Edition) (from size : ℕ) (c : Contents) → Others 1 (nodeChecks e from size c)
 node-others e from size c =
     let link = lowestFrom (linkWrong e c) (c .nodes) 1 in
@@ -51,7 +52,8 @@ node-others e from size c =
 body-others : (e : Edition) (image : List ℕ) → Others 1 (bodyChecks e image ++ nodesChecked e image)
 body-others e image =
     others-both 1 (sectionChecks e image) (tableChecks e image ++ nodesChecked e image) (refl, (refl, (refl, (refl, (refl, (refl, tt))))))
-    (others-both 1 (tableChecks e image) (nodesChecked e image) (refl, (refl, (refl, (refl, (refl, (refl, tt))))))
+    (others-both 1 (tableChecks e image) (nodesChecked e image)
+    (refl, (refl, (refl, others-lowest 1 27 refl (lowestFrom (repeats (stringsIn e image)) (length (stringsIn e image)) 0) (treeChecked e image) (refl, (refl, tt)))))
     (node-others e (sectionOffset e Data image) (sectionSize e Data image) (contentsIn e image)))
 
 later-others : (image form : List ℕ) → Others 1 (headerChecks image form ++ (bodyChecks (editionIn image) image ++ nodesChecked (editionIn image) image))

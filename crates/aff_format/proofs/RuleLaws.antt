@@ -2,7 +2,7 @@
 -- Assumes nothing.
 use mathlib.Core.Path.{_≡_, refl, sym, ap, _∙_, subst}
 use mathlib.Core.Bool.{Bool, true, false, cond, true≢false, not}
-use mathlib.Core.List.{List, [], _∷_}
+use mathlib.Core.List.{List, [], _∷_, _++_}
 use mathlib.Core.Logic.{inl, inr, ⊎-elim, _↔_}
 use Prim.Native.Nat.{ℕ, zero, suc, _+_, _≤_, _<_}
 use native.Mathlib.Nat.{eq-or-lt-of-le}
@@ -13,14 +13,14 @@ use Rattle.aff_format.specs.declared.refusal.RefusalCode.{RefusalCode}
 use Rattle.aff_format.specs.declared.lowest.Lowest.{Lowest}
 use Rattle.aff_format.specs.declared.lowest.Lowest.the-variants.{At}
 use Rattle.aff_format.specs.Rule.{Rule, rule, AllHold, FirstFails, Settled, eachFrom, By, Is}
-use lib.Dec.{ltb, leb}
-use borrow.Author.Tests.{ltb-false, le-ltb, leb-false, lt-leb, not-false}
+use lib.Dec.{eqb, ltb, leb}
+use borrow.Author.Tests.{eq-eqb, ltb-false, le-ltb, leb-false, lt-leb, not-false}
 
--- Each of the `left` nodes from k on.
+-- Each of the `left` numbers from k on, of nodes or strings.
 abbrev pub Each : (ℕ → Type 0) → ℕ → ℕ → Type 0
 Each holds left k = (j : ℕ) → k ≤ j → j < k + left → holds j
 
--- Node k and those after it.
+-- Number k and those after it.
 each-more : (holds : ℕ → Type 0) (left k : ℕ) → holds k → Each holds left (k + 1) → Each holds (suc left) k
 each-more holds left k h hs j lo hi =
     ⊎-elim (λ (q : k ≡ j). rw (sym q) h) (λ (q : k < j). hs j (omega arith) (omega arith)) (eq-or-lt-of-le lo)
@@ -88,7 +88,7 @@ module _ {A : Type 0} (rs : List Rule) (v : A) where
   first-refuses (accepted w) {t} s f = absurd (hold-or-fail rs t (s .0) f)
   first-refuses (refused u) s f = ap refused (one-first rs s f)
 
--- The rules of nodes, and those after them.
+-- The rules of numbers in a row, and those after them.
 pub each-hold : (n : ℕ) (holds : ℕ → Type 0) (rs : List Rule) (left k : ℕ) → AllHold (eachFrom n holds left k rs) → Each holds left k × AllHold rs
 unfolding eachFrom
 each-hold n holds rs zero k h = (λ j lo hi. absurd (omega arith), h)
@@ -98,6 +98,78 @@ pub hold-each : (n : ℕ) (holds : ℕ → Type 0) (rs : List Rule) (left k : �
 unfolding eachFrom
 hold-each n holds rs zero k hs r = r
 hold-each n holds rs (suc left) k hs r = let (h, later) = each-less holds left k hs in (h, hold-each n holds rs left (k + 1) later r)
+
+-- ---- By number.
+
+-- The rules report other numbers than n.
+abbrev pub OtherNumbers : ℕ → List Rule → Type 0
+OtherNumbers n [] = Unit {0}
+OtherNumbers n (rule holds t ∷ rs) = (eqb (t .number) n ≡ false) × OtherNumbers n rs
+
+pub other-each : (n number : ℕ) → eqb number n ≡ false → (holds : ℕ → Type 0) (rs : List Rule) (left k : ℕ) → OtherNumbers n rs
+    → OtherNumbers n (eachFrom number holds left k rs)
+unfolding eachFrom
+other-each n number h holds rs zero k o = o
+other-each n number h holds rs (suc left) k o = (h, other-each n number h holds rs left (k + 1) o)
+
+-- A rule is of the lowest number, of the `left` from `first` on, for which it fails.
+pub record LowestFails (holds : ℕ → Type 0) (left first k : ℕ) : Type 0 where
+  pub least : first ≤ k
+  pub most : k < first + left
+  pub fails : holds k → ⊥
+  pub before : (j : ℕ) → first ≤ j → j < k → holds j
+
+-- Where one group of rules alone reports the number n, it is reported exactly where all rules before the group hold, with the lowest of the group that fails.
+module _ (n k : ℕ) where
+  not-reported : (rs : List Rule) → OtherNumbers n rs → FirstFails rs (refusalAt n k) → ⊥
+  not-reported [] o f = f
+  not-reported (rule p t ∷ rs) o (inl f) = true≢false (sym (ap (λ (x : RefusalCode). eqb (x .number) n) (f .1) ∙ eq-eqb n n refl) ∙ o .0)
+  not-reported (rule p t ∷ rs) o (inr f) = not-reported rs (o .1) (f .1)
+
+  before-hold : (before rs : List Rule) → OtherNumbers n before → FirstFails (before ++ rs) (refusalAt n k) → AllHold before × FirstFails rs (refusalAt n k)
+  before-hold [] rs o f = (tt, f)
+  before-hold (rule p t ∷ before) rs o (inl f) = absurd (not-reported (rule p t ∷ []) (o .0, tt) (inl f))
+  before-hold (rule p t ∷ before) rs o (inr f) = let (h, g) = before-hold before rs (o .1) (f .1) in ((f .0, h), g)
+
+  hold-before : (before rs : List Rule) → AllHold before → FirstFails rs (refusalAt n k) → FirstFails (before ++ rs) (refusalAt n k)
+  hold-before [] rs h f = f
+  hold-before (rule p t ∷ before) rs h f = inr (h .0, hold-before before rs (h .1) f)
+
+  module _ (holds : ℕ → Type 0) (rs : List Rule) where
+    each-fails : (left first : ℕ) → OtherNumbers n rs → FirstFails (eachFrom n holds left first rs) (refusalAt n k) → LowestFails holds left first k
+    unfolding eachFrom
+    each-fails zero first o f = absurd (not-reported rs o f)
+    each-fails (suc left) first o (inl f) =
+        let q : first ≡ k = ap (λ (x : RefusalCode). x .place) (f .1) in
+        record { least = omega arith; most = omega arith; fails = λ h. f .0 (rw q h); before = λ j lo hi. absurd (omega arith) }
+    each-fails (suc left) first o (inr f) =
+        let r = each-fails left (first + 1) o (f .1) in
+        record {
+          least = omega (arith, r .least);
+          most = omega (arith, r .most);
+          fails = r .fails;
+          before = λ j lo hi. ⊎-elim (λ (q : first ≡ j). rw (sym q) (f .0)) (λ (q : first < j). r .before j (omega arith) hi) (eq-or-lt-of-le lo);
+        }
+
+    fails-each : (left first : ℕ) → LowestFails holds left first k → FirstFails (eachFrom n holds left first rs) (refusalAt n k)
+    unfolding eachFrom
+    fails-each zero first r = absurd (omega (arith, r .least, r .most))
+    fails-each (suc left) first r =
+        ⊎-elim (λ (q : first ≡ k). inl (λ h. r .fails (rw (sym q) h), ap (refusalAt n) q))
+        (λ (q : first < k).
+        inr (
+          r .before first (omega arith) q,
+          fails-each left (first + 1)
+              (record { least = omega arith; most = omega (arith, r .most); fails = r .fails; before = λ j lo hi. r .before j (omega arith) hi }),
+        ))
+        (eq-or-lt-of-le (r .least))
+
+    pub each-reported : (before : List Rule) (left first : ℕ) → OtherNumbers n before → OtherNumbers n rs
+        → FirstFails (before ++ eachFrom n holds left first rs) (refusalAt n k) ↔ (AllHold before × LowestFails holds left first k)
+    each-reported before left first o p = (
+      λ f. let (h, g) = before-hold before (eachFrom n holds left first rs) o f in (h, each-fails left first p g),
+      λ (h, r). hold-before before (eachFrom n holds left first rs) h (fails-each left first r),
+    )
 
 -- ---- What rules settle is answered by them.
 

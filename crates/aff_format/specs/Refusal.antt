@@ -1,10 +1,11 @@
 -- The rows of document 01's table 'Numbers handed back'.
 use Prim.Native.Nat.{ℕ}
 use Rattle.aff_format.specs.Answer.{refusal, refusalAt}
+use Rattle.aff_format.specs.Limits.{stringLimit}
 use Rattle.aff_format.specs.Section.{sectionNumber}
 use Rattle.aff_format.specs.declared.refusal.RefusalCode.{RefusalCode}
 use Rattle.aff_format.specs.declared.refusal.Refusal.{Refusal}
-use Rattle.aff_format.specs.declared.refusal.Refusal.the-variants.{WrongLength, ShortImage, UnknownText, WrongForm, WrongHeaderSum, SectionOutside, WrongSectionSum, BadSymbolTable, BadTreeTable, BadLink, EndlessClimb, RepeatedName, DataOutside, Malformed, Absent, IndexTooLarge, ChildExists, DataTaken, WrongData, TooMany, BufferTooSmall, NotOpen, AllowanceSpent, WrongRecord}
+use Rattle.aff_format.specs.declared.refusal.Refusal.the-variants.{WrongLength, ShortImage, UnknownText, WrongForm, WrongHeaderSum, SectionOutside, WrongSectionSum, UnendedSymbolTable, BadTreeTable, BadLink, EndlessClimb, RepeatedName, DataOutside, Malformed, Absent, IndexTooLarge, ChildExists, DataTaken, WrongData, TooMany, BufferTooSmall, NotOpen, AllowanceSpent, WrongRecord, TooManyStrings, WrongStringCount, RepeatedString}
 
 -- Columns 'No.' and 'Place told'. Every promise about a refusal goes through this table.
 abbrev pub codeOfRefusal : Refusal → RefusalCode
@@ -15,7 +16,7 @@ codeOfRefusal WrongForm = refusal 4
 codeOfRefusal WrongHeaderSum = refusal 5
 codeOfRefusal (SectionOutside section) = refusalAt 6 (sectionNumber section)
 codeOfRefusal (WrongSectionSum section) = refusalAt 7 (sectionNumber section)
-codeOfRefusal BadSymbolTable = refusal 8
+codeOfRefusal UnendedSymbolTable = refusal 8
 codeOfRefusal (BadTreeTable entry) = refusalAt 9 entry
 codeOfRefusal (BadLink node inName) = record { number = 10; place = node; second = inName }
 codeOfRefusal (EndlessClimb node) = refusalAt 11 node
@@ -32,6 +33,9 @@ codeOfRefusal BufferTooSmall = refusal 21
 codeOfRefusal NotOpen = refusal 22
 codeOfRefusal (AllowanceSpent made) = refusalAt 23 made
 codeOfRefusal WrongRecord = refusal 24
+codeOfRefusal TooManyStrings = refusalAt 25 stringLimit
+codeOfRefusal WrongStringCount = refusal 26
+codeOfRefusal (RepeatedString string) = refusalAt 27 string
 
 abbrev pub numberOf : Refusal → ℕ
 numberOf r = codeOfRefusal r .number

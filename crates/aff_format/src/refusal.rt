@@ -1,4 +1,5 @@
 // The numbers handed back: document 01, 'Numbers handed back'.
+use crate::limits;
 use crate::section::Section;
 ghost use mathlib.Core.Path.{_≡_};
 ghost use Rattle.aff_format.specs.Answer.{refusal, refusalAt};
@@ -20,8 +21,8 @@ pub enum Refusal {
     SectionOutside(Section),
     // The sum of a section is wrong.
     WrongSectionSum(Section),
-    // The symbol table is not ended by zero, has too many strings, another count, or a string twice.
-    BadSymbolTable,
+    // The symbol table is not empty, and its last byte is not zero.
+    UnendedSymbolTable,
     // An entry is cut short, of no type or one too many; 0: the count differs.
     BadTreeTable(usize),
     // A node's parent or string does not exist, or its string is no subkey; the place in the string.
@@ -54,6 +55,12 @@ pub enum Refusal {
     AllowanceSpent(usize),
     // The record does not belong to what is passed.
     WrongRecord,
+    // The symbol table has more than 2,048 strings.
+    TooManyStrings,
+    // The record count of the symbol section is not the number of strings.
+    WrongStringCount,
+    // A string equals an earlier one; the lowest such string, counted from 0.
+    RepeatedString(usize),
 }
 
 // A refusal as it is reported: its number, its place, and the place in the name that 10 reports besides.
@@ -96,7 +103,7 @@ impl Refusal {
             Refusal::WrongHeaderSum => alone(5),
             Refusal::SectionOutside(section) => with_place(6, section.number()),
             Refusal::WrongSectionSum(section) => with_place(7, section.number()),
-            Refusal::BadSymbolTable => alone(8),
+            Refusal::UnendedSymbolTable => alone(8),
             Refusal::BadTreeTable(entry) => with_place(9, entry),
             Refusal::BadLink(node, in_name) => RefusalCode {
                 number: 10,
@@ -117,6 +124,9 @@ impl Refusal {
             Refusal::NotOpen => alone(22),
             Refusal::AllowanceSpent(made) => with_place(23, made),
             Refusal::WrongRecord => alone(24),
+            Refusal::TooManyStrings => with_place(25, limits::STRING_LIMIT),
+            Refusal::WrongStringCount => alone(26),
+            Refusal::RepeatedString(string) => with_place(27, string),
         }
     }
 

@@ -4,13 +4,13 @@ use mathlib.Core.Path.{_≡_, refl, sym, ap, subst, _∙_}
 use mathlib.Core.Bool.{Bool, true, false, not, _&&_, true≢false}
 use mathlib.Core.List.{List, [], _++_}
 use mathlib.Core.Logic.{_↔_}
-use Prim.Native.Nat.{ℕ, _+_, _-_, _≤_}
+use Prim.Native.Nat.{ℕ, _+_, _-_, _≤_, _<_}
 use native.Mathlib.Omega.{arith}
 use lib.Dec.{eqb, ltb}
 use lib.ListN.{length, take}
 use borrow.Author.Tests.{eqb-true, eq-eqb, ltb-false, le-ltb, not-false}
 use Rattle.md5.specs.Md5.{md5}
-use Rattle.aff_format.specs.Answer.{accepted, refused}
+use Rattle.aff_format.specs.Answer.{accepted, refused, refusalAt}
 use Rattle.aff_format.specs.Bytes.{part, sameBytes}
 use Rattle.aff_format.specs.Edition.{headerSize, headerSumAt, hasCounts, signatureText}
 use Rattle.aff_format.specs.Limits.{imageLimit, stringLimit, nodeLimit}
@@ -25,18 +25,18 @@ use Rattle.aff_format.proofs.ClimbLaws.{reaches-within}
 use Rattle.aff_format.proofs.LowestLaws.{none-holds, holds-none, none-at}
 use Rattle.aff_format.proofs.SameLaws.{same-eq, same-refl, ne-same}
 use Rattle.aff_format.proofs.StringsLaws.{endsInZero-textOf, textOf-stringsOf}
-use Rattle.aff_format.specs.Rule.{AllHold, FirstFails, Settled}
-use Rattle.aff_open.specs.Rules.{Inside, Summed, Counted, Distinct, Linked, Climbs, NameFree, DataInside}
-use Rattle.aff_open.specs.Faults.{nodeRules, tableRules, sectionRules, editionRules, rules}
+use Rattle.aff_format.specs.Rule.{Rule, AllHold, FirstFails, Settled, eachFrom}
+use Rattle.aff_open.specs.Rules.{Inside, Summed, Counted, Unrepeated, FirstRepeat, Linked, Climbs, NameFree, DataInside}
+use Rattle.aff_open.specs.Faults.{nodeRules, treeRules, tableRules, symbolRules, sectionRules, editionRules, rulesBefore27, rules}
 use Rattle.aff_tables.specs.Tables.{nodeEntry, isEmpty, countDiffers, repeats}
 use Rattle.aff_tables.specs.Nodes.{Contents, contentsOf, linkWrong, climbEndless, nameTaken, sameSite, dataOutside}
 use Rattle.aff_open.specs.Opening.{lengthsWrong, nodesChecked, tableChecks, formChecks, bodyChecks, upToTables, openChecks, openAnswer, readerFor, entryIn, contentsIn}
 use Rattle.aff_open.specs.Sections.{textEdition, isKnown, editionIn, sectionOffset, sectionSize, sectionRecords, sectionBytes, headerSumWrong, endsPast, sumWrong, stringsIn, nodesIn, bytesAfterNodes}
 use Rattle.aff_open.specs.declared.reader.Reader.{Reader}
-use Rattle.aff_tables.proofs.LinkLaws.{link-asks, distinct-by-repeats, repeats-by-distinct}
+use Rattle.aff_tables.proofs.LinkLaws.{link-asks, repeat-asks, repeat-found}
 use Rattle.aff_format.proofs.EntryLaws.{data-asks}
 use Rattle.aff_open.proofs.TablesLaws.{lengths-right}
-use Rattle.aff_format.proofs.RuleLaws.{AskFor, none, one, each, Each, settled, all-accept, first-refuses}
+use Rattle.aff_format.proofs.RuleLaws.{AskFor, none, one, each, Each, settled, all-accept, first-refuses, OtherNumbers, other-each, each-reported}
 use Rattle.aff_open.proofs.SectionLaws.{known-is, text-known, known-text}
 use Rattle.aff_tables.proofs.TreeTableLaws.{empty-is}
 
@@ -85,16 +85,10 @@ module _ (e : Edition) (s : Section) (image : List ℕ) where
       go true = (λ h q. eqb-true _ _ (not-false _ h), λ h. rw (eq-eqb _ _ (h refl)))
       go false = (λ h q. absurd (true≢false (sym q)), λ h. refl)
 
--- ---- The tables: 8 and 9.
+-- ---- The tables: 8, 25 to 27, 9.
 
 ends-asks : (l : List ℕ) → (not (endsInZero l) ≡ false) ↔ (l ≡ textOf (stringsOf l))
 ends-asks l = (λ h. sym (textOf-stringsOf l (not-false _ h)), λ h. ap not (ap endsInZero h ∙ endsInZero-textOf (stringsOf l)))
-
-distinct-asks : (ss : List (List ℕ)) → (isAt (lowestFrom (repeats ss) (length ss) 0) ≡ false) ↔ Distinct ss
-distinct-asks ss = (
-  λ h i k l m q. let z = distinct-by-repeats ss (none-at _ h) i k (omega arith) m q in omega arith,
-  λ d. ap isAt (repeats-by-distinct ss d),
-)
 
 empty-asks : (l : List ℕ) → (not (isEmpty l) ≡ false) ↔ (l ≡ [])
 empty-asks l = (λ h. empty-is l (not-false _ h), λ h. rw h)
@@ -151,17 +145,22 @@ module _ (e : Edition) (image : List ℕ) where
       (λ k lo hi. data-asks (sectionOffset e Data image) (sectionSize e Data image) (entryIn e image k))
       (λ inside. none))))
 
-  tables-ask : AskFor (tableChecks e image ++ nodesChecked e image) (tableRules e image (stringsIn e image) (nodesIn e image))
+  -- The rules from the symbol table on.
+  abbrev from-tables : List Rule
+  from-tables = symbolRules e image (stringsIn e image) ++ tableRules e image (stringsIn e image) (nodesIn e image)
+
+  tables-ask : AskFor (tableChecks e image ++ nodesChecked e image) from-tables
   tables-ask =
       one (ends-asks (sectionBytes e Symbol image))
       (λ h. one (below-asks stringLimit (length (stringsIn e image)))
       (λ h. one (count-asks e Symbol image (length (stringsIn e image)))
-      (λ h. one (distinct-asks (stringsIn e image))
+      (λ h. each 27 (repeats (stringsIn e image)) (Unrepeated (stringsIn e image)) (length (stringsIn e image)) 0
+      (λ k lo hi. repeat-asks (stringsIn e image) k (omega arith))
       (λ h. one (empty-asks (bytesAfterNodes e image))
       (λ h. one (count-asks e Tree image (length (nodesIn e image)))
       (λ h. nodes-ask))))))
 
-  sections-ask : AskFor (bodyChecks e image ++ nodesChecked e image) (sectionRules e image)
+  sections-ask : AskFor (bodyChecks e image ++ nodesChecked e image) (sectionRules e image ++ from-tables)
   sections-ask =
       one (inside-asks e Symbol image)
       (λ h. one (inside-asks e Tree image)
@@ -171,7 +170,8 @@ module _ (e : Edition) (image : List ℕ) where
       (λ h. one (sum-asks e Data image)
       (λ h. tables-ask))))))
 
-  edition-asks : (form : List ℕ) → AskFor (formChecks e image form ++ (bodyChecks e image ++ nodesChecked e image)) (editionRules e image form)
+  edition-asks : (form : List ℕ)
+      → AskFor (formChecks e image form ++ (bodyChecks e image ++ nodesChecked e image)) (editionRules e image form ++ (sectionRules e image ++ from-tables))
   unfolding headerSumWrong
   edition-asks form =
       one (below-asks (length image) (headerSize e))
@@ -205,3 +205,35 @@ module _ (image form : List ℕ) (strings entries : ℕ) where
 
   pub hold-accepted : AllHold (rules image form strings entries) → openAnswer image form strings entries ≡ accepted (readerFor (editionIn image) image)
   hold-accepted h = all-accept (rules image form strings entries) _ (openAnswer image form strings entries) opening-settled h
+
+  -- Of the tree table and the nodes other numbers are reported than 27.
+  tree-others : (e : Edition) → OtherNumbers 27 (treeRules e image (nodesIn e image) ++ nodeRules e image (stringsIn e image) (nodesIn e image))
+  tree-others e =
+      let ss = stringsIn e image in
+      let es = nodesIn e image in
+      let n = length es in
+      let inside = other-each 27 13 refl (DataInside e image es) [] n 1 tt in
+      let free = other-each 27 12 refl (NameFree ss es) (eachFrom 13 (DataInside e image es) n 1 []) n 1 inside in
+      let climbs = other-each 27 11 refl (Climbs es) (eachFrom 12 (NameFree ss es) n 1 (eachFrom 13 (DataInside e image es) n 1 [])) n 1 free in
+      (refl, (refl, other-each 27 10 refl (Linked e ss es) (eachFrom 11 (Climbs es) n 1 (eachFrom 12 (NameFree ss es) n 1 (eachFrom 13 (DataInside e image es) n 1 []))) n 1 climbs))
+
+  -- So an opening is refused by 27 at string k exactly when that string equals an earlier one and no lower string does, and none of the rules before
+  -- fails, those of 8, 25 and 26 among them.
+  pub refused-27 : (k : ℕ) → (openAnswer image form strings entries ≡ refused (refusalAt 27 k))
+      ↔ (AllHold (rulesBefore27 image form strings entries) × FirstRepeat (stringsIn (editionIn image) image) k)
+  unfolding rules
+  refused-27 k =
+      let e = editionIn image in
+      let ss = stringsIn e image in
+      let reported =
+      each-reported 27 k (Unrepeated ss) (treeRules e image (nodesIn e image) ++ nodeRules e image ss (nodesIn e image)) (rulesBefore27 image form strings entries)
+      (length ss) 0 (refl, (refl, (refl, (refl, (refl, (refl, (refl, (refl, (refl, (refl, (refl, (refl, (refl, (refl, (refl, tt))))))))))))))) (tree-others e) in (
+        λ h.
+            let (b, f) = reported .0 (refused-first h) in
+            let l : k < length ss = omega (arith, f .most) in
+            (b, record { exists = l; earlier = repeat-found ss k l (f .fails); lowest = λ j m. f .before j (omega arith) m }),
+        λ (b, r).
+            first-refused
+            (reported .1
+            (b, record { least = omega arith; most = omega (arith, r .exists); fails = λ u. let (i, l, q) = r .earlier in u i l q; before = λ j lo hi. r .lowest j hi })),
+      )

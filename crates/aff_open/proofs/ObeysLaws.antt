@@ -1,7 +1,7 @@
 -- An opening is accepted exactly where the file obeys the format: the rules in document 01's order are those of `Obeys`. Where a file obeys, the
 -- strings and entries that `Obeys` speaks of are those of its tables. Assumes nothing.
 use mathlib.Core.Path.{_≡_, refl, sym, ap, _∙_}
-use mathlib.Core.List.{List, [], _∷_}
+use mathlib.Core.List.{List, [], _∷_, _++_}
 use Prim.Native.Nat.{ℕ, zero, suc, _≤_, _<_}
 use native.Mathlib.Omega.{arith}
 use lib.ListN.{length, getD}
@@ -19,8 +19,8 @@ use Rattle.aff_format.proofs.BytesLaws.{length-part, octets-part}
 use Rattle.aff_format.proofs.EditionLaws.{header-least}
 use Rattle.aff_format.proofs.StringsLaws.{stringsOf-textOf, strings-without-zero, each-at}
 use Rattle.aff_format.specs.Rule.{Rule, AllHold, eachFrom}
-use Rattle.aff_open.specs.Rules.{Inside, Summed, Linked, Climbs, NameFree, DataInside}
-use Rattle.aff_open.specs.Faults.{nodeRules, tableRules, sectionRules, rules}
+use Rattle.aff_open.specs.Rules.{Inside, Summed, Unrepeated, Distinct, Linked, Climbs, NameFree, DataInside}
+use Rattle.aff_open.specs.Faults.{nodeRules, treeRules, tableRules, symbolRules, sectionRules, rules}
 use Rattle.aff_open.specs.Obeys.{Obeys}
 use Rattle.aff_open.specs.Opening.{openAnswer, readerFor}
 use Rattle.aff_open.specs.Sections.{orTwo, editionIn, sectionOffset, sectionSize, sectionBytes, stringsIn, nodesIn, bytesAfterNodes}
@@ -45,7 +45,7 @@ each-without : (ss : List (List ℕ)) → ((i k : ℕ) → i < length ss → k <
 each-without [] h = tt
 each-without (s ∷ ss) h = (at-without s (λ k. h 0 k (omega arith)), each-without ss (λ i k l. h (suc i) k (omega arith)))
 
--- ---- The rules of all nodes.
+-- ---- The rules of all strings and of all nodes.
 
 module _ (e : Edition) (image : List ℕ) (strings : List (List ℕ)) (entries : List Entry) where
   abbrev n : ℕ
@@ -79,6 +79,17 @@ module _ (e : Edition) (image : List ℕ) (strings : List (List ℕ)) (entries :
       (hold-each 12 (NameFree strings entries) from-13 n 1 free
       (hold-each 13 (DataInside e image entries) [] n 1 inside tt)))
 
+  -- Each string differs from those before it; then the tree table and the nodes.
+  strings-hold : AllHold (tableRules e image strings entries) → Distinct strings × AllHold (treeRules e image entries ++ nodeRules e image strings entries)
+  strings-hold h =
+      let (unrepeated, more) = each-hold _ (Unrepeated strings) (treeRules e image entries ++ nodeRules e image strings entries) (length strings) 0 h in
+      (λ k l. unrepeated k (omega arith) (omega arith), more)
+
+  hold-strings : Distinct strings → AllHold (treeRules e image entries ++ nodeRules e image strings entries) → AllHold (tableRules e image strings entries)
+  hold-strings distinct more =
+      hold-each _ (Unrepeated strings) (treeRules e image entries ++ nodeRules e image strings entries) (length strings) 0
+      (λ k lo hi. distinct k (omega arith)) more
+
 -- ---- Rules that hold make a file that obeys.
 
 octets-section : (e : Edition) (s : Section) (image : List ℕ) → Octets image → Octets (sectionBytes e s image)
@@ -91,7 +102,8 @@ hold-obeys image form o h =
     let e = editionIn image in
     let ((_, _, _, size), (_, ((d, text), (whole, (form-is, (sum, sections)))))) = h in
     let (in-symbol, (in-tree, (in-data, (sum-symbol, (sum-tree, (sum-data, tables)))))) = sections in
-    let (symbols, (few, (count, (distinct, (rest, (number, nodes)))))) = tables in
+    let (symbols, (few, (count, more))) = tables in
+    let (distinct, (rest, (number, nodes))) = strings-hold e image (stringsIn e image) (nodesIn e image) more in
     let (linked, climbs, free, inside) = nodes-hold e image (stringsIn e image) (nodesIn e image) nodes in
     record {
       edition = e;
@@ -140,7 +152,12 @@ module _ {image form : List ℕ} (o : Obeys image form) where
   pub entries-found : nodesIn (o .edition) image ≡ o .entries
   entries-found = tree-found .0
 
-  tables-hold : AllHold (tableRules (o .edition) image (stringsIn (o .edition) image) (nodesIn (o .edition) image))
+  -- The rules from the symbol table on.
+  abbrev from-tables : List Rule
+  from-tables =
+      symbolRules (o .edition) image (stringsIn (o .edition) image) ++ tableRules (o .edition) image (stringsIn (o .edition) image) (nodesIn (o .edition) image)
+
+  tables-hold : AllHold from-tables
   tables-hold =
       let nodes = hold-nodes (o .edition) image (o .strings) (o .entries) (
         λ k lo hi. o .linked k lo (omega arith),
@@ -148,9 +165,10 @@ module _ {image form : List ℕ} (o : Obeys image form) where
         λ k lo hi. o .name-free k lo (omega arith),
         λ k lo hi. o .data-inside k lo (omega arith),
       ) in
-      rw (strings-found, entries-found) (o .symbol-table, (o .few-strings, (o .string-count, (o .distinct, (tree-found .1, (o .node-count, nodes))))))
+      let more = hold-strings (o .edition) image (o .strings) (o .entries) (o .distinct) (tree-found .1, (o .node-count, nodes)) in
+      rw (strings-found, entries-found) (o .symbol-table, (o .few-strings, (o .string-count, more)))
 
-  sections-hold : AllHold (sectionRules (o .edition) image)
+  sections-hold : AllHold (sectionRules (o .edition) image ++ from-tables)
   sections-hold = (o .inside Symbol, (o .inside Tree, (o .inside Data, (o .sums Symbol, (o .sums Tree, (o .sums Data, tables-hold))))))
 
   pub obeys-hold : AllHold (rules image form stringLimit nodeLimit)
@@ -176,5 +194,7 @@ unfolding rules
 accepted-nodes image form strings entries h =
     let (_, (_, (_, (_, (_, (_, sections)))))) = accepted-hold image form strings entries h in
     let (_, (_, (_, (_, (_, (_, tables)))))) = sections in
-    let (_, (_, (_, (_, (_, (_, nodes)))))) = tables in
-    nodes-hold (editionIn image) image (stringsIn (editionIn image) image) (nodesIn (editionIn image) image) nodes
+    let (_, (_, (_, more))) = tables in
+    let e = editionIn image in
+    let (_, (_, (_, nodes))) = strings-hold e image (stringsIn e image) (nodesIn e image) more in
+    nodes-hold e image (stringsIn e image) (nodesIn e image) nodes

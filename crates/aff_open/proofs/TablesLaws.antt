@@ -1,5 +1,5 @@
 -- How the passes of an opening up to its tables join: a refusal of one is the answer, and what one passes the next decides; and what holds of an image
--- that passes 1 to 9. Assumes nothing.
+-- that passes these. Assumes nothing.
 use mathlib.Core.Path.{_≡_, sym, ap, subst, _∙_}
 use mathlib.Core.Bool.{true, false, not}
 use mathlib.Core.List.{List, _++_}
@@ -8,27 +8,27 @@ use native.Mathlib.Omega.{arith}
 use lib.Dec.{eqb}
 use lib.ListN.{length, replicate, length-replicate}
 use borrow.Author.Tests.{eqb-true, ltb-false, not-false}
-use Rattle.aff_format.specs.Answer.{Answer, accepted, refused, firstWrong, Clear, refusal}
+use Rattle.aff_format.specs.Answer.{Answer, accepted, refused, firstWrong, Clear}
 use Rattle.aff_format.specs.Bytes.{part, laidOver}
 use Rattle.aff_format.specs.Edition.{headerSize}
-use Rattle.aff_format.specs.Lowest.{lowestFrom}
+use Rattle.aff_format.specs.Refusal.{codeOfRefusal}
 use Rattle.aff_format.specs.Strings.{stringsOf, endsInZero}
 use Rattle.aff_format.specs.declared.section.Section.{Section}
 use Rattle.aff_format.specs.declared.section.Section.the-variants.{Symbol, Tree}
 use Rattle.aff_format.specs.declared.edition.Edition.{Edition}
-use Rattle.aff_format.specs.declared.refusal.Refusal.the-variants.{WrongLength, BadSymbolTable}
+use Rattle.aff_format.specs.declared.refusal.Refusal.{Refusal}
+use Rattle.aff_format.specs.declared.refusal.Refusal.the-variants.{WrongLength}
 use Rattle.aff_format.proofs.AnswerLaws.{not-both, passed, passed-value, refused-before, passed-before, clear-both, clear-accepts}
-use Rattle.aff_format.proofs.LowestLaws.{none-at}
 use Rattle.aff_format.proofs.TestLaws.{or-false}
-use Rattle.aff_tables.specs.Tables.{entriesIn, repeats}
+use Rattle.aff_tables.specs.Tables.{entriesIn}
 use Rattle.aff_tables.specs.declared.symbols.Symbols.{Symbols}
 use Rattle.aff_tables.specs.declared.tree.TreeTable.{TreeTable}
 use Rattle.aff_tables.specs.passes.Results.{answerOfSymbols, answerOfTree}
 use Rattle.aff_tables.proofs.LinkLaws.{distinct-by-repeats}
-use Rattle.aff_tables.proofs.SymbolLaws.{SymbolTable, places-inside, string-recorded}
+use Rattle.aff_tables.proofs.SymbolLaws.{SymbolTable, places-inside, string-recorded, symbols-reported, symbols-clear}
 use Rattle.aff_tables.proofs.TreeTableLaws.{TableOfTree, entries-few, entries-are}
 use Rattle.aff_open.specs.Opening.{lengthsWrong, headerChecks, sectionChecks, symbolsChecked, treeChecked, tableChecks, bodyChecks, upToTables, spanOf, sizesIn, tablesAnswer, answerOfTables, areaFilled, stringPlaces, nodePlaces, stringsFilled, entriesFilled}
-use Rattle.aff_open.specs.passes.Opening.{Readable, StringsLaid, EntriesLaid}
+use Rattle.aff_open.specs.passes.Opening.{Readable, StringsLaid, EntriesLaid, symbolsIn}
 use Rattle.aff_open.specs.Sections.{editionIn, sectionOffset, sectionSize, sectionRecords, sectionBytes, endsPast, stringsIn, nodesIn}
 use Rattle.aff_open.specs.declared.reader.Span.{Span}
 use Rattle.aff_open.specs.declared.tables.OpenedTables.{OpenedTables}
@@ -50,13 +50,12 @@ pub readable-by : (e : Edition) (image : List ℕ) → headerSize e ≤ length i
     → firstWrong (sectionChecks e image) (tt {0}) ≡ accepted (tt {0}) → Readable e image
 readable-by e image whole short h = record { whole = whole; inside = λ s. section-clear image (tt {0}) e h s .0; short = short }
 
--- ---- The tables of the two sections: 8 and 9.
+-- ---- The tables of the two sections.
 
 module _ (e : Edition) (image : List ℕ) {t : Span} {records : ℕ} (area₀ area : List ℕ) where
   pub symbols-by : t ≡ spanOf e Symbol image → records ≡ sectionRecords e Symbol image → (r : Symbols)
       → SymbolTable e records image (t .offset) (t .size) area₀ area r
-      → (answerOfSymbols r ≡ firstWrong (symbolsChecked e image) (length (stringsIn e image)))
-      × ((n : ℕ) → answerOfSymbols r ≡ accepted n → area ≡ laidOver area₀ (stringPlaces e image))
+      → (r ≡ symbolsIn e image) × ((n : ℕ) → answerOfSymbols r ≡ accepted n → area ≡ laidOver area₀ (stringPlaces e image))
   unfolding sectionBytes
   symbols-by is ir r h = rw (is, ir) at h
 
@@ -89,23 +88,26 @@ strings-laid e image area strings n r h long is =
     let from = sectionOffset e Symbol image in
     let size = sectionSize e Symbol image in
     let l : List ℕ = part from size image in
-    let (_, (many, (_, (twice, _)))) = passed (symbolsChecked e image) (length (stringsIn e image)) h in
+    let (_, f, distinct) = symbols-clear e (sectionRecords e Symbol image) l (passed (symbolsChecked e image) (length (stringsIn e image)) h) in
     let c : length (stringsOf l) ≡ n = passed-value (symbolsChecked e image) (length (stringsIn e image)) h in
-    let f : length (stringsOf l) ≤ 2048 = ltb-false 2048 (length (stringsOf l)) many in
     record {
       counted = sym c;
       placed = rw (is, sym c) (places-inside image from size area (omega arith) f (section-inside Symbol r) (r .short));
       are = λ i hi. rw is (string-recorded image from size area (omega arith) i (omega arith));
-      distinct = λ i j hi hj e. distinct-by-repeats (stringsOf l) (none-at (lowestFrom (repeats (stringsOf l)) (length (stringsOf l)) 0) twice) i j (omega arith) (omega arith) e;
+      distinct = λ i j hi hj e. distinct-by-repeats (stringsOf l) distinct i j (omega arith) (omega arith) e;
     }
 
--- A refused symbol table refuses the opening, and no area is filled.
-pub symbols-refuse : {X : Type 0} (e : Edition) (image : List ℕ) (s : Symbols) → answerOfSymbols s ≡ firstWrong (symbolsChecked e image) (length (stringsIn e image))
-    → answerOfSymbols s ≡ refused (refusal 8)
-    → (answerOfTables (tables.Refused BadSymbolTable) ≡ firstWrong (tableChecks e image) (sizesIn e image))
-    × ((a : TableSizes) → answerOfTables (tables.Refused BadSymbolTable) ≡ accepted a → X)
-symbols-refuse e image s reported bad = (
-  sym (refused-before (symbolsChecked e image) (treeChecked e image) (length (stringsIn e image)) (sizesIn e image) (sym reported ∙ bad)),
+-- What the symbol table reports decides its checks.
+pub symbols-decide : (e : Edition) (image : List ℕ) {s : Symbols} → s ≡ symbolsIn e image
+    → firstWrong (symbolsChecked e image) (length (stringsIn e image)) ≡ answerOfSymbols s
+symbols-decide e image is = sym (ap answerOfSymbols is ∙ symbols-reported e (sectionRecords e Symbol image) (sectionBytes e Symbol image))
+
+-- A refused symbol table refuses the opening with its own refusal, and no area is filled.
+pub symbols-refuse : {X : Type 0} (r : Refusal) (e : Edition) (image : List ℕ) {s : Symbols} → s ≡ symbolsIn e image → answerOfSymbols s ≡ refused (codeOfRefusal r)
+    → (answerOfTables (tables.Refused r) ≡ firstWrong (tableChecks e image) (sizesIn e image))
+    × ((a : TableSizes) → answerOfTables (tables.Refused r) ≡ accepted a → X)
+symbols-refuse r e image is bad = (
+  sym (refused-before (symbolsChecked e image) (treeChecked e image) (length (stringsIn e image)) (sizesIn e image) (symbols-decide e image is ∙ bad)),
   λ a q. not-both q,
 )
 
@@ -153,7 +155,7 @@ pub area-length : {A : Type 0} (answer : Answer A) (a b places : List ℕ) → l
 area-length (accepted r) a b places h = rw h
 area-length (refused t) a b places h = rw h
 
--- 1 to 9, whole: 1 changes nothing; else the areas are cleared first.
+-- The whole of it: 1 changes nothing; else the areas are cleared first.
 abbrev pub TablesOpen : List ℕ → List ℕ → OpenedTables → List ℕ → List ℕ → List ℕ → List ℕ → Type 0
 TablesOpen image form o strings₀ strings entries₀ entries =
     (answerOfTables o ≡ tablesAnswer image form (length strings₀) (length entries₀))
@@ -180,7 +182,7 @@ cleared-opens image form o strings₀ s strings entries₀ e entries right ls le
       ),
     )
 
--- ---- What holds of an image that passes 1 to 9, and of its areas.
+-- ---- What holds of an image that passes them all, and of its areas.
 
 abbrev zeros : List ℕ → List ℕ
 zeros area = replicate (length area) 0
@@ -216,7 +218,7 @@ module _ (image form strings entries : List ℕ) {s : TableSizes} (h : tablesAns
       (lengths-right image form (length strings) (length entries) tables-lengths .3) (clear-accepts (sectionChecks e image) (tt {0}) (sections .0))
 
   pub tables-ended : endsInZero (sectionBytes e Symbol image) ≡ true
-  tables-ended = not-false _ (symbols .0 .0)
+  tables-ended = symbols-clear e (sectionRecords e Symbol image) (sectionBytes e Symbol image) (symbols .0) .0
 
   strings-long : length (zeros strings) ≡ 2048
   strings-long = length-replicate {A = ℕ} (length strings) 0 ∙ lengths-right image form (length strings) (length entries) tables-lengths .1

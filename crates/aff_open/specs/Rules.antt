@@ -24,13 +24,22 @@ Inside e s image = sectionOffset e s image + sectionSize e s image ≤ length im
 abbrev pub Summed : Edition → Section → List ℕ → Type 0
 Summed e s image = sectionSum e s image ≡ md5 (sectionBytes e s image)
 
--- 8 and 9: the record count of a section, where the edition has one, is n.
+-- 26 and 9: the record count of a section, where the edition has one, is n.
 abbrev pub Counted : Edition → Section → List ℕ → ℕ → Type 0
 Counted e s image n = hasCounts e ≡ true → sectionRecords e s image ≡ n
 
--- 8: no string occurs twice.
+-- 27: string k differs from each string before it. No string occurs twice where that holds of all.
+abbrev pub Unrepeated : List (List ℕ) → ℕ → Type 0
+Unrepeated strings k = (i : ℕ) → i < k → getD strings i [] ≡ getD strings k [] → ⊥
+
 abbrev pub Distinct : List (List ℕ) → Type 0
-Distinct strings = (i k : ℕ) → i < k → k < length strings → getD strings i [] ≡ getD strings k [] → ⊥
+Distinct strings = (k : ℕ) → k < length strings → Unrepeated strings k
+
+-- What 27 reports: string k equals an earlier one, and no lower string does.
+pub record FirstRepeat (strings : List (List ℕ)) (k : ℕ) : Type 0 where
+  pub exists : k < length strings
+  pub earlier : (i : ℕ) × (i < k) × (getD strings i [] ≡ getD strings k [])
+  pub lowest : (j : ℕ) → j < k → Unrepeated strings j
 
 -- 10: node k's parent and string exist, and the string is a subkey.
 abbrev pub Linked : Edition → List (List ℕ) → List Entry → ℕ → Type 0

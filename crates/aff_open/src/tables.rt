@@ -1,4 +1,4 @@
-// Opening up to the tables: 1 to 9.
+// Opening up to the tables: 1 to 9, with 25 to 27 after 8.
 use crate::header;
 use crate::header::HeaderResult;
 use crate::sections;
@@ -19,8 +19,8 @@ ghost use Rattle.aff_format.specs.Answer.{accepted, firstWrong};
 ghost use Rattle.aff_format.specs.Bytes.{laidOver};
 ghost use Rattle.aff_format.specs.Edition.{headerSize};
 ghost use Rattle.aff_tables.specs.passes.Results.{answerOfSymbols, answerOfTree};
-ghost use Rattle.aff_open.specs.Opening.{lengthsWrong, headerChecks, symbolsChecked, treeChecked, tableChecks, bodyChecks, stringPlaces, nodePlaces, sizesIn, tablesAnswer, answerOfTables, stringsFilled, entriesFilled, areaFilled};
-ghost use Rattle.aff_open.specs.passes.Opening.{Readable, Filled};
+ghost use Rattle.aff_open.specs.Opening.{lengthsWrong, headerChecks, treeChecked, tableChecks, bodyChecks, stringPlaces, nodePlaces, sizesIn, tablesAnswer, answerOfTables, stringsFilled, entriesFilled, areaFilled};
+ghost use Rattle.aff_open.specs.passes.Opening.{Readable, Filled, symbolsIn};
 ghost use Rattle.aff_open.specs.Sections.{editionIn, stringsIn, nodesIn};
 ghost use Rattle.aff_open.specs.declared.tables.TableSizes.{TableSizes as SizesOf};
 
@@ -31,7 +31,7 @@ pub struct TableSizes {
     pub nodes: usize,
 }
 
-// The answer of 1 to 9.
+// The answer up to the tables.
 pub enum OpenedTables {
     Found(TableSizes),
     Refused(Refusal),
@@ -63,10 +63,10 @@ pub fn clear(area: &mut [u32])
     }
 }
 
-// 8, of the image's symbol section.
+// 8 and 25 to 27, of the image's symbol section.
 fn symbol_table(image: &[u8], edition: Edition, strings: &mut [u32]) -> Symbols
     requires { ⌜ Readable edition (now image) × (length (now strings) ≡ 2048) ⌝ }
-    ensures { λ r. ⌜ answerOfSymbols r ≡ firstWrong (symbolsChecked edition (now (image .entry))) (length (stringsIn edition (now (image .entry)))) ⌝ }
+    ensures { λ r. ⌜ r ≡ symbolsIn edition (now (image .entry)) ⌝ }
     ensures { λ r. ⌜ ((n : ℕ) → answerOfSymbols r ≡ accepted n → now (strings .exit) ≡ laidOver (now (strings .entry)) (stringPlaces edition (now (image .entry)))) ⌝ }
 {
     let span = sections::span(image, edition, Section::Symbol);
@@ -102,7 +102,7 @@ fn with_strings(image: &[u8], edition: Edition, strings: usize, entries: &mut [u
     }
 }
 
-// After the sums: 8, 9.
+// After the sums: 8 and 25 to 27, then 9.
 fn with_sections(
     image: &[u8],
     edition: Edition,
@@ -115,14 +115,14 @@ fn with_sections(
 {
     match symbol_table(image, edition, strings) {
         Symbols::Strings(count) => with_strings(image, edition, count, entries),
-        Symbols::Unended => OpenedTables::Refused(Refusal::BadSymbolTable),
-        Symbols::TooMany => OpenedTables::Refused(Refusal::BadSymbolTable),
-        Symbols::CountDiffers => OpenedTables::Refused(Refusal::BadSymbolTable),
-        Symbols::Repeated(_) => OpenedTables::Refused(Refusal::BadSymbolTable),
+        Symbols::Unended => OpenedTables::Refused(Refusal::UnendedSymbolTable),
+        Symbols::TooMany => OpenedTables::Refused(Refusal::TooManyStrings),
+        Symbols::CountDiffers => OpenedTables::Refused(Refusal::WrongStringCount),
+        Symbols::Repeated(string) => OpenedTables::Refused(Refusal::RepeatedString(string)),
     }
 }
 
-// After the header: 6 to 9.
+// After the header: the sections, then their tables.
 fn with_edition(
     image: &[u8],
     edition: Edition,
@@ -139,7 +139,7 @@ fn with_edition(
     }
 }
 
-// 2 to 9, in areas of the right length.
+// All but 1, in areas of the right length.
 fn with_areas(image: &[u8], form: &[u8], strings: &mut [u32], entries: &mut [u32]) -> OpenedTables
     requires { ⌜ (length (now image) < 2147483648) × (length (now strings) ≡ 2048) × (length (now entries) ≡ 2048) ⌝ }
     ensures { λ r. ⌜ answerOfTables r ≡ firstWrong (headerChecks (now (image .entry)) (now (form .entry)) ++ bodyChecks (editionIn (now (image .entry))) (now (image .entry))) (sizesIn (editionIn (now (image .entry))) (now (image .entry))) ⌝ }
@@ -151,7 +151,7 @@ fn with_areas(image: &[u8], form: &[u8], strings: &mut [u32], entries: &mut [u32
     }
 }
 
-// 2 to 9, in cleared areas; a refusal clears them again.
+// All but 1, in cleared areas; a refusal clears them again.
 fn in_cleared(image: &[u8], form: &[u8], strings: &mut [u32], entries: &mut [u32]) -> OpenedTables
     requires { ⌜ (length (now image) < 2147483648) × (length (now strings) ≡ 2048) × (length (now entries) ≡ 2048) × (now strings ≡ replicate (length (now strings)) 0) × (now entries ≡ replicate (length (now entries)) 0) ⌝ }
     ensures { λ r. ⌜ answerOfTables r ≡ firstWrong (headerChecks (now (image .entry)) (now (form .entry)) ++ bodyChecks (editionIn (now (image .entry))) (now (image .entry))) (sizesIn (editionIn (now (image .entry))) (now (image .entry))) ⌝ }
@@ -168,8 +168,8 @@ fn in_cleared(image: &[u8], form: &[u8], strings: &mut [u32], entries: &mut [u32
     }
 }
 
-// 1 to 9: reads the tables of an image and fills the two areas with the places of its strings and of its entries. Nothing is asked of the nodes, so
-// their parents and strings may not exist. 1 changes nothing; another refusal leaves both areas all zero.
+// Reads the tables of an image and fills the two areas with the places of its strings and of its entries. A refusal's numbers are 1 to 9 and 25 to 27.
+// Nothing is asked of the nodes, so their parents and strings may not exist. 1 changes nothing; another refusal leaves both areas all zero.
 pub fn open_tables(
     image: &[u8],
     form: &[u8],

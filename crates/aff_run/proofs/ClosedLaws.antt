@@ -313,7 +313,7 @@ module _ (s : State) (tree : Tree) (g : Invariant s tree) where
         no-zero = λ i k l m. without-at (getD names i []) (each-at 0 names i (clean s tree g)) k m;
         few-strings = g .strings-few;
         string-count = λ c. count-is Symbol;
-        distinct = g .distinct;
+        distinct = λ k m i l. g .distinct i k l m;
         entries = g .entries;
         tree-table = bytes-are section.Tree;
         storable = node-storable (g .entries) (storables s tree g);

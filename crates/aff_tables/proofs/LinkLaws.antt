@@ -1,4 +1,4 @@
--- Parents, string numbers and names of the nodes: what the pass over them keeps, and the tests 8 and 10 to 13 by what they go by. Tests that
+-- Parents, string numbers and names of the nodes: what the pass over them keeps, and the tests 27 and 10 to 13 by what they go by. Tests that
 -- agree node by node have the same lowest node. Assumes nothing.
 use mathlib.Core.Path.{_≡_, refl, sym, ap, _∙_}
 use mathlib.Core.Bool.{Bool, true, false, not, _&&_, _||_}
@@ -14,6 +14,7 @@ use borrow.Author.Count.{below-more}
 use borrow.Author.Tests.{eqb-true, eqb-false, ltb-true, ltb-false, leb-false, le-ltb, lt-leb, not-false}
 use Rattle.aff_format.specs.Bytes.{part, sameBytes}
 use Rattle.aff_format.specs.Lowest.{lowestFrom, isAt}
+use Rattle.aff_format.specs.Strings.{isIn, indexIn}
 use Rattle.aff_format.specs.Subkey.{subkeyFrom, isSound, isSubkey}
 use Rattle.aff_format.specs.declared.edition.Edition.{Edition}
 use Rattle.aff_format.specs.declared.entry.Entry.{Entry}
@@ -22,7 +23,7 @@ use Rattle.aff_format.specs.declared.lowest.Lowest.the-variants.{Nothing}
 use Rattle.aff_format.specs.declared.subkey.Grammar.{Grammar}
 use Rattle.aff_format.proofs.LowestLaws.{lowest-same, none-holds, holds-none}
 use Rattle.aff_format.proofs.SameLaws.{same-refl, ne-same}
-use Rattle.aff_format.proofs.StringsLaws.{isIn-none, none-isIn}
+use Rattle.aff_format.proofs.StringsLaws.{isIn-none, none-isIn, isIn-indexIn, indexIn-found}
 use Rattle.aff_format.proofs.SubkeyLaws.{sound-shift}
 use Rattle.aff_format.proofs.TestLaws.{or-false}
 use Rattle.aff_tables.specs.passes.Distinct.{siblingTaken}
@@ -184,29 +185,39 @@ module _ {c d : Contents} (alike : Alike c d) where
       rw (alike .string (c .entry j .string) (w j l n), alike .string (c .entry k .string) (w k lo m), alike .entry j l n, alike .entry k lo m))))
       ∙ rw (alike .nodes)
 
--- 8: no string repeats an earlier one where strings of two numbers differ. And back.
+-- 27: the test finds nothing wrong exactly where a string differs from each before it; where it does not, one before it is equal. Where the test finds
+-- nothing wrong with any string, no two are equal.
 module _ (ss : List (List ℕ)) where
+  pub repeat-asks : (k : ℕ) → k < length ss → (repeats ss k ≡ false) ↔ ((i : ℕ) → i < k → getD ss i [] ≡ getD ss k [] → ⊥)
+  unfolding repeats
+  repeat-asks k h =
+      let f = length-take-le k ss (omega arith) in (
+        λ n i l q. isIn-none (getD ss k []) (take k ss) i n (rw f l) (getD-take k ss i [] l ∙ q),
+        λ d. none-isIn (getD ss k []) (take k ss) (λ i l q. let m : i < k = omega arith in d i m (sym (getD-take k ss i [] m) ∙ q)),
+      )
+
+  pub repeat-found : (k : ℕ) → k < length ss → (((i : ℕ) → i < k → getD ss i [] ≡ getD ss k [] → ⊥) → ⊥)
+      → (i : ℕ) × (i < k) × (getD ss i [] ≡ getD ss k [])
+  unfolding repeats
+  repeat-found k h d = go (isIn (getD ss k []) (take k ss)) refl
+    where
+      go : (b : Bool) → isIn (getD ss k []) (take k ss) ≡ b → (i : ℕ) × (i < k) × (getD ss i [] ≡ getD ss k [])
+      go false q = absurd (d (repeat-asks k h .0 q))
+      go true q =
+          let x = getD ss k [] in
+          let i = indexIn x (take k ss) in
+          let m : i < length (take k ss) = ltb-true _ _ (sym (isIn-indexIn x (take k ss)) ∙ q) in
+          let l : i < k = omega (arith, length-take-le k ss (omega arith)) in
+          (i, l, sym (getD-take k ss i [] l) ∙ indexIn-found x (take k ss) m)
+
   pub distinct-by-repeats : lowestFrom (repeats ss) (length ss) 0 ≡ Nothing
       → (i j : ℕ) → i < length ss → j < length ss → getD ss i [] ≡ getD ss j [] → i ≡ j
-  unfolding repeats
   distinct-by-repeats h i j m n e = go (ltb i j) refl (ltb j i) refl
     where
       apart : (a b : ℕ) → a < b → b < length ss → getD ss a [] ≡ getD ss b [] → ⊥
-      apart a b l n q =
-          isIn-none (getD ss b []) (take b ss) a (none-holds (repeats ss) (length ss) 0 h b (omega arith) (omega arith))
-          (rw (length-take-le b ss (omega arith)) l)
-          (getD-take b ss a [] l ∙ q)
+      apart a b l n q = repeat-asks b n .0 (none-holds (repeats ss) (length ss) 0 h b (omega arith) (omega arith)) a l q
 
       go : (s : Bool) → ltb i j ≡ s → (t : Bool) → ltb j i ≡ t → i ≡ j
       go true p t q = absurd (apart i j (ltb-true i j p) n e)
       go false p true q = absurd (apart j i (ltb-true j i q) m (sym e))
       go false p false q = omega (arith, ltb-false i j p, ltb-false j i q)
-
-  pub repeats-by-distinct : ((i k : ℕ) → i < k → k < length ss → getD ss i [] ≡ getD ss k [] → ⊥) → lowestFrom (repeats ss) (length ss) 0 ≡ Nothing
-  unfolding repeats
-  repeats-by-distinct d =
-      holds-none (repeats ss) (length ss) 0
-      (λ j lo hi.
-      let f = length-take-le j ss (omega arith) in
-      none-isIn (getD ss j []) (take j ss)
-      (λ i l q. let m : i < j = omega arith in d i j m (omega arith) (sym (getD-take j ss i [] m) ∙ q)))

@@ -1,25 +1,27 @@
 -- The strings that begin at the places of a section's strings are its strings; and what the symbol table answers. Assumes nothing.
 use mathlib.Core.Path.{_≡_, refl, sym, ap, _∙_}
-use mathlib.Core.Bool.{Bool, true, false, cond}
+use mathlib.Core.Bool.{Bool, true, false, cond, not}
 use mathlib.Core.List.{List, [], _∷_, map}
 use Prim.Native.Nat.{ℕ, suc, _+_, _≤_, _<_}
 use native.Mathlib.Omega.{arith}
-use lib.Dec.{leb}
+use lib.Dec.{leb, ltb}
 use lib.ListN.{length, getD, take}
-use borrow.Author.Tests.{leb-true, leb-false, lt-ltb, le-ltb}
-use Rattle.aff_format.specs.Answer.{accepted, check, refusal, firstWrong}
+use borrow.Author.Tests.{leb-true, leb-false, lt-ltb, le-ltb, ltb-false, not-false}
+use Rattle.aff_format.specs.Answer.{accepted, firstWrong, Clear}
 use Rattle.aff_format.specs.Bytes.{part, laidOver}
-use Rattle.aff_format.specs.Lowest.{lowestFrom, isAt}
+use Rattle.aff_format.specs.Limits.{stringLimit}
+use Rattle.aff_format.specs.Lowest.{lowestFrom}
 use Rattle.aff_format.specs.Strings.{stringsOf, endsInZero, placesOf}
 use Rattle.aff_format.specs.declared.edition.Edition.{Edition}
 use Rattle.aff_format.specs.declared.lowest.Lowest.{Lowest}
 use Rattle.aff_format.specs.declared.lowest.Lowest.the-variants.{Nothing, At}
 use Rattle.aff_format.proofs.AnswerLaws.{not-both}
 use Rattle.aff_format.proofs.BytesLaws.{length-part}
+use Rattle.aff_format.proofs.LowestLaws.{clear-lowest}
 use Rattle.aff_format.proofs.StringsLaws.{length-placesOf, placesOf-from, string-begins, string-ends, string-in-section}
 use Rattle.aff_tables.specs.passes.Distinct.{Places}
 use Rattle.aff_tables.specs.Tables.{symbolChecks, countDiffers, namesAt, repeats}
-use Rattle.aff_tables.specs.passes.Results.{splitOf, answerOfSymbols, repeatedOr, countedOf}
+use Rattle.aff_tables.specs.passes.Results.{splitOf, answerOfSymbols, repeatedOr, countedOf, symbolsOf}
 use Rattle.aff_format.specs.Recorded.{recordedString, nameFrom}
 use Rattle.aff_tables.proofs.SlicedLaws.{sliced, sliced-part}
 use Rattle.aff_tables.specs.declared.symbols.SplitResult.{SplitResult}
@@ -91,17 +93,32 @@ split-few limit n m = go (leb n limit) refl
     go true h q = (cc, leb-true n limit h)
     go false h q = absurd (let z : _≡_ {A = ℕ} 0 1 = cc in omega arith)
 
-counted-reported : (b : Bool) (low : Lowest) (n : ℕ)
-    → answerOfSymbols (cond b symbols.CountDiffers (repeatedOr n low)) ≡ firstWrong (check b (refusal 8) ∷ check (isAt low) (refusal 8) ∷ []) n
-counted-reported true low n = refl
-counted-reported false Nothing n = refl
-counted-reported false (At k) n = refl
+-- The first fault is the refusal of the first check that finds something wrong.
+pub symbols-reported : (e : Edition) (records : ℕ) (section : List ℕ)
+    → answerOfSymbols (symbolsOf e records section) ≡ firstWrong (symbolChecks e records section) (length (stringsOf section))
+symbols-reported e records section = go _ refl _ refl _ refl _ refl
+  where
+    go : (unended : Bool) → not (endsInZero section) ≡ unended → (many : Bool) → ltb stringLimit (length (stringsOf section)) ≡ many
+        → (differs : Bool) → countDiffers e records (length (stringsOf section)) ≡ differs
+        → (low : Lowest) → lowestFrom (repeats (stringsOf section)) (length (stringsOf section)) 0 ≡ low
+        → answerOfSymbols (symbolsOf e records section) ≡ firstWrong (symbolChecks e records section) (length (stringsOf section))
+    go true h many k differs m low q = rw h
+    go false h true k differs m low q = rw (h, k)
+    go false h false k true m low q = rw (h, k, m)
+    go false h false k false m Nothing q = rw (h, k, m, q)
+    go false h false k false m (At j) q = rw (h, k, m, q)
+
+-- What holds of a table with which nothing is wrong.
+pub symbols-clear : (e : Edition) (records : ℕ) (section : List ℕ) → Clear (symbolChecks e records section)
+    → (endsInZero section ≡ true) × (length (stringsOf section) ≤ stringLimit) × (lowestFrom (repeats (stringsOf section)) (length (stringsOf section)) 0 ≡ Nothing)
+symbols-clear e records section (ended, (many, (_, repeated))) =
+    (not-false _ ended, ltb-false _ _ many, clear-lowest _ (lowestFrom (repeats (stringsOf section)) (length (stringsOf section)) 0) [] repeated .0)
 
 -- What the table of a section reports, and its area where it accepts.
 module _ (e : Edition) (records : ℕ) (image : List ℕ) (from size : ℕ) (area₀ area : List ℕ) where
   abbrev pub SymbolTable : Symbols → Type 0
   SymbolTable r =
-      (answerOfSymbols r ≡ firstWrong (symbolChecks e records (part from size image)) (length (stringsOf (part from size image))))
+      (r ≡ symbolsOf e records (part from size image))
       × ((n : ℕ) → answerOfSymbols r ≡ accepted n → area ≡ laidOver area₀ (placesOf from (stringsOf (part from size image))))
 
 module _ (e : Edition) (records : ℕ) (image : List ℕ) (from size : ℕ) (area₀ area : List ℕ) {b : Bool} (ends : b ≡ endsInZero (sliced image from size)) where
@@ -145,12 +162,6 @@ module _ (e : Edition) (records : ℕ) (image : List ℕ) (from size : ℕ) (are
       found : namesAt image (from + size) (take n area) ≡ names
       found = rw front (names-are image from size)
 
-      pub table-counted : {reported : Symbols} → b ≡ true → reported ≡ countedOf e records image (from + size) (take n area) n
+      pub table-counted : {reported : Symbols} → b ≡ true → reported ≡ countedOf e records (namesAt image (from + size) (take n area)) n
           → SymbolTable e records image from size area₀ area reported
-      table-counted h q =
-          let f = number in
-          let m = length names in (
-            ap answerOfSymbols q
-                ∙ rw (found, f .0, ends-is, h, le-ltb 2048 m (f .1)) (counted-reported (countDiffers e records m) (lowestFrom (repeats names) m 0) m),
-            λ k a. area-is,
-          )
+      table-counted h q = let f = number in (q ∙ rw (found, f .0, ends-is, h, le-ltb 2048 (length names) (f .1)), λ k a. area-is)

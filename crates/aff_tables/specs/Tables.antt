@@ -1,4 +1,5 @@
--- Symbol table and tree table, of the bytes of their sections: document 01, 'Layout of a file', and 'Numbers handed back', 8 and 9.
+-- Symbol table and tree table, of the bytes of their sections: document 01, 'Layout of a file', and 'Numbers handed back', 8, 25 to 27
+-- (request C-11) and 9.
 use mathlib.Core.Bool.{Bool, true, false, not, _&&_}
 use mathlib.Core.List.{List, [], _∷_, _++_, map}
 use Prim.Native.Nat.{ℕ, zero, suc, _+_}
@@ -9,7 +10,7 @@ use Rattle.aff_format.specs.Edition.{hasCounts}
 use Rattle.aff_format.specs.Entry.{entryOf, entryBytes, noEntry}
 use Rattle.aff_format.specs.Kind.{entrySize}
 use Rattle.aff_format.specs.Limits.{nodeLimit, stringLimit}
-use Rattle.aff_format.specs.Lowest.{lowestFrom, isAt}
+use Rattle.aff_format.specs.Lowest.{lowestFrom, checkLowest}
 use Rattle.aff_format.specs.Recorded.{nameFrom}
 use Rattle.aff_format.specs.Strings.{stringsOf, isIn, endsInZero}
 use Rattle.aff_format.specs.declared.edition.Edition.{Edition}
@@ -59,17 +60,18 @@ nodeEntry entries k = getD (noEntry ∷ entries) k noEntry
 
 -- ---- The checks.
 
--- 8 and 9: a section's record count, where the edition has one, is not n.
+-- 26 and 9: a section's record count, where the edition has one, is not n.
 unfoldable pub countDiffers : Edition → ℕ → ℕ → Bool
 countDiffers e records n = hasCounts e && not (eqb records n)
 
--- 8, of the bytes of a symbol section: not ended by zero, above 2,048, count differs, a string twice.
+-- Of the bytes of a symbol section: 8, it is not empty and its last byte is not zero; 25, more than 2,048 strings, with the first beyond; 26, another count;
+-- 27, a string that equals an earlier one, with the lowest such string. Strings are counted from 0.
 abbrev pub symbolChecks : Edition → ℕ → List ℕ → List Check
 symbolChecks e records section =
     check (not (endsInZero section)) (refusal 8)
-    ∷ check (ltb stringLimit (length (stringsOf section))) (refusal 8)
-    ∷ check (countDiffers e records (length (stringsOf section))) (refusal 8)
-    ∷ check (isAt (lowestFrom (repeats (stringsOf section)) (length (stringsOf section)) 0)) (refusal 8)
+    ∷ check (ltb stringLimit (length (stringsOf section))) (refusalAt 25 stringLimit)
+    ∷ check (countDiffers e records (length (stringsOf section))) (refusal 26)
+    ∷ checkLowest 27 (lowestFrom (repeats (stringsOf section)) (length (stringsOf section)) 0)
     ∷ []
 
 abbrev pub isEmpty : List ℕ → Bool

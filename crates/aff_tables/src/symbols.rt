@@ -6,12 +6,12 @@ use aff_format::Lowest;
 ghost use mathlib.Core.Path.{_≡_};
 ghost use Prim.Native.Nat.{ℕ, _+_, _≤_, _<_};
 ghost use lib.ListN.{length, take};
-ghost use Rattle.aff_format.specs.Answer.{accepted, firstWrong};
+ghost use Rattle.aff_format.specs.Answer.{accepted};
 ghost use Rattle.aff_format.specs.Bytes.{part, laidOver};
 ghost use Rattle.aff_format.specs.Strings.{stringsOf, endsInZero, placesOf};
-ghost use Rattle.aff_tables.specs.Tables.{symbolChecks};
+ghost use Rattle.aff_tables.specs.Tables.{namesAt};
 ghost use Rattle.aff_tables.specs.passes.Distinct.{Places};
-ghost use Rattle.aff_tables.specs.passes.Results.{splitOf, answerOfSymbols, countedOf};
+ghost use Rattle.aff_tables.specs.passes.Results.{splitOf, answerOfSymbols, countedOf, symbolsOf};
 
 // How many strings there are, or more than the area has places.
 pub enum SplitResult {
@@ -19,7 +19,7 @@ pub enum SplitResult {
     TooMany,
 }
 
-// What is wrong with a symbol table, or how many strings it has.
+// The first fault of a symbol table, or how many strings it has: 8, 25, 26, and 27 with the lowest string that equals an earlier one.
 pub enum Symbols {
     Strings(usize),
     Unended,
@@ -80,7 +80,7 @@ fn counted(
     n: usize,
 ) -> Symbols
     requires { ⌜ Places (now image) end (now places) n ⌝ }
-    ensures { λ r. ⌜ r ≡ countedOf edition records (now (image .entry)) end (take n (now (places .entry))) n ⌝ }
+    ensures { λ r. ⌜ r ≡ countedOf edition records (namesAt (now (image .entry)) end (take n (now (places .entry)))) n ⌝ }
 {
     if counts::count_differs(edition, records, n) {
         return Symbols::CountDiffers;
@@ -91,8 +91,8 @@ fn counted(
     }
 }
 
-// 8, of the symbol section, `size` bytes from `from` on, with the record count of its header: the table's faults in order, or how many strings it
-// has, with where each begins stored.
+// 8 and 25 to 27, of the symbol section, `size` bytes from `from` on, with the record count of its header: the table's first fault, or how many
+// strings it has, with where each begins stored.
 pub fn symbol_table(
     image: &[u8],
     edition: Edition,
@@ -102,7 +102,7 @@ pub fn symbol_table(
     places: &mut [u32],
 ) -> Symbols
     requires { ⌜ (from + size ≤ length (now image)) × (length (now image) < 2147483648) × (length (now places) ≡ 2048) ⌝ }
-    ensures { λ r. ⌜ answerOfSymbols r ≡ firstWrong (symbolChecks edition records (part from size (now (image .entry)))) (length (stringsOf (part from size (now (image .entry))))) ⌝ }
+    ensures { λ r. ⌜ r ≡ symbolsOf edition records (part from size (now (image .entry))) ⌝ }
     ensures { λ r. ⌜ ((n : ℕ) → answerOfSymbols r ≡ accepted n → now (places .exit) ≡ laidOver (now (places .entry)) (placesOf from (stringsOf (part from size (now (image .entry)))))) ⌝ }
 {
     let end = from + size;

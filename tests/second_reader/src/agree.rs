@@ -56,7 +56,8 @@ fn opened(
             report.same("entries", &opened.entries, &second);
         }
         Err((number, _)) => {
-            // "A refused opening from 2 to 13 leaves both work areas all zero"; 1 changes nothing.
+            // "A refused opening from 2 to 13 leaves both work areas all zero"; 25 to 27 "clear the work areas as 8 does" (C-11);
+            // 1 changes nothing.
             let left = |before: u32| if number == 1 { before } else { 0 };
             report.same("record", &Record::default(), &record);
             report.same("strings", &vec![left(77); strings], &first);

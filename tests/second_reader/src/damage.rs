@@ -1,5 +1,5 @@
-//! Damaged images: each kind of damage aims at one refusal from 2 to 13, with the sums made right again where the fault lies
-//! after them. The base is a lawful image whose sections stand apart, so that number and place are known beforehand.
+//! Damaged images: each kind of damage aims at one refusal from 2 to 13 or from 25 to 27, with the sums made right again where the
+//! fault lies after them. The base is a lawful image whose sections stand apart, so that number and place are known beforehand.
 
 use crate::format::{big, Edition, Kind, MOST, SIGNATURE, TEXT};
 use crate::images::{apart, image, Aim, Draft, Image, Node, DATA, NO_SUBKEYS, SYMBOLS, TREE};
@@ -7,10 +7,11 @@ use crate::images::{draft, new_name, plain, sum_again, sum_header, tables, with_
 use crate::md5::md5;
 use crate::open::Span;
 use crate::random::Random;
+use std::collections::HashSet;
 
 type Damage = fn(&Random) -> Image;
 
-const DAMAGES: [(&str, Damage); 17] = [
+const DAMAGES: [(&str, Damage); 20] = [
     ("short", short),
     ("text", text),
     ("form", form),
@@ -18,7 +19,10 @@ const DAMAGES: [(&str, Damage); 17] = [
     ("header sum", header_sum),
     ("section outside", outside),
     ("section sum", section_sum),
-    ("symbol table", symbol_table),
+    ("symbols not ended", not_ended),
+    ("too many strings", many_strings),
+    ("symbol count", symbol_count),
+    ("repeated string", repeated_string),
     ("tree table", tree_table),
     ("numbers", numbers),
     ("ring", ring),
@@ -202,9 +206,15 @@ fn outside(random: &Random) -> Image {
     aimed(draft.bytes, 6, sections[0] as u64 + 1, &what)
 }
 
-/// 7: "a section's sum wrong", reported the first of them: a byte of the sum or of the section is another.
+/// 7: "a section's sum wrong", reported the first of them: a byte of the sum or of the section is another. Faults of the tables are
+/// checked later.
 fn section_sum(random: &Random) -> Image {
-    let draft = plain(random);
+    let mut draft = tables(random);
+    if random.one_in(4) {
+        repeat_string(random, &mut draft);
+        later_fault(random, &mut draft);
+    }
+    let draft = placed(random, draft);
     let (edition, spans) = (draft.edition, draft.spans);
     let sections = random.some_of(3);
     let mut bytes = draft.finish();
@@ -239,61 +249,195 @@ fn other_count(random: &Random, right: u64) -> u64 {
     random.pick(&counts)
 }
 
-/// 8: "not empty and not ended by zero, above 2,048, count differs, or a string twice".
-fn symbol_table(random: &Random) -> Image {
-    let mut draft = tables(random);
-    let way = random.below(4);
-    match way {
-        0 => return not_ended(random, draft),
-        1 => {
-            while draft.strings.len() <= MOST {
-                draft
-                    .strings
-                    .push(draft.strings.len().to_string().into_bytes());
-            }
-        }
-        2 => draft.edition = Edition::Two,
-        _ => repeat_string(random, &mut draft),
-    }
-    draft.records[SYMBOLS] = draft.strings.len() as u64;
-    if way == 2 {
-        draft.records[SYMBOLS] = other_count(random, draft.records[SYMBOLS]);
-    }
-    let bytes = placed(random, draft).finish();
-    aimed(bytes, 8, 0, &format!("way {way}"))
-}
-
-/// The last byte of the section is not zero: the section goes on over a byte more, or its last byte is changed.
-fn not_ended(random: &Random, mut draft: Draft) -> Image {
-    draft.strings.push(b"end".to_vec());
-    draft.records[SYMBOLS] = (draft.strings.len() - random.below(2)) as u64;
-    let mut draft = placed(random, draft);
-    let (symbols, tree) = (draft.symbols(), draft.tree());
-    for (section, bytes) in [(SYMBOLS, symbols), (TREE, tree)] {
-        let place = draft.spans[section].offset as usize;
-        draft.bytes[place..place + bytes.len()].copy_from_slice(&bytes);
-    }
-    let span = &mut draft.spans[SYMBOLS];
+/// The right count, or one that differs.
+fn any_count(random: &Random, right: u64) -> u64 {
     match random.one_in(2) {
-        true => span.size -= 1,
-        false => draft.bytes[(span.offset + span.size) as usize - 1] = b'x',
+        true => right,
+        false => other_count(random, right),
     }
-    draft.seal();
-    aimed(draft.bytes, 8, 0, "no zero at the end")
 }
 
-fn repeat_string(random: &Random, draft: &mut Draft) {
-    if draft.strings.len() == MOST {
-        draft.strings.pop();
+/// Gives some drafts a fault that is checked after the symbol table: 9 by a type or the count, or 10.
+fn later_fault(random: &Random, draft: &mut Draft) {
+    match random.below(8) {
+        0 => draft.tail = vec![0],
+        1 => draft.records[TREE] = other_count(random, draft.nodes.len() as u64),
+        2..=3 => no_numbers(random, draft),
+        _ => (),
     }
-    let again = match draft.strings.len() {
-        0 => {
-            draft.strings.push(Vec::new());
-            Vec::new()
+}
+
+/// Gives every node a string or a parent that does not exist: 10, which is checked after both tables.
+fn no_numbers(random: &Random, draft: &mut Draft) {
+    let strings = random.one_in(2);
+    for node in &mut draft.nodes {
+        match strings {
+            true => node.string = u32::MAX,
+            false => node.parent = u64::MAX,
         }
-        _ => random.pick(&draft.strings),
+    }
+}
+
+/// 8: "the last byte of a table that is not empty isn't zero". The last zero is left out of the section, or changed. The last string
+/// is not empty, so a section without the zero ends with a byte of that string. Faults of 25, 26 and 27 are checked later.
+fn not_ended(random: &Random) -> Image {
+    let mut draft = tables(random);
+    match random.below(6) {
+        0 => grow(random, &mut draft),
+        1 => {
+            repeat_string(random, &mut draft);
+        }
+        _ => (),
+    }
+    draft.strings.push(new_name(random, &draft.strings));
+    let strings = draft.strings.len();
+    draft.records[SYMBOLS] = any_count(random, (strings - random.below(2)) as u64);
+    later_fault(random, &mut draft);
+    let mut draft = placed(random, draft);
+    let edition = draft.edition;
+    let shorter = random.one_in(2);
+    draft.spans[SYMBOLS].size -= u64::from(shorter);
+    let spans = draft.spans;
+    let mut bytes = draft.finish();
+    if !shorter {
+        let end = spans[SYMBOLS].offset + spans[SYMBOLS].size;
+        change(random, &mut bytes, end as usize - 1);
+        sum_again(&mut bytes, edition, &spans);
+    }
+    aimed(bytes, 8, 0, &format!("{strings} strings"))
+}
+
+/// 25: "above 2,048", reported string 2,048. A wrong count and repeated strings are checked later.
+fn many_strings(random: &Random) -> Image {
+    let mut draft = tables(random);
+    grow(random, &mut draft);
+    let strings = draft.strings.len();
+    draft.records[SYMBOLS] = any_count(random, strings as u64);
+    later_fault(random, &mut draft);
+    let bytes = placed(random, draft).finish();
+    aimed(bytes, 25, MOST as u64, &format!("{strings} strings"))
+}
+
+/// Adds strings until there are more than 2,048: empty ones, or different ones with or without a repeat.
+fn grow(random: &Random, draft: &mut Draft) {
+    let sizes = [MOST + 1, MOST + 1, MOST + 1, MOST + 2, 2 * MOST, 9000];
+    let size = random.pick(&sizes);
+    match random.below(4) {
+        0..=1 => draft.strings.resize(size, Vec::new()),
+        2 => fill(draft, size),
+        _ => {
+            fill(draft, size - 1);
+            repeat_string(random, draft);
+        }
+    }
+}
+
+/// Adds strings that differ from all others until there are so many.
+fn fill(draft: &mut Draft, size: usize) {
+    let known: HashSet<Vec<u8>> = draft.strings.iter().cloned().collect();
+    let decimals = (0..).map(|number: usize| number.to_string().into_bytes());
+    let new = decimals.filter(|string| !known.contains(string));
+    let more = size.saturating_sub(draft.strings.len());
+    draft.strings.extend(new.take(more));
+}
+
+/// 26: "count differs", reported 0; only edition 2 has a count. A repeated string is checked later.
+fn symbol_count(random: &Random) -> Image {
+    let mut draft = tables(random);
+    draft.edition = Edition::Two;
+    let repeated = random.one_in(3);
+    if repeated {
+        leave_room(&mut draft);
+        repeat_string(random, &mut draft);
+    }
+    let strings = draft.strings.len();
+    let count = other_count(random, strings as u64);
+    draft.records[SYMBOLS] = count;
+    later_fault(random, &mut draft);
+    let bytes = placed(random, draft).finish();
+    let what = format!("{count} for {strings} strings, repeated {repeated}");
+    aimed(bytes, 26, 0, &what)
+}
+
+/// 27: "repeated string", reported "the lowest string that equals an earlier one". The count is right.
+fn repeated_string(random: &Random) -> Image {
+    let mut draft = tables(random);
+    leave_room(&mut draft);
+    let place = match random.below(8) {
+        0 => last_as_first(&mut draft),
+        1 => all_equal(random, &mut draft),
+        2..=3 => repeat_empty(random, &mut draft),
+        _ => repeat_string(random, &mut draft),
     };
-    draft.strings.push(again);
+    let strings = draft.strings.len();
+    draft.records[SYMBOLS] = strings as u64;
+    later_fault(random, &mut draft);
+    let bytes = placed(random, draft).finish();
+    let what = format!("{place} of {strings} strings");
+    aimed(bytes, 27, place as u64, &what)
+}
+
+/// Shortens a full table, so that up to four more strings do not make it 25. A node may lose its name: 10, which is checked later.
+fn leave_room(draft: &mut Draft) {
+    draft.strings.truncate(MOST - 4);
+}
+
+/// Inserts a string at a number of the table. The nodes keep their names.
+fn insert_string(draft: &mut Draft, number: usize, string: Vec<u8>) {
+    draft.strings.insert(number, string);
+    for node in &mut draft.nodes {
+        node.string += u32::from(node.string as usize >= number);
+    }
+}
+
+/// Repeats a string of a table whose strings all differ; returns the number of the repeat.
+fn repeat_string(random: &Random, draft: &mut Draft) -> usize {
+    if draft.strings.is_empty() {
+        draft.strings.push(Vec::new());
+    }
+    let first = random.below(draft.strings.len());
+    repeat_after(random, draft, first)
+}
+
+/// Repeats the empty string, which is added where the table lacks it; returns the number of the repeat.
+fn repeat_empty(random: &Random, draft: &mut Draft) -> usize {
+    let there = draft.strings.iter().position(|string| string.is_empty());
+    let first = there.unwrap_or_else(|| {
+        let number = random.between(0, draft.strings.len());
+        insert_string(draft, number, Vec::new());
+        number
+    });
+    repeat_after(random, draft, first)
+}
+
+/// Repeats string `first` next to it, at the end, or between. All strings differed, so those before the repeat still do: the repeat is
+/// the lowest string that equals an earlier one. Some drafts get one or two more repeats after it, of the same string or of another.
+fn repeat_after(random: &Random, draft: &mut Draft, first: usize) -> usize {
+    let end = draft.strings.len();
+    let place = random.pick(&[first + 1, end, random.between(first + 1, end)]);
+    let string = draft.strings[first].clone();
+    insert_string(draft, place, string.clone());
+    for _ in 0..random.pick(&[0, 0, 1, 2]) {
+        let number = random.between(place + 1, draft.strings.len());
+        let other = random.pick(&draft.strings[..number]);
+        let again = random.pick(&[string.clone(), other]);
+        insert_string(draft, number, again);
+    }
+    place
+}
+
+/// Makes it 2,048 strings, of which only the last equals an earlier one: the first.
+fn last_as_first(draft: &mut Draft) -> usize {
+    fill(draft, MOST - 1);
+    draft.strings.push(draft.strings[0].clone());
+    MOST - 1
+}
+
+/// Makes all strings equal: string 1 equals string 0.
+fn all_equal(random: &Random, draft: &mut Draft) -> usize {
+    let string = random.pick(&[Vec::new(), new_name(random, &[])]);
+    draft.strings = vec![string; random.pick(&[2, 3, MOST])];
+    1
 }
 
 /// 9: "entry cut short, type not 1 to 5, a 2,049th entry (before its type is read), or count differs".
@@ -331,8 +475,11 @@ fn tree_table(random: &Random) -> Image {
     }
 }
 
-/// An entry's fault is reported whatever the count says.
+/// An entry's fault is reported whatever the count says, and before the nodes' numbers are checked.
 fn tree_fault(random: &Random, mut draft: Draft, place: u64, what: &str) -> Image {
+    if random.one_in(4) {
+        no_numbers(random, &mut draft);
+    }
     if random.one_in(2) {
         draft.records[TREE] = random.pick(&[place, place - 1, 0, u64::MAX]);
     }

@@ -1,5 +1,6 @@
-//! Opening: every refusal from 1 to 13 with its place, in document 01's order: "opening 1 (nothing changed), then 2, text 3,
-//! edition 2's length 2, then 4 to 13, each check over all nodes before the next; sections in the order symbol, tree, data".
+//! Opening: every refusal from 1 to 13 and from 25 to 27 with its place, in document 01's order: "opening 1 (nothing changed), then 2,
+//! text 3, edition 2's length 2, then 4 to 13, each check over all nodes before the next; sections in the order symbol, tree, data".
+//! Request C-11 puts 25, 26 and 27 "after 8 and before 9, in this order".
 
 use crate::format::{big, is_subkey, Edition, Entry, Kind, Refusal, LONGEST_IMAGE, MOST};
 use crate::format::{SIGNATURE, TEXT};
@@ -179,25 +180,35 @@ fn section_sums(image: &[u8], headers: &[Header; 3]) -> Result<(), Refusal> {
     Ok(())
 }
 
-/// 8: "symbol table: not empty and not ended by zero, above 2,048, count differs, or a string twice". The image places.
+/// The symbol table, with the image places of its strings. Request C-11 gives four refusals, each asked of the whole table, in this order:
+///
+/// - 8: "the last byte of a table that is not empty isn't zero", reported 0.
+/// - 25: "above 2,048", reported "the first string beyond 2,048". Strings count from 0, so this is string 2,048.
+/// - 26: "count differs", reported 0. Edition 1 has no count.
+/// - 27: "repeated string", reported "the lowest string that equals an earlier one".
 fn symbol_table(image: &[u8], header: &Header) -> Result<Vec<usize>, Refusal> {
     let bytes = section(image, header.span);
     if bytes.last().is_some_and(|byte| *byte != 0) {
         return Err((8, 0));
     }
-    let mut places = Vec::new();
-    let mut texts = HashSet::new();
-    let mut at = 0;
-    while at < bytes.len() {
-        let text = until_zero(&bytes[at..]);
-        if places.len() == MOST || !texts.insert(text) {
-            return Err((8, 0));
-        }
-        places.push(header.span.offset as usize + at);
-        at += text.len() + 1;
+    // Each string with its zero, up to one string too many.
+    let strings = bytes.split_inclusive(|byte| *byte == 0);
+    let strings: Vec<&[u8]> = strings.take(MOST + 1).collect();
+    if strings.len() > MOST {
+        return Err((25, MOST as u64));
     }
-    if header.records.is_some_and(|n| n != places.len() as u64) {
-        return Err((8, 0));
+    if header.records.is_some_and(|n| n != strings.len() as u64) {
+        return Err((26, 0));
+    }
+    let mut seen = HashSet::new();
+    if let Some(number) = strings.iter().position(|string| !seen.insert(string)) {
+        return Err((27, number as u64));
+    }
+    let mut places = Vec::new();
+    let mut at = header.span.offset as usize;
+    for string in strings {
+        places.push(at);
+        at += string.len();
     }
     Ok(places)
 }

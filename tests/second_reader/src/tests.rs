@@ -1,9 +1,9 @@
-//! Document 01's worked file and cases, and the generator's images beside what their maker knows.
+//! Document 01's worked file and cases, request C-11's symbol tables, and the generator's images beside what their maker knows.
 
 use crate::answers::{decoded, judged, listing, Element, Lent};
-use crate::format::{form_for, is_path, is_subkey, Edition, Kind};
-use crate::images::image;
-use crate::open::open;
+use crate::format::{form_for, is_path, is_subkey, Edition, Kind, Refusal};
+use crate::images::{image, Draft};
+use crate::open::{open, Span};
 use crate::report::Report;
 use crate::runs::{play, worked_calls, Call};
 use crate::writer::{Writer, TEXT_AREA, TREE_AREA};
@@ -75,11 +75,153 @@ fn cases_on_each_side() {
     assert_eq!((Kind::Void.entry(), Kind::Int.entry()), (13, 25));
 }
 
-/// Every image that is made for a verdict gets it, and each verdict from 2 to 13 is met.
+/// What opening answers to an image of two sections: the number of strings, or the refusal. In edition 2 the symbol header has the
+/// count, and the tree header has 0.
+fn opened(edition: Edition, symbols: &[u8], count: u64, tree: &[u8]) -> Result<u64, Refusal> {
+    let header = vec![0; edition.header()];
+    let span = |offset: usize, size: usize| Span {
+        offset: offset as u64,
+        size: size as u64,
+    };
+    let mut draft = Draft {
+        edition,
+        strings: Vec::new(),
+        nodes: Vec::new(),
+        tail: Vec::new(),
+        cut: 0,
+        spans: [
+            span(header.len(), symbols.len()),
+            span(header.len() + symbols.len(), tree.len()),
+            Span::default(),
+        ],
+        bytes: [&header, symbols, tree].concat(),
+        records: [count, 0, 0],
+    };
+    draft.seal();
+    open(&draft.bytes, &edition.form()).map(|opened| opened.record.strings)
+}
+
+/// An entry of type 0: 9 at entry 1.
+const BAD_TREE: &[u8] = &[0];
+
+const EDITIONS: [Edition; 2] = [Edition::One, Edition::Two];
+
+/// A symbol section: each string with its zero.
+fn section(strings: &[&str]) -> Vec<u8> {
+    let ended = |string: &&str| format!("{string}\0").into_bytes();
+    strings.iter().flat_map(ended).collect()
+}
+
+/// A symbol section of so many different strings, s0, s1 and on, and of others after them.
+fn large(count: usize, others: &[&str]) -> Vec<u8> {
+    let different: Vec<String> = (0..count).map(|number| format!("s{number}")).collect();
+    let different: Vec<&str> = different.iter().map(String::as_str).collect();
+    section(&[&different, others].concat())
+}
+
+/// How many zeros a symbol section has: the number of its strings, where the last byte is one.
+fn zeros_in(symbols: &[u8]) -> u64 {
+    symbols.iter().filter(|byte| **byte == 0).count() as u64
+}
+
+/// 25 and 27 with their places, in both editions, also before the tree's 9. The count is right.
+#[test]
+fn strings_too_many_or_repeated() {
+    let tables = [
+        (section(&[]), Ok(0)),
+        (section(&[""]), Ok(1)),
+        (section(&["a", "n"]), Ok(2)),
+        (section(&["a", "ab", "b", "", "A"]), Ok(5)),
+        (section(&["a", "n", "a"]), Err((27, 2))),
+        (section(&["a", "n", "x", "x"]), Err((27, 3))),
+        (section(&["", "a", ""]), Err((27, 2))),
+        (section(&["", ""]), Err((27, 1))),
+        (section(&["a", "a", "a"]), Err((27, 1))),
+        (section(&["a", "b", "b", "a"]), Err((27, 2))),
+        (large(2047, &[]), Ok(2047)),
+        (large(2048, &[]), Ok(2048)),
+        (large(2049, &[]), Err((25, 2048))),
+        (large(3000, &[]), Err((25, 2048))),
+        (large(2047, &["s0"]), Err((27, 2047))),
+        (large(2047, &["s2046"]), Err((27, 2047))),
+        (large(2048, &["s0"]), Err((25, 2048))),
+        (large(2047, &["s0", "s1"]), Err((25, 2048))),
+        (section(&[""; 2048]), Err((27, 1))),
+        (section(&[""; 2049]), Err((25, 2048))),
+        (section(&[""; 9000]), Err((25, 2048))),
+    ];
+    for (symbols, answer) in tables {
+        for edition in EDITIONS {
+            let count = zeros_in(&symbols);
+            assert_eq!(opened(edition, &symbols, count, b""), answer);
+            let with_bad_tree = answer.and(Err((9, 1)));
+            assert_eq!(opened(edition, &symbols, count, BAD_TREE), with_bad_tree);
+        }
+    }
+}
+
+/// 26 in edition 2. Edition 1 has no count.
+#[test]
+fn symbol_counts() {
+    let two = section(&["a", "n"]);
+    for count in [0, 1, 3, (1 << 32) + 2, u64::MAX] {
+        assert_eq!(opened(Edition::Two, &two, count, b""), Err((26, 0)));
+        assert_eq!(opened(Edition::Two, &two, count, BAD_TREE), Err((26, 0)));
+        assert_eq!(opened(Edition::One, &two, count, b""), Ok(2));
+    }
+    assert_eq!(opened(Edition::Two, &two, 2, b""), Ok(2));
+    assert_eq!(opened(Edition::Two, b"", 1, b""), Err((26, 0)));
+    assert_eq!(
+        opened(Edition::Two, &large(2048, &[]), 2047, b""),
+        Err((26, 0))
+    );
+}
+
+/// 8, 25, 26, 27: the first in this order.
+#[test]
+fn symbol_faults_in_order() {
+    let repeated = section(&["a", "n", "a"]);
+    let many = [section(&["a", "a"]), large(2047, &[])].concat();
+    for edition in EDITIONS {
+        for count in [0, 2, 3, 2049] {
+            let wrong = edition == Edition::Two && count != 3;
+            let expected = if wrong { (26, 0) } else { (27, 2) };
+            assert_eq!(opened(edition, &repeated, count, BAD_TREE), Err(expected));
+        }
+        for count in [0, 2048, 2049] {
+            assert_eq!(opened(edition, &many, count, BAD_TREE), Err((25, 2048)));
+        }
+    }
+}
+
+/// 8, whatever else is wrong with the table.
+#[test]
+fn symbols_not_ended() {
+    let tables = [
+        b"a".to_vec(),
+        b"a\0n".to_vec(),
+        b"\0\xff".to_vec(),
+        b"a\0a\0a".to_vec(),
+        [vec![0; 2048], vec![1]].concat(),
+        [large(2999, &[]), b"s2999".to_vec()].concat(),
+        [large(2999, &[]), b"s0".to_vec()].concat(),
+    ];
+    for symbols in tables {
+        let zeros = zeros_in(&symbols);
+        for edition in EDITIONS {
+            for count in [zeros, zeros + 1, zeros + 2] {
+                assert_eq!(opened(edition, &symbols, count, b""), Err((8, 0)));
+                assert_eq!(opened(edition, &symbols, count, BAD_TREE), Err((8, 0)));
+            }
+        }
+    }
+}
+
+/// Every image that is made for a verdict gets it, and each verdict from 2 to 13 and from 25 to 27 is met.
 #[test]
 fn aims() {
     let mut report = Report::default();
-    let mut met = [0; 14];
+    let mut met = [0; 28];
     for number in 0..1500 {
         let image = image(20, number);
         let reported = open(&image.bytes, &form_for(&image.bytes));
@@ -89,8 +231,6 @@ fn aims() {
         met[reported.err().map_or(0, |refusal| refusal.0 as usize)] += 1;
     }
     assert!(report.finish());
-    assert!(
-        (0..14).all(|number| number == 1 || met[number] > 0),
-        "{met:?}"
-    );
+    let mut verdicts = [0].into_iter().chain(2..=13).chain(25..=27);
+    assert!(verdicts.all(|number| met[number] > 0), "{met:?}");
 }

@@ -15,10 +15,11 @@ use Rattle.aff_format.specs.declared.section.Section.{Section}
 use Rattle.aff_format.specs.declared.section.Section.the-variants.{Symbol}
 use Rattle.aff_format.specs.declared.edition.Edition.{Edition}
 use Rattle.aff_tables.specs.passes.Distinct.{Places}
-use Rattle.aff_tables.specs.passes.Results.{AllDistinct}
+use Rattle.aff_tables.specs.declared.symbols.Symbols.{Symbols}
+use Rattle.aff_tables.specs.passes.Results.{AllDistinct, symbolsOf}
 use Rattle.aff_open.specs.Opening.{stringIn, entryIn, stringPlaces, nodePlaces}
 use Rattle.aff_open.specs.Reader.{noReader}
-use Rattle.aff_open.specs.Sections.{stringsIn, nodesIn, sectionOffset, sectionSize, endsPast}
+use Rattle.aff_open.specs.Sections.{stringsIn, nodesIn, sectionOffset, sectionSize, sectionRecords, sectionBytes, endsPast}
 use Rattle.aff_open.specs.declared.header.HeaderResult.{HeaderResult}
 use Rattle.aff_open.specs.declared.header.HeaderResult.the-variants as signed
 use Rattle.aff_open.specs.declared.opening.Opening.{Opening}
@@ -27,13 +28,17 @@ abbrev pub answerOfHeader : HeaderResult → Answer Edition
 answerOfHeader (signed.Found e) = accepted e
 answerOfHeader (signed.Refused r) = refused (codeOfRefusal r)
 
+-- The first fault of an image's symbol table, or how many strings it has.
+abbrev pub symbolsIn : Edition → List ℕ → Symbols
+symbolsIn e image = symbolsOf e (sectionRecords e Symbol image) (sectionBytes e Symbol image)
+
 -- The header is whole, no section ends past the image, and the image is not too long.
 pub record Readable (e : Edition) (image : List ℕ) : Type 0 where
   pub whole : headerSize e ≤ length image
   pub inside : (s : Section) → endsPast e s image ≡ false
   pub short : length image < 2147483648
 
--- What tables that pass 8 and 9 have laid into the two areas.
+-- What tables without a fault have laid into the two areas.
 pub record Filled (e : Edition) (image strings₀ strings entries₀ entries : List ℕ) : Type 0 where
   pub strings-laid : strings ≡ laidOver strings₀ (stringPlaces e image)
   pub entries-laid : entries ≡ laidOver entries₀ (nodePlaces e image)

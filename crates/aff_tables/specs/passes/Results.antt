@@ -1,18 +1,19 @@
--- What the passes over the tables report, in document 01's numbers, and what they keep on the way. A pass reports more than its refusal does: which fault, and which
--- string.
+-- What the passes over the tables report, in document 01's numbers, and what they keep on the way.
 use mathlib.Core.Path.{_≡_}
 use mathlib.Core.Bool.{Bool, true, false, cond, not, _||_}
 use mathlib.Core.List.{List, [], _∷_}
 use Prim.Native.Nat.{ℕ, _+_, _≤_, _<_}
-use lib.Dec.{eqb, leb}
-use lib.ListN.{getD}
+use lib.Dec.{eqb, ltb, leb}
+use lib.ListN.{length, getD}
 use Rattle.aff_format.specs.Answer.{Answer, accepted, refused, Check, refusal, refusalAt}
 use Rattle.aff_format.specs.Kind.{entrySize}
 use Rattle.aff_format.specs.declared.edition.Edition.{Edition}
 use Rattle.aff_format.specs.declared.entry.Entry.{Entry}
 use Rattle.aff_format.specs.declared.entry.FoundEntry.{FoundEntry}
 use Rattle.aff_format.specs.declared.entry.FoundEntry.the-variants.{Whole, Broken}
+use Rattle.aff_format.specs.Limits.{stringLimit}
 use Rattle.aff_format.specs.Lowest.{lowestFrom, checkLowest}
+use Rattle.aff_format.specs.Strings.{stringsOf, endsInZero}
 use Rattle.aff_format.specs.Subkey.{isSubkey}
 use Rattle.aff_format.specs.declared.lowest.Lowest.{Lowest}
 use Rattle.aff_format.specs.declared.lowest.Lowest.the-variants.{Nothing, At}
@@ -21,7 +22,7 @@ use Rattle.aff_tables.specs.passes.Climb.{copiedParent}
 use Rattle.aff_tables.specs.passes.Distinct.{siblingTaken}
 use Rattle.aff_format.specs.Entry.{noParent, noString}
 use Rattle.aff_tables.specs.Nodes.{dataOutside}
-use Rattle.aff_tables.specs.Tables.{isEmpty, namesAt, repeats, countDiffers}
+use Rattle.aff_tables.specs.Tables.{isEmpty, repeats, countDiffers}
 use Rattle.aff_format.specs.Recorded.{recordedString}
 use Rattle.aff_tables.specs.declared.symbols.SplitResult.{SplitResult}
 use Rattle.aff_tables.specs.declared.symbols.SplitResult.the-variants as parted
@@ -39,9 +40,9 @@ splitOf limit n = cond (leb n limit) (parted.Strings n) parted.TooMany
 abbrev pub answerOfSymbols : Symbols → Answer ℕ
 answerOfSymbols (symbols.Strings n) = accepted n
 answerOfSymbols symbols.Unended = refused (refusal 8)
-answerOfSymbols symbols.TooMany = refused (refusal 8)
-answerOfSymbols symbols.CountDiffers = refused (refusal 8)
-answerOfSymbols (symbols.Repeated k) = refused (refusal 8)
+answerOfSymbols symbols.TooMany = refused (refusalAt 25 stringLimit)
+answerOfSymbols symbols.CountDiffers = refused (refusal 26)
+answerOfSymbols (symbols.Repeated k) = refused (refusalAt 27 k)
 
 -- The bytes of the entry that was found; 0 where there is none.
 abbrev pub sizeFound : FoundEntry → ℕ
@@ -57,14 +58,20 @@ answerOfTree (tree.Nodes n) = accepted n
 answerOfTree (tree.BrokenAt k) = refused (refusalAt 9 k)
 answerOfTree tree.CountDiffers = refused (refusal 9)
 
--- After the split of a symbol table into n strings, which begin at some places: the count, then equal strings.
 abbrev pub repeatedOr : ℕ → Lowest → Symbols
 repeatedOr n Nothing = symbols.Strings n
 repeatedOr n (At k) = symbols.Repeated k
 
-abbrev pub countedOf : Edition → ℕ → List ℕ → ℕ → List ℕ → ℕ → Symbols
-countedOf e records image end places n =
-    cond (countDiffers e records n) symbols.CountDiffers (repeatedOr n (lowestFrom (repeats (namesAt image end places)) n 0))
+-- After the split of a symbol table into n strings: the count, then equal strings.
+abbrev pub countedOf : Edition → ℕ → List (List ℕ) → ℕ → Symbols
+countedOf e records strings n = cond (countDiffers e records n) symbols.CountDiffers (repeatedOr n (lowestFrom (repeats strings) n 0))
+
+-- The first fault of the bytes of a symbol section, in the order of `symbolChecks`, or how many strings it has.
+abbrev pub symbolsOf : Edition → ℕ → List ℕ → Symbols
+symbolsOf e records section =
+    cond (not (endsInZero section)) symbols.Unended
+    (cond (ltb stringLimit (length (stringsOf section))) symbols.TooMany
+    (countedOf e records (stringsOf section) (length (stringsOf section))))
 
 -- Whether a string is a subkey, as a number.
 abbrev pub bit : Bool → ℕ
