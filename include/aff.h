@@ -28,34 +28,34 @@ extern "C" {
 // Refusals. Some also report a place, aff_open_image in record[0] and the writer in numbers[0]; the place of the others is 0.
 enum {
     AFF_OK = 0,
-    AFF_ERR_LENGTH = 1,       // A work area or the form has a wrong length, or the image has more than 2,147,483,647 bytes.
-    AFF_ERR_SHORT = 2,        // The image is shorter than its header: 144 bytes, 168 in edition 2.
-    AFF_ERR_SIGNATURE = 3,    // The image does not begin with the text of an edition: it is no AFF file, or one that was never closed.
-    AFF_ERR_FORM = 4,         // The 12 bytes after that text differ from the form that was passed.
-    AFF_ERR_HEADER_SUM = 5,   // The header's MD5 sum is wrong.
-    AFF_ERR_SECTION = 6,      // A section ends past the image. Place: 1 symbols, 2 tree, 3 data.
-    AFF_ERR_SECTION_SUM = 7,  // A section's MD5 sum is wrong. Place: 1 symbols, 2 tree, 3 data.
-    AFF_ERR_SYMBOLS = 8,      // The symbol table is not empty, and its last byte is not zero.
-    AFF_ERR_TREE = 9,         // A tree entry is cut short, of no type, or the 2,049th. Place: the entry; 0 if their number is not the header's.
-    AFF_ERR_NODE = 10,        // A node's parent or string does not exist, or its name is malformed. Place: the lowest such node.
-    AFF_ERR_CYCLE = 11,       // A node's parents do not lead to the root. Place: the lowest such node.
-    AFF_ERR_SIBLING = 12,     // A node has the name of a sibling with a lower number. Place: the lowest such node.
-    AFF_ERR_DATA = 13,        // A node's data is not inside the data section. Place: the lowest such node.
-    AFF_ERR_NAME = 14,        // The path or the name is malformed.
-    AFF_ERR_NOT_FOUND = 15,   // No node has that path or number.
-    AFF_ERR_INDEX = 16,       // The index is not below the number of elements.
-    AFF_ERR_EXISTS = 17,      // The parent has a child of that name already.
-    AFF_ERR_HAS_DATA = 18,    // The node is the root, or it has data already.
-    AFF_ERR_TYPE = 19,        // The type is not 2 to 5, or the bytes are no whole number of elements.
-    AFF_ERR_FULL = 20,        // There would be over 2,048 nodes, over 2,048 strings, or over 32,768 bytes of text.
-    AFF_ERR_SPACE = 21,       // The buffer is too short for the file, or the output for the path or the listing.
-    AFF_ERR_CLOSED = 22,      // The file is closed or stopped.
-    AFF_ERR_ALLOWANCE = 23,   // The allowance is smaller than the number of bytes to store. Place: how many were stored.
-    AFF_ERR_MISMATCH = 24,    // Record, work areas and buffer do not belong together.
-    AFF_ERR_STRINGS = 25,     // The symbol table has over 2,048 strings. Place: 2,048, the first string beyond; strings are counted from 0.
-    AFF_ERR_COUNT = 26,       // The number of strings is not the header's.
-    AFF_ERR_REPEATED = 27,    // A string of the symbol table equals an earlier one. Place: the lowest such string.
-    AFF_ERR_ARGUMENT = 255    // aff_open_image: the record is too short. aff_decode: there is no such type.
+    AFF_ERR_LENGTH = 1,            // A work area or the form has a wrong length, or the image has more than 2,147,483,647 bytes.
+    AFF_ERR_SHORT = 2,             // The image is shorter than its header: 144 bytes, 168 in edition 2.
+    AFF_ERR_SIGNATURE = 3,         // The image does not begin with the text of an edition: it is no AFF file, or one that was never closed.
+    AFF_ERR_FORM = 4,              // The 12 bytes after that text differ from the form that was passed.
+    AFF_ERR_HEADER_SUM = 5,        // The header's MD5 sum is wrong.
+    AFF_ERR_SECTION = 6,           // A section ends past the image. Place: 1 symbols, 2 tree, 3 data.
+    AFF_ERR_SECTION_SUM = 7,       // A section's MD5 sum is wrong. Place: 1 symbols, 2 tree, 3 data.
+    AFF_ERR_SYMBOLS = 8,           // The symbol table is not empty, and its last byte is not zero.
+    AFF_ERR_TREE = 9,              // A tree entry is cut short, of no type, or the 2,049th. Place: the entry; 0 if their number is not the header's.
+    AFF_ERR_NODE = 10,             // A node's parent or string does not exist, or its name is malformed. Place: the lowest such node.
+    AFF_ERR_CYCLE = 11,            // A node's parents do not lead to the root. Place: the lowest such node.
+    AFF_ERR_SIBLING = 12,          // A node has the name of a sibling with a lower number. Place: the lowest such node.
+    AFF_ERR_DATA = 13,             // A node's data is not inside the data section. Place: the lowest such node.
+    AFF_ERR_NAME = 14,             // The path or the name is malformed.
+    AFF_ERR_NOT_FOUND = 15,        // No node has that path or number.
+    AFF_ERR_INDEX = 16,            // The index is not below the number of elements.
+    AFF_ERR_EXISTS = 17,           // The parent has a child of that name already.
+    AFF_ERR_HAS_DATA = 18,         // The node is the root, or it has data already.
+    AFF_ERR_TYPE = 19,             // The type is not 2 to 5, or the bytes are no whole number of elements.
+    AFF_ERR_FULL = 20,             // There would be over 2,048 nodes, over 2,048 strings, or over 32,768 bytes of text.
+    AFF_ERR_SPACE = 21,            // The buffer is too short for the file, or the output for the path or the listing.
+    AFF_ERR_CLOSED = 22,           // The file is closed or stopped.
+    AFF_ERR_ALLOWANCE = 23,        // The allowance is smaller than the number of bytes to store. Place: how many were stored.
+    AFF_ERR_MISMATCH = 24,         // Record, work areas and buffer do not belong together.
+    AFF_ERR_TOO_MANY_STRINGS = 25, // The symbol table has over 2,048 strings. Place: 2,048, the first string beyond; strings are numbered from 0.
+    AFF_ERR_STRING_COUNT = 26,     // Edition 2: the number of strings is not the header's.
+    AFF_ERR_REPEATED_STRING = 27,  // A string of the symbol table equals an earlier one. Place: the lowest such string.
+    AFF_ERR_ARGUMENT = 255         // aff_open_image: the record is too short. aff_decode: there is no such type.
 };
 
 // Lengths: the two work areas and the record of an opening, the writer's two work areas and its numbers, and the form.
@@ -71,11 +71,12 @@ enum { AFF_VOID = 1, AFF_CHAR = 2, AFF_INT = 3, AFF_DOUBLE = 4, AFF_COMPLEX = 5 
 bool aff_form_for(const uint8_t *image, size_t image_length, uint8_t *output, size_t output_length);
 
 // Checks a complete file in memory against all rules of the format, MD5 sums included, and fills both work areas and the record, which the reading
-// calls take. record[0] is the place of a refusal (else 0): a section, a string, an entry or a node, as its number says. [1] the image's length, [2] the edition, [3] and [4] offset and size of the symbol
+// calls take. record[0] is the place of a refusal (else 0), [1] the image's length, [2] the edition, [3] and [4] offset and size of the symbol
 // section, [5] and [6] of the tree section, [7] and [8] of the data section, [9] the number of strings, [10] of nodes without the root, [11] of data
 // records as the header has it.
-// The numbers of its refusals are, in this order, 1 to 8, 25 to 27 and 9 to 13. After 1 the work areas are unchanged, after the others they are all zero;
-// record[1] to record[11] are 0 after all. Returns 255 and changes nothing if the record has fewer than 12 numbers.
+// The checks are made in the order 1 to 8, 25 to 27, 9 to 13, and the first that fails gives the number. The place is that of a section, a string, an entry or a
+// node, by the number. After 1 the work areas are unchanged, after another refusal they are all zero; record[1] to record[11] are 0 after every refusal.
+// Returns 255 and changes nothing if the record has fewer than 12 numbers.
 uint32_t aff_open_image(const uint8_t *image, size_t image_length, const uint8_t *form, size_t form_length, uint32_t *strings,
     size_t strings_length, uint32_t *entries, size_t entries_length, uint64_t *record, size_t record_length);
 

@@ -38,9 +38,9 @@ static const char *meaning(uint32_t number) {
         "the file is closed or stopped",
         "the allowance of stores is spent",
         "record, work areas and image do not belong together",
-        "there are more than 2,048 strings; this is the first beyond, counted from 0",
+        "there are more than 2,048 strings; this is the first beyond, numbered from 0",
         "the number of strings is not the one in the header",
-        "this string, counted from 0, equals an earlier one",
+        "this string, numbered from 0, equals an earlier one",
     };
     return number < sizeof meanings / sizeof *meanings ? meanings[number] : "an argument is wrong";
 }

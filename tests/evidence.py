@@ -102,7 +102,7 @@ def sources():
             ends([read, empty, "/e"], err="an empty array"),
             ends([read, WORKED_FILE, "/b"], 1, err="refused 15 0"),
             ends([read, unfinished, "/a"], 1, err="refused 3 0"),
-            ends([read, repeated, "/a"], 1, err="refused 27 2: this string, counted from 0, equals an earlier one"),
+            ends([read, repeated, "/a"], 1, err="refused 27 2: this string, numbered from 0, equals an earlier one"),
             ends([read], 2, err="usage"),
         ]
     print(f"   samples/read.c: {sum(runs)} of {len(runs)} compilations and runs as expected")

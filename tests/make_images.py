@@ -226,6 +226,8 @@ def symbol_faults():
             ([b"a", b"n", b"x", b"x"], 3),
             ([b"", b"a", b""], 2),
             ([b"a", b"a"], 1),
+            ([b"a", b"a", b"a"], 1),
+            ([b"", b""], 1),
             ([b"a", b"n", b"a", b"n", b"a"], 2),
             ([b"a", b"b", b"b", b"a"], 2),
         ):
@@ -236,12 +238,19 @@ def symbol_faults():
         case(f"edition {ed}: 2,048 strings", i, opened(i))
         case(f"edition {ed}: 2,049 strings", Image(ed, strings=many, entries=one), refused(25, 2048))
         case(f"edition {ed}: 3,000 strings", Image(ed, strings=[b"s%d" % k for k in range(3000)], entries=one), refused(25, 2048))
+        i = Image(ed, strings=[b""], entries=[], data=b"")
+        case(f"edition {ed}: the empty string alone", i, opened(i))
+        case(f"edition {ed}: 2,048 empty strings", Image(ed, strings=[b""] * 2048, entries=[], data=b""), refused(27, 1))
+        case(f"edition {ed}: 2,049 empty strings", Image(ed, strings=[b""] * 2049, entries=[], data=b""), refused(25, 2048))
         i = Image(ed, strings=many[:2047] + [b"s0"], entries=one)
         case(f"edition {ed}: string 2,047 equals string 0", i, refused(27, 2047))
         i = Image(ed, strings=many[:2048] + [b"s0"], entries=one)
         case(f"edition {ed}: string 2,048 equals string 0", i, refused(25, 2048))
-    for n in (1, 3, 2**32 + 2):
+    for n in (0, 1, 3, 2**32 + 2, 2**64 - 1):
         case(f"edition 2: a string count of {n} for 2", changed(2, count={"symbol": n}), refused(26))
+    i = Image(2, strings=many[:2048], entries=one)
+    i.count = {"symbol": 2047}
+    case("edition 2: a string count of 2,047 for 2,048", i, refused(26))
     case("edition 2: a string count of 1 for none", changed(2, strings=[], entries=[], data=b"", count={"symbol": 1}), refused(26))
 
 
@@ -261,8 +270,8 @@ def symbol_faults_together():
         case(f"edition {ed}: strings {twice} and a tree table cut short", i, refused(27, 2))
         i = changed(ed, strings=twice, count={"tree": 3})
         case(f"edition {ed}: strings {twice} and a node count of 3 for 2", i, refused(27, 2))
-        i = Image(ed, strings=twice, entries=[entry(VOID, 9, 9)])
-        case(f"edition {ed}: strings {twice} and a node astray", i, refused(27, 2))
+        i = Image(ed, strings=twice, entries=[entry(VOID, 9, 0)])
+        case(f"edition {ed}: strings {twice} and a node whose parent does not exist", i, refused(27, 2))
         i = Image(ed, strings=many, entries=one)
         i.symbols = i.symbols[:-1]
         case(f"edition {ed}: 2,049 strings, the last without its zero", i, refused(8))
@@ -385,6 +394,7 @@ def main():
     node_faults()
     crate = os.path.join(top, "crates", "test_open")
     os.makedirs(crate, exist_ok=True)
+    os.makedirs(os.path.join(top, "tests"), exist_ok=True)
     out, index = [], ["The images of crates/test_open/stdin, made by tests/make_images.py, and what each is answered with.", ""]
     stdin = b""
     for k, (name, image, expect, source) in enumerate(CASES):

@@ -5,7 +5,7 @@ use Rattle.aff_format.specs.Limits.{stringLimit}
 use Rattle.aff_format.specs.Section.{sectionNumber}
 use Rattle.aff_format.specs.declared.refusal.RefusalCode.{RefusalCode}
 use Rattle.aff_format.specs.declared.refusal.Refusal.{Refusal}
-use Rattle.aff_format.specs.declared.refusal.Refusal.the-variants.{WrongLength, ShortImage, UnknownText, WrongForm, WrongHeaderSum, SectionOutside, WrongSectionSum, UnendedSymbolTable, BadTreeTable, BadLink, EndlessClimb, RepeatedName, DataOutside, Malformed, Absent, IndexTooLarge, ChildExists, DataTaken, WrongData, TooMany, BufferTooSmall, NotOpen, AllowanceSpent, WrongRecord, TooManyStrings, WrongStringCount, RepeatedString}
+use Rattle.aff_format.specs.declared.refusal.Refusal.the-variants.{WrongLength, ShortImage, UnknownText, WrongForm, WrongHeaderSum, SectionOutside, WrongSectionSum, UnterminatedSymbolTable, BadTreeTable, BadLink, EndlessClimb, RepeatedName, DataOutside, Malformed, Absent, IndexTooLarge, ChildExists, DataTaken, WrongData, TooMany, BufferTooSmall, NotOpen, AllowanceSpent, WrongRecord, TooManyStrings, WrongStringCount, RepeatedString}
 
 -- Columns 'No.' and 'Place told'. Every promise about a refusal goes through this table.
 abbrev pub codeOfRefusal : Refusal → RefusalCode
@@ -16,7 +16,7 @@ codeOfRefusal WrongForm = refusal 4
 codeOfRefusal WrongHeaderSum = refusal 5
 codeOfRefusal (SectionOutside section) = refusalAt 6 (sectionNumber section)
 codeOfRefusal (WrongSectionSum section) = refusalAt 7 (sectionNumber section)
-codeOfRefusal UnendedSymbolTable = refusal 8
+codeOfRefusal UnterminatedSymbolTable = refusal 8
 codeOfRefusal (BadTreeTable entry) = refusalAt 9 entry
 codeOfRefusal (BadLink node inName) = record { number = 10; place = node; second = inName }
 codeOfRefusal (EndlessClimb node) = refusalAt 11 node

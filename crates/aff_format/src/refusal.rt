@@ -22,7 +22,7 @@ pub enum Refusal {
     // The sum of a section is wrong.
     WrongSectionSum(Section),
     // The symbol table is not empty, and its last byte is not zero.
-    UnendedSymbolTable,
+    UnterminatedSymbolTable,
     // An entry is cut short, of no type or one too many; 0: the count differs.
     BadTreeTable(usize),
     // A node's parent or string does not exist, or its string is no subkey; the place in the string.
@@ -59,7 +59,7 @@ pub enum Refusal {
     TooManyStrings,
     // The record count of the symbol section is not the number of strings.
     WrongStringCount,
-    // A string equals an earlier one; the lowest such string, counted from 0.
+    // A string equals an earlier one; the lowest such string, numbered from 0.
     RepeatedString(usize),
 }
 
@@ -103,7 +103,7 @@ impl Refusal {
             Refusal::WrongHeaderSum => alone(5),
             Refusal::SectionOutside(section) => with_place(6, section.number()),
             Refusal::WrongSectionSum(section) => with_place(7, section.number()),
-            Refusal::UnendedSymbolTable => alone(8),
+            Refusal::UnterminatedSymbolTable => alone(8),
             Refusal::BadTreeTable(entry) => with_place(9, entry),
             Refusal::BadLink(node, in_name) => RefusalCode {
                 number: 10,

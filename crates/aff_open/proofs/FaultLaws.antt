@@ -27,7 +27,7 @@ use Rattle.aff_format.proofs.SameLaws.{same-eq, same-refl, ne-same}
 use Rattle.aff_format.proofs.StringsLaws.{endsInZero-textOf, textOf-stringsOf}
 use Rattle.aff_format.specs.Rule.{Rule, AllHold, FirstFails, Settled, eachFrom}
 use Rattle.aff_open.specs.Rules.{Inside, Summed, Counted, Unrepeated, FirstRepeat, Linked, Climbs, NameFree, DataInside}
-use Rattle.aff_open.specs.Faults.{nodeRules, treeRules, tableRules, symbolRules, sectionRules, editionRules, rulesBefore27, rules}
+use Rattle.aff_open.specs.Faults.{nodeRules, treeRules, rulesFrom27, symbolRules, sectionRules, editionRules, rulesBefore27, rules}
 use Rattle.aff_tables.specs.Tables.{nodeEntry, isEmpty, countDiffers, repeats}
 use Rattle.aff_tables.specs.Nodes.{Contents, contentsOf, linkWrong, climbEndless, nameTaken, sameSite, dataOutside}
 use Rattle.aff_open.specs.Opening.{lengthsWrong, nodesChecked, tableChecks, formChecks, bodyChecks, upToTables, openChecks, openAnswer, readerFor, entryIn, contentsIn}
@@ -147,7 +147,7 @@ module _ (e : Edition) (image : List ℕ) where
 
   -- The rules from the symbol table on.
   abbrev from-tables : List Rule
-  from-tables = symbolRules e image (stringsIn e image) ++ tableRules e image (stringsIn e image) (nodesIn e image)
+  from-tables = symbolRules e image (stringsIn e image) ++ rulesFrom27 e image (stringsIn e image) (nodesIn e image)
 
   tables-ask : AskFor (tableChecks e image ++ nodesChecked e image) from-tables
   tables-ask =

@@ -20,7 +20,7 @@ use Rattle.aff_format.proofs.EditionLaws.{header-least}
 use Rattle.aff_format.proofs.StringsLaws.{stringsOf-textOf, strings-without-zero, each-at}
 use Rattle.aff_format.specs.Rule.{Rule, AllHold, eachFrom}
 use Rattle.aff_open.specs.Rules.{Inside, Summed, Unrepeated, Distinct, Linked, Climbs, NameFree, DataInside}
-use Rattle.aff_open.specs.Faults.{nodeRules, treeRules, tableRules, symbolRules, sectionRules, rules}
+use Rattle.aff_open.specs.Faults.{nodeRules, treeRules, rulesFrom27, symbolRules, sectionRules, rules}
 use Rattle.aff_open.specs.Obeys.{Obeys}
 use Rattle.aff_open.specs.Opening.{openAnswer, readerFor}
 use Rattle.aff_open.specs.Sections.{orTwo, editionIn, sectionOffset, sectionSize, sectionBytes, stringsIn, nodesIn, bytesAfterNodes}
@@ -80,12 +80,12 @@ module _ (e : Edition) (image : List ℕ) (strings : List (List ℕ)) (entries :
       (hold-each 13 (DataInside e image entries) [] n 1 inside tt)))
 
   -- Each string differs from those before it; then the tree table and the nodes.
-  strings-hold : AllHold (tableRules e image strings entries) → Distinct strings × AllHold (treeRules e image entries ++ nodeRules e image strings entries)
+  strings-hold : AllHold (rulesFrom27 e image strings entries) → Distinct strings × AllHold (treeRules e image entries ++ nodeRules e image strings entries)
   strings-hold h =
       let (unrepeated, more) = each-hold _ (Unrepeated strings) (treeRules e image entries ++ nodeRules e image strings entries) (length strings) 0 h in
       (λ k l. unrepeated k (omega arith) (omega arith), more)
 
-  hold-strings : Distinct strings → AllHold (treeRules e image entries ++ nodeRules e image strings entries) → AllHold (tableRules e image strings entries)
+  hold-strings : Distinct strings → AllHold (treeRules e image entries ++ nodeRules e image strings entries) → AllHold (rulesFrom27 e image strings entries)
   hold-strings distinct more =
       hold-each _ (Unrepeated strings) (treeRules e image entries ++ nodeRules e image strings entries) (length strings) 0
       (λ k lo hi. distinct k (omega arith)) more
@@ -155,7 +155,7 @@ module _ {image form : List ℕ} (o : Obeys image form) where
   -- The rules from the symbol table on.
   abbrev from-tables : List Rule
   from-tables =
-      symbolRules (o .edition) image (stringsIn (o .edition) image) ++ tableRules (o .edition) image (stringsIn (o .edition) image) (nodesIn (o .edition) image)
+      symbolRules (o .edition) image (stringsIn (o .edition) image) ++ rulesFrom27 (o .edition) image (stringsIn (o .edition) image) (nodesIn (o .edition) image)
 
   tables-hold : AllHold from-tables
   tables-hold =

@@ -18,32 +18,20 @@ use Rattle.aff_format.specs.declared.entry.Entry.{Entry}
 use Rattle.aff_open.specs.Rules.{Inside, Summed, Counted, Unrepeated, Linked, Climbs, NameFree, DataInside}
 use Rattle.aff_open.specs.Sections.{editionIn, sectionBytes, stringsIn, nodesIn, bytesAfterNodes}
 
--- 10 to 13, each over all nodes before the next.
-abbrev pub nodeRules : Edition → List ℕ → List (List ℕ) → List Entry → List Rule
-nodeRules e image strings entries =
-    eachFrom 10 (Linked e strings entries) (length entries) 1
-    (eachFrom 11 (Climbs entries) (length entries) 1
-    (eachFrom 12 (NameFree strings entries) (length entries) 1
-    (eachFrom 13 (DataInside e image entries) (length entries) 1 [])))
-
--- 9. After the whole entries comes nothing: else entry number so many and one is cut short, of no type or the 2,049th.
-abbrev pub treeRules : Edition → List ℕ → List Entry → List Rule
-treeRules e image entries =
-    rule (bytesAfterNodes e image ≡ []) (refusalAt 9 (length entries + 1))
-    ∷ rule (Counted e Tree image (length entries)) (refusal 9)
+-- 1, then 2, text 3. `strings` and `entries` are the lengths of the areas passed.
+abbrev pub textRules : List ℕ → List ℕ → ℕ → ℕ → List Rule
+textRules image form strings entries =
+    rule ((length form ≡ 12) × (strings ≡ stringLimit) × (entries ≡ nodeLimit) × (length image ≤ imageLimit)) (refusal 1)
+    ∷ rule (144 ≤ length image) (refusal 2)
+    ∷ rule ((e : Edition) × (take 20 image ≡ signatureText e)) (refusal 3)
     ∷ []
 
--- 27, string by string; then 9 and the nodes.
-abbrev pub tableRules : Edition → List ℕ → List (List ℕ) → List Entry → List Rule
-tableRules e image strings entries =
-    eachFrom 27 (Unrepeated strings) (length strings) 0 (treeRules e image entries ++ nodeRules e image strings entries)
-
--- 8, 25 and 26, of the symbol table. 25 reports the first string beyond the limit: strings are counted from 0.
-abbrev pub symbolRules : Edition → List ℕ → List (List ℕ) → List Rule
-symbolRules e image strings =
-    rule (sectionBytes e Symbol image ≡ textOf strings) (refusal 8)
-    ∷ rule (length strings ≤ stringLimit) (refusalAt 25 stringLimit)
-    ∷ rule (Counted e Symbol image (length strings)) (refusal 26)
+-- After the text, in its edition: 2 by the edition's length, 4, 5.
+abbrev pub editionRules : Edition → List ℕ → List ℕ → List Rule
+editionRules e image form =
+    rule (headerSize e ≤ length image) (refusal 2)
+    ∷ rule (part 20 12 image ≡ form) (refusal 4)
+    ∷ rule (part (headerSumAt e) 16 image ≡ md5 (take (headerSumAt e) image)) (refusal 5)
     ∷ []
 
 -- 6, then 7, over the sections.
@@ -57,31 +45,42 @@ sectionRules e image =
     ∷ rule (Summed e Data image) (refusalAt 7 3)
     ∷ []
 
--- After the text, in its edition: 2 by the edition's length, 4, 5.
-abbrev pub editionRules : Edition → List ℕ → List ℕ → List Rule
-editionRules e image form =
-    rule (headerSize e ≤ length image) (refusal 2)
-    ∷ rule (part 20 12 image ≡ form) (refusal 4)
-    ∷ rule (part (headerSumAt e) 16 image ≡ md5 (take (headerSumAt e) image)) (refusal 5)
+-- 8, 25 and 26, of the symbol table. 25 reports the first string beyond the limit: strings are numbered from 0.
+abbrev pub symbolRules : Edition → List ℕ → List (List ℕ) → List Rule
+symbolRules e image strings =
+    rule (sectionBytes e Symbol image ≡ textOf strings) (refusal 8)
+    ∷ rule (length strings ≤ stringLimit) (refusalAt 25 stringLimit)
+    ∷ rule (Counted e Symbol image (length strings)) (refusal 26)
     ∷ []
 
--- 1, then 2, text 3. `strings` and `entries` are the lengths of the areas passed.
-abbrev pub textRules : List ℕ → List ℕ → ℕ → ℕ → List Rule
-textRules image form strings entries =
-    rule ((length form ≡ 12) × (strings ≡ stringLimit) × (entries ≡ nodeLimit) × (length image ≤ imageLimit)) (refusal 1)
-    ∷ rule (144 ≤ length image) (refusal 2)
-    ∷ rule ((e : Edition) × (take 20 image ≡ signatureText e)) (refusal 3)
+-- 9. After the whole entries comes nothing: else entry number so many and one is cut short, of no type or the 2,049th.
+abbrev pub treeRules : Edition → List ℕ → List Entry → List Rule
+treeRules e image entries =
+    rule (bytesAfterNodes e image ≡ []) (refusalAt 9 (length entries + 1))
+    ∷ rule (Counted e Tree image (length entries)) (refusal 9)
     ∷ []
 
--- All that is asked before equal strings.
+-- 10 to 13, each over all nodes before the next.
+abbrev pub nodeRules : Edition → List ℕ → List (List ℕ) → List Entry → List Rule
+nodeRules e image strings entries =
+    eachFrom 10 (Linked e strings entries) (length entries) 1
+    (eachFrom 11 (Climbs entries) (length entries) 1
+    (eachFrom 12 (NameFree strings entries) (length entries) 1
+    (eachFrom 13 (DataInside e image entries) (length entries) 1 [])))
+
+-- All that is asked before equal strings; then 27, string by string, and all that is asked after it.
 abbrev pub rulesBefore27 : List ℕ → List ℕ → ℕ → ℕ → List Rule
 rulesBefore27 image form strings entries =
     textRules image form strings entries
     ++ (editionRules (editionIn image) image form
     ++ (sectionRules (editionIn image) image ++ symbolRules (editionIn image) image (stringsIn (editionIn image) image)))
 
+abbrev pub rulesFrom27 : Edition → List ℕ → List (List ℕ) → List Entry → List Rule
+rulesFrom27 e image strings entries =
+    eachFrom 27 (Unrepeated strings) (length strings) 0 (treeRules e image entries ++ nodeRules e image strings entries)
+
 -- Order: 1, then 2, text 3, edition 2's length 2, then 4 to 8, 25 to 27, 9 to 13.
 unfoldable pub rules : List ℕ → List ℕ → ℕ → ℕ → List Rule
 rules image form strings entries =
     rulesBefore27 image form strings entries
-    ++ tableRules (editionIn image) image (stringsIn (editionIn image) image) (nodesIn (editionIn image) image)
+    ++ rulesFrom27 (editionIn image) image (stringsIn (editionIn image) image) (nodesIn (editionIn image) image)

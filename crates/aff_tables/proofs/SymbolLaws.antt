@@ -21,7 +21,7 @@ use Rattle.aff_format.proofs.LowestLaws.{clear-lowest}
 use Rattle.aff_format.proofs.StringsLaws.{length-placesOf, placesOf-from, string-begins, string-ends, string-in-section}
 use Rattle.aff_tables.specs.passes.Distinct.{Places}
 use Rattle.aff_tables.specs.Tables.{symbolChecks, countDiffers, namesAt, repeats}
-use Rattle.aff_tables.specs.passes.Results.{splitOf, answerOfSymbols, repeatedOr, countedOf, symbolsOf}
+use Rattle.aff_tables.specs.passes.Results.{splitOf, answerOfSymbols, countedOf, symbolsOf}
 use Rattle.aff_format.specs.Recorded.{recordedString, nameFrom}
 use Rattle.aff_tables.proofs.SlicedLaws.{sliced, sliced-part}
 use Rattle.aff_tables.specs.declared.symbols.SplitResult.{SplitResult}
@@ -128,8 +128,8 @@ module _ (e : Edition) (records : ℕ) (image : List ℕ) (from size : ℕ) (are
   ends-is : endsInZero (part from size image) ≡ b
   ends-is = ap endsInZero (sym (sliced-part image from size)) ∙ sym ends
 
-  pub table-unended : b ≡ false → SymbolTable e records image from size area₀ area symbols.Unended
-  table-unended h = (rw (ends-is, h), λ n q. not-both q)
+  pub table-unterminated : b ≡ false → SymbolTable e records image from size area₀ area symbols.Unterminated
+  table-unterminated h = (rw (ends-is, h), λ n q. not-both q)
 
   module _ (long : length area₀ ≡ 2048) {p : SplitResult} (parts : p ≡ splitOf (length area₀) (length (stringsOf (sliced image from size))))
       (laid : area ≡ laidOver area₀ (placesOf from (stringsOf (sliced image from size)))) where

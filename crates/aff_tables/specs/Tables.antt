@@ -65,7 +65,7 @@ unfoldable pub countDiffers : Edition → ℕ → ℕ → Bool
 countDiffers e records n = hasCounts e && not (eqb records n)
 
 -- Of the bytes of a symbol section: 8, it is not empty and its last byte is not zero; 25, more than 2,048 strings, with the first beyond; 26, another count;
--- 27, a string that equals an earlier one, with the lowest such string. Strings are counted from 0.
+-- 27, a string that equals an earlier one, with the lowest such string. Strings are numbered from 0.
 abbrev pub symbolChecks : Edition → ℕ → List ℕ → List Check
 symbolChecks e records section =
     check (not (endsInZero section)) (refusal 8)

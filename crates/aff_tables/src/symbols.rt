@@ -19,12 +19,16 @@ pub enum SplitResult {
     TooMany,
 }
 
-// The first fault of a symbol table, or how many strings it has: 8, 25, 26, and 27 with the lowest string that equals an earlier one.
+// The first fault of a symbol table, or how many strings it has.
 pub enum Symbols {
     Strings(usize),
-    Unended,
+    // 8.
+    Unterminated,
+    // 25.
     TooMany,
+    // 26.
     CountDiffers,
+    // 27, with the lowest string that equals an earlier one.
     Repeated(usize),
 }
 
@@ -107,7 +111,7 @@ pub fn symbol_table(
 {
     let end = from + size;
     if !ended(&image[from..end]) {
-        return Symbols::Unended;
+        return Symbols::Unterminated;
     }
     match split(&image[from..end], from, places) {
         SplitResult::TooMany => Symbols::TooMany,

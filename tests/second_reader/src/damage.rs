@@ -1,5 +1,5 @@
 //! Damaged images: each kind of damage aims at one refusal from 2 to 13 or from 25 to 27, with the sums made right again where the
-//! fault lies after them. The base is a lawful image whose sections stand apart, so that number and place are known beforehand.
+//! fault lies after them. The base is a lawful image whose sections do not overlap, so that number and place are known beforehand.
 
 use crate::format::{big, Edition, Kind, MOST, SIGNATURE, TEXT};
 use crate::images::{apart, image, Aim, Draft, Image, Node, DATA, NO_SUBKEYS, SYMBOLS, TREE};
@@ -347,7 +347,7 @@ fn symbol_count(random: &Random) -> Image {
     draft.edition = Edition::Two;
     let repeated = random.one_in(3);
     if repeated {
-        leave_room(&mut draft);
+        shorten(&mut draft);
         repeat_string(random, &mut draft);
     }
     let strings = draft.strings.len();
@@ -362,7 +362,7 @@ fn symbol_count(random: &Random) -> Image {
 /// 27: "repeated string", reported "the lowest string that equals an earlier one". The count is right.
 fn repeated_string(random: &Random) -> Image {
     let mut draft = tables(random);
-    leave_room(&mut draft);
+    shorten(&mut draft);
     let place = match random.below(8) {
         0 => last_as_first(&mut draft),
         1 => all_equal(random, &mut draft),
@@ -378,7 +378,7 @@ fn repeated_string(random: &Random) -> Image {
 }
 
 /// Shortens a full table, so that up to four more strings do not make it 25. A node may lose its name: 10, which is checked later.
-fn leave_room(draft: &mut Draft) {
+fn shorten(draft: &mut Draft) {
     draft.strings.truncate(MOST - 4);
 }
 

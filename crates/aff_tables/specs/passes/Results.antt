@@ -39,7 +39,7 @@ splitOf limit n = cond (leb n limit) (parted.Strings n) parted.TooMany
 
 abbrev pub answerOfSymbols : Symbols → Answer ℕ
 answerOfSymbols (symbols.Strings n) = accepted n
-answerOfSymbols symbols.Unended = refused (refusal 8)
+answerOfSymbols symbols.Unterminated = refused (refusal 8)
 answerOfSymbols symbols.TooMany = refused (refusalAt 25 stringLimit)
 answerOfSymbols symbols.CountDiffers = refused (refusal 26)
 answerOfSymbols (symbols.Repeated k) = refused (refusalAt 27 k)
@@ -69,7 +69,7 @@ countedOf e records strings n = cond (countDiffers e records n) symbols.CountDif
 -- The first fault of the bytes of a symbol section, in the order of `symbolChecks`, or how many strings it has.
 abbrev pub symbolsOf : Edition → ℕ → List ℕ → Symbols
 symbolsOf e records section =
-    cond (not (endsInZero section)) symbols.Unended
+    cond (not (endsInZero section)) symbols.Unterminated
     (cond (ltb stringLimit (length (stringsOf section))) symbols.TooMany
     (countedOf e records (stringsOf section) (length (stringsOf section))))
 

@@ -2,7 +2,7 @@
 use borrow.Author.Needs.{needs}
 use mathlib.Core.Path.{sym, ap, _∙_}
 use lib.ListN.{length}
-use Rattle.aff_format.specs.declared.refusal.Refusal.the-variants.{UnendedSymbolTable, TooManyStrings, WrongStringCount, RepeatedString}
+use Rattle.aff_format.specs.declared.refusal.Refusal.the-variants.{UnterminatedSymbolTable, TooManyStrings, WrongStringCount, RepeatedString}
 use Rattle.aff_format.proofs.AnswerLaws.{passed-before, passed-value}
 use Rattle.aff_tables.specs.passes.Results.{answerOfSymbols}
 use Rattle.aff_open.specs.Opening.{symbolsChecked, treeChecked, sizesIn}
@@ -35,7 +35,7 @@ returns-2 : tie.Need-returns-2
 returns-2 c =
     let a = c .before .before .before .before .before .before .before .before .before .args in
     let t = c .before .before .before .before .symbol-table in
-    symbols-refuse UnendedSymbolTable (a .edition) (a .image .now) (t .ensures .0) (ap answerOfSymbols (c .enum-told .given .1))
+    symbols-refuse UnterminatedSymbolTable (a .edition) (a .image .now) (t .ensures .0) (ap answerOfSymbols (c .enum-told .given .1))
 
 returns-3 : tie.Need-returns-3
 returns-3 c =

@@ -3,14 +3,14 @@ use borrow.Author.Needs.{needs}
 use native.Mathlib.Omega.{arith}
 use borrow.Author.Tests.{not-true, not-false}
 use Rattle.aff_tables.proofs.SlicedLaws.{sliced-short}
-use Rattle.aff_tables.proofs.SymbolLaws.{table-unended, table-many, table-places, table-counted}
+use Rattle.aff_tables.proofs.SymbolLaws.{table-unterminated, table-many, table-places, table-counted}
 use Rattle.aff_tables.proofs.symbols.symbol_table.Statement.{statement}
 use Rattle.aff_tables.proofs.symbols.symbol_table.Tie as tie
 
 returns : tie.Need-returns
 returns c =
     let a = c .before .before .before .before .before .args in
-    table-unended (a .edition) (a .records) (a .image .now) (a .from) (a .size) _ _ (c .before .ended .ensures) (not-true _ (c .if1 .taken))
+    table-unterminated (a .edition) (a .records) (a .image .now) (a .from) (a .size) _ _ (c .before .ended .ensures) (not-true _ (c .if1 .taken))
 
 split-requires : tie.Need-split-requires
 split-requires c κs =
