@@ -74,9 +74,9 @@ bool aff_form_for(const uint8_t *image, size_t image_length, uint8_t *output, si
 // calls take. record[0] is the place of a refusal (else 0), [1] the image's length, [2] the edition, [3] and [4] offset and size of the symbol
 // section, [5] and [6] of the tree section, [7] and [8] of the data section, [9] the number of strings, [10] of nodes without the root, [11] of data
 // records as the header has it.
-// The checks are made in the order 1 to 8, 25 to 27, 9 to 13, and the first that fails gives the number. The place is that of a section, a string, an entry or a
-// node, by the number. After 1 the work areas are unchanged, after another refusal they are all zero; record[1] to record[11] are 0 after every refusal.
-// Returns 255 and changes nothing if the record has fewer than 12 numbers.
+// The faults are looked for in the order 1 to 8, 25 to 27, 9 to 13, and the first found is the number. The place is that of a section, a string, an entry
+// or a node, by the number. After 1 the work areas are unchanged, after another refusal they are all zero; record[1] to record[11] are 0 after every
+// refusal. Returns 255 and changes nothing if the record has fewer than 12 numbers.
 uint32_t aff_open_image(const uint8_t *image, size_t image_length, const uint8_t *form, size_t form_length, uint32_t *strings,
     size_t strings_length, uint32_t *entries, size_t entries_length, uint64_t *record, size_t record_length);
 
