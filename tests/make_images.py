@@ -88,7 +88,7 @@ class Image:
             return out + (self.sum if self.sum is not None else md5(out))
 
         image = bytes(h) + body
-        # a section that covers header bytes is summed as the file finally stands; two turns settle those that cover no sum
+        # a section that covers header bytes is summed as the file finally is; two turns settle those that cover no sum
         for _ in range(3):
             image = header(image) + body
         self.where = at
@@ -139,7 +139,7 @@ def lawful():
         i = changed(ed, strings=[b"a", b"n", b"", b"9 is no subkey"])
         case(f"edition {ed}: unused strings, the empty one and no subkey among them", i, opened(i))
         i = changed(ed, tail=b"\0" * 5)
-        case(f"edition {ed}: bytes of no section behind", i, opened(i))
+        case(f"edition {ed}: bytes of no section at the end", i, opened(i))
         i = changed(ed, strings=[], entries=[], data=b"")
         case(f"edition {ed}: nothing but a header", i, opened(i))
         i = changed(ed, strings=[], entries=[], data=b"")
@@ -306,7 +306,7 @@ def tree_faults():
         i = Image(ed, strings=[b"n"], entries=full + [entry(VOID, 0, 0)], data=b"")
         case(f"edition {ed}: 2,049 nodes", i, refused(9, 2049))
         i = Image(ed, strings=[b"n"], entries=full + [b"\0"], data=b"")
-        case(f"edition {ed}: one byte behind 2,048 nodes", i, refused(9, 2049))
+        case(f"edition {ed}: one byte after 2,048 nodes", i, refused(9, 2049))
     for n in (1, 3, 2**32 + 2):
         case(f"edition 2: a node count of {n} for 2", changed(2, count={"tree": n}), refused(9))
     i = changed(2, count={"tree": 1})
@@ -404,8 +404,8 @@ def main():
         index.append("%d %s: %s" % (k, name, line))
     for what in ("strings of 2,047", "strings of 2,049", "entries of 2,047", "entries of 2,049", "a form of 11", "a form of 13"):
         line = "refused 1 0 unchanged"
-        out.append("lent " + line)
-        index.append("lent %s: %s" % (what, line))
+        out.append("passed " + line)
+        index.append("passed %s: %s" % (what, line))
     with open(os.path.join(crate, "stdin"), "wb") as f:
         f.write(stdin)
     with open(os.path.join(crate, "stdout"), "w") as f:

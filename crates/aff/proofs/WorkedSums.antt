@@ -1,4 +1,4 @@
--- The four sums that stand in the worked file, each computed from the definition of the digest over the bytes that it is of.
+-- The four sums in the worked file, each computed from the definition of the digest over the bytes that it is of.
 -- Assumes nothing.
 use mathlib.Core.Path.{_≡_, refl}
 use mathlib.Core.List.{List, [], _∷_}

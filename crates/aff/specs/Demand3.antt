@@ -2,7 +2,7 @@
 -- and every number k of byte stores made before a kill: where none is made the buffer is as it was; where all are made and a close was accepted, the
 -- buffer opens and shows exactly the tree that the calls describe; otherwise opening answers 3. One claim, over the very definitions that the
 -- contracts of begin, make, put and close, of opening and of the reading calls cite.
--- The customer's words, and what stands for them here:
+-- The customer's words, and the names that say them here:
 --   a list of writer calls                a `Run`: what begin is given, and `run .calls`, the calls after it
 --   byte stores                           `runStores run`, all of them, in the order in which they are made
 --   k stores made before a kill           the first k of them; the buffer is then `bufferAt run k`

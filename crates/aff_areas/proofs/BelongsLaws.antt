@@ -117,7 +117,7 @@ slot-kept strings size k (Whole e) h =
     let (s, d) = or-false _ _ r in
     (refl, record { parent = leb-false _ _ p; string = leb-false _ _ s; inside = data-asks dataPlace size e .0 d })
 
--- A node by what stands in its slot.
+-- A node by the content of its slot.
 pub node-judged : (strings size : ℕ) (tree : List ℕ) (k : ℕ) {f : FoundEntry} {r b : Bool} → f ≡ foundSlot tree k → r ≡ slotLost strings size k f → r ≡ b
     → writerNodeLost strings size tree k ≡ b
 unfolding writerNodeLost

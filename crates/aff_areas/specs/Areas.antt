@@ -23,7 +23,7 @@ namesIn writer text = stringsOf (usedText writer text)
 abbrev pub slotAt : ℕ → ℕ
 slotAt k = 25 * (k - 1)
 
--- What stands there.
+-- Its content.
 abbrev pub foundSlot : List ℕ → ℕ → FoundEntry
 foundSlot tree k = entryOf (drop (slotAt k) tree)
 

@@ -17,7 +17,7 @@ ghost use Rattle.aff_format.specs.Kind.{entrySize, isVoid};
 ghost use Rattle.aff_format.specs.Limits.{imageLimit, nodeLimit, textArea, treeArea};
 ghost use Rattle.aff_areas.specs.Areas.{slotAt, foundSlot, slotEntry, entrySizes, entriesOut, dataNodes, finishedSize};
 
-// What stands in the slot of a node that is not the root.
+// The content of the slot of a node that is not the root.
 pub fn found_slot(tree: &[u8], node: usize) -> FoundEntry
     requires { ⌜ (0 < node) × (node ≤ nodeLimit) ⌝ }
     ensures { λ r. ⌜ r ≡ foundSlot (now (tree .entry)) node ⌝ }

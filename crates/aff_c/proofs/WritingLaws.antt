@@ -1,4 +1,4 @@
--- What the exported writing functions leave, from what the calls promise of the record that numbers and form stand for. Assumes nothing.
+-- What the exported writing functions leave, from what the calls promise of the record with these numbers and this form. Assumes nothing.
 use mathlib.Core.Path.{_≡_, refl, sym, subst, _∙_}
 use mathlib.Core.Bool.{Bool, true, false, cond}
 use mathlib.Core.List.{List}

@@ -152,7 +152,7 @@ pub extern "C" fn aff_lookup(
     put_number(answer, node)
 }
 
-// Where the name of a node stands in the image, as `aff_read::node::name_bounds` reports.
+// Where the name of a node is in the image, as `aff_read::node::name_bounds` reports.
 #[no_mangle]
 pub extern "C" fn aff_name(
     image: &[u8],
@@ -255,7 +255,7 @@ pub extern "C" fn aff_listing(
     put_number(answer, count)
 }
 
-// Where the data of a node stand in the image, as `aff_read::node::view_bounds` reports.
+// Where the data of a node are in the image, as `aff_read::node::view_bounds` reports.
 #[no_mangle]
 pub extern "C" fn aff_view(
     image: &[u8],

@@ -50,7 +50,7 @@ same-refusal [] a b e = let z : _≡_ {A = ℕ} 0 1 = cc in absurd (omega arith)
 same-refusal (check true q ∷ checks) a b e = cc
 same-refusal (check false q ∷ checks) a b e = same-refusal checks a b e
 
--- Checks and more checks after them: a refusal of the first stands; where they pass, the others decide.
+-- Checks and more checks after them: a refusal of the first is the answer; where they pass, the others decide.
 pub refused-before : {A B : Type 0} (before after : List Check) (a : A) (b : B) {t : RefusalCode} → firstWrong before a ≡ refused t
     → firstWrong (before ++ after) b ≡ refused t
 refused-before [] after a b e = let z : _≡_ {A = ℕ} 0 1 = cc in absurd (omega arith)

@@ -36,7 +36,7 @@ drop-take (suc q) zero l = let e : 0 - suc q ≡ 0 = omega arith in rw e
 drop-take (suc q) (suc n) [] = rw take-nil
 drop-take (suc q) (suc n) (x ∷ l) = let e : suc n - suc q ≡ n - q = omega arith in rw e (drop-take q n l)
 
--- A run laid out in pieces; piece j stands after those before it.
+-- A run laid out in pieces; piece j comes after those before it.
 abbrev pub laid : List (List ℕ) → List ℕ → List ℕ
 laid [] rest = rest
 laid (p ∷ ps) rest = p ++ laid ps rest
@@ -98,7 +98,7 @@ spliced-set at v x l h =
     ∙ ap (λ (s : List ℕ). take at l ++ (x ++ s)) d
     ∙ rw (e, append-assoc x (v ∷ []) (drop (suc n) l))
 
--- What stands in the run, before it and after it.
+-- What is in the run, before it and after it.
 pub part-spliced : (at : ℕ) (x l : List ℕ) → at + length x ≤ length l → part at (length x) (spliced at x l) ≡ x
 unfolding spliced
 part-spliced at x l h =

@@ -15,7 +15,7 @@ use Rattle.aff_format.specs.declared.kind.Kind.the-variants as kind
 use Rattle.aff_format.specs.declared.subkey.Grammar.the-variants.{Sound}
 use Rattle.aff_format.specs.declared.entry.FoundEntry.the-variants.{Whole, Broken}
 
--- The symbol table of the worked file, `a` and `n`, stands at 172.
+-- The symbol table of the worked file, `a` and `n`, is at 172.
 strings : stringsOf (97 ∷ 0 ∷ 110 ∷ 0 ∷ []) ≡ (97 ∷ []) ∷ (110 ∷ []) ∷ []
 unfolding stringsOf
 strings = refl

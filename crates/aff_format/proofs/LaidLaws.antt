@@ -41,7 +41,7 @@ laid-front area [] h = refl
 laid-front [] (p ∷ places) h = absurd (omega arith)
 laid-front (x ∷ area) (p ∷ places) h = ap (λ (l : List ℕ). p ∷ l) (laid-front area places (omega arith))
 
--- n of all the places stand in the area; `rest` is to be laid after them.
+-- n of all the places are in the area; `rest` is to be laid after them.
 pub record Laid (area₀ all area : List ℕ) (n : ℕ) (rest : List ℕ) : Type 0 where
   pub long : length area ≡ length area₀
   pub within : n ≤ length area

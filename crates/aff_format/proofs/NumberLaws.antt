@@ -93,14 +93,14 @@ back-front l o (suc n) h =
 pub beBytes-beOf : (l : List ℕ) → Octets l → beBytes (length l) (beOf l) ≡ l
 beBytes-beOf l o = subst (λ (r : List ℕ). beBytes (length l) (beOf r) ≡ r) (take-length l) (back-front l o (length l) (omega arith))
 
--- A number that stands in a run of bytes fits its width, and its bytes are the part it was read from.
+-- A number in a run of bytes fits its width, and its bytes are the part it was read from.
 pub beOf-part-bound : (at w : ℕ) (l : List ℕ) → Octets l → at + w ≤ length l → beOf (part at w l) < 256 ^ w
 beOf-part-bound at w l o h = rw (length-part at w l h) at (beOf-bound (part at w l) (octets-part at w l o))
 
 pub beBytes-part : (at w : ℕ) (l : List ℕ) → Octets l → at + w ≤ length l → beBytes w (beOf (part at w l)) ≡ part at w l
 beBytes-part at w l o h = rw (length-part at w l h) at (beBytes-beOf (part at w l) (octets-part at w l o))
 
--- A turn of the loop that writes a number: the low byte of the rest stands after the bytes still to be written.
+-- A turn of the loop that writes a number: the low byte of the rest comes after the bytes still to be written.
 pub put-turn : (at left rest : ℕ) (l : List ℕ) → 0 < left → at + left ≤ length l
     → spliced at (beBytes (left - 1) (rest / 256)) (set l (at + (left - 1)) (rest % 256)) ≡ spliced at (beBytes left rest) l
 unfolding beBytes

@@ -13,7 +13,7 @@ use Rattle.aff_format.proofs.StringsLaws.{length-upToZero, take-upToZer
 use Rattle.aff_format.specs.Recorded.{nameFrom, foundEntry, recordedEntry}
 use Rattle.aff_format.specs.Entry.{orNone}
 
--- A loop over the bytes of a string stands at `at`: the string ends here, or where it does from the next byte on.
+-- A loop over the bytes of a string is at `at`: the string ends here, or where it does from the next byte on.
 module _ (image : List ℕ) (end at : ℕ) where
   pub ends-past : end ≤ at → at + length (nameFrom image end at) ≡ at
   unfolding nameFrom upToZero

@@ -112,14 +112,15 @@ unfolding eachFrom
 other-each n number h holds rs zero k o = o
 other-each n number h holds rs (suc left) k o = (h, other-each n number h holds rs left (k + 1) o)
 
--- A rule is of the lowest number, of the `left` from `first` on, for which it fails.
+-- Of the `left` numbers from `first` on, k is the lowest for which the rule fails.
 pub record LowestFails (holds : ℕ → Type 0) (left first k : ℕ) : Type 0 where
   pub least : first ≤ k
   pub most : k < first + left
   pub fails : holds k → ⊥
   pub before : (j : ℕ) → first ≤ j → j < k → holds j
 
--- Where one group of rules alone reports the number n, it is reported exactly where all rules before the group hold, with the lowest of the group that fails.
+-- A number n that one group of rules alone reports: it is reported with place k exactly where all rules before the group hold and k is the lowest for which a rule of the
+-- group fails.
 module _ (n k : ℕ) where
   not-reported : (rs : List Rule) → OtherNumbers n rs → FirstFails rs (refusalAt n k) → ⊥
   not-reported [] o f = f

@@ -146,7 +146,7 @@ unfolding upToZero
 upToZero-all [] w = refl
 upToZero-all (x ∷ s) w = rw (w .0, upToZero-all s (w .1))
 
--- What stands after a zero does not matter, nor whether the last zero is there.
+-- What comes after a zero does not matter, nor whether the last zero is there.
 pub upToZero-append : (s r : List ℕ) → upToZero (s ++ (0 ∷ r)) ≡ upToZero s
 unfolding upToZero
 upToZero-append [] r = refl
@@ -287,11 +287,11 @@ string-at l k h =
     ∙ ap upToZero (sym (drop-append-le p l z w) ∙ t)
     ∙ upToZero-one (getD ss k []) (textOf (drop (suc k) ss) ++ []) (each-at 0 ss k (strings-without-zero l))
 
--- A string of a run that ends in zero and stands at place at of an image: its bytes, with a zero after them.
+-- A string of a run that ends in zero and is at place at of an image: its bytes, with a zero after them.
 module _ (image front l back : List ℕ) (at k : ℕ) (is : image ≡ front ++ (l ++ back)) (begins : length front ≡ at) (ended : endsInZero l ≡ true)
     (exists : k < length (stringsOf l)) where
-  pub string-stands : drop (getD (placesOf at (stringsOf l)) k 0) image ≡ getD (stringsOf l) k [] ++ (0 ∷ (textOf (drop (suc k) (stringsOf l)) ++ back))
-  string-stands =
+  pub string-from : drop (getD (placesOf at (stringsOf l)) k 0) image ≡ getD (stringsOf l) k [] ++ (0 ∷ (textOf (drop (suc k) (stringsOf l)) ++ back))
+  string-from =
       let ss : List (List ℕ) = stringsOf l in
       let q : getD (placesOf at ss) k 0 ≡ length front + length (textOf (take k ss)) = placesOf-at at ss k exists ∙ omega arith in
       let t : image ≡ front ++ (textOf ss ++ back) = is ∙ ap (λ (r : List ℕ). front ++ (r ++ back)) (sym (textOf-stringsOf l ended)) in
@@ -301,13 +301,13 @@ module _ (image front l back : List ℕ) (at k : ℕ) (is : image ≡ front ++ (
       ∙ text-at ss back k exists
 
   pub string-read : upToZero (drop (getD (placesOf at (stringsOf l)) k 0) image) ≡ getD (stringsOf l) k []
-  string-read = rw string-stands (upToZero-one (getD (stringsOf l) k []) _ (each-at 0 (stringsOf l) k (strings-without-zero l)))
+  string-read = rw string-from (upToZero-one (getD (stringsOf l) k []) _ (each-at 0 (stringsOf l) k (strings-without-zero l)))
 
   pub string-bytes : part (getD (placesOf at (stringsOf l)) k 0) (length (getD (stringsOf l) k [])) image ≡ getD (stringsOf l) k []
-  string-bytes = rw string-stands (take-append-seam _ _)
+  string-bytes = rw string-from (take-append-seam _ _)
 
   pub string-zero : getD image (getD (placesOf at (stringsOf l)) k 0 + length (getD (stringsOf l) k [])) 0 ≡ 0
-  string-zero = rw (← getD-drop (getD (placesOf at (stringsOf l)) k 0) image (length (getD (stringsOf l) k [])) 0, string-stands) (getD-append-seam (getD (stringsOf l) k []) 0 (textOf (drop (suc k) (stringsOf l)) ++ back) 0)
+  string-zero = rw (← getD-drop (getD (placesOf at (stringsOf l)) k 0) image (length (getD (stringsOf l) k [])) 0, string-from) (getD-append-seam (getD (stringsOf l) k []) 0 (textOf (drop (suc k) (stringsOf l)) ++ back) 0)
 
 -- A string of a section of an image.
 -- A string of a section that need not end in zero, read up to the section's end.

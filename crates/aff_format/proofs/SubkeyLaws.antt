@@ -75,7 +75,7 @@ pub sound-is : (g : Grammar) → isSound g ≡ true → g ≡ Sound
 sound-is Sound h = refl
 sound-is (BreaksAt p) h = absurd (true≢false (sym h))
 
--- A byte that may neither begin nor follow stands in no subkey.
+-- A byte that may neither begin nor follow is in no subkey.
 module _ (e : Edition) (x : ℕ) where
   rest-without : (at : ℕ) (l : List ℕ) → mayFollow e x ≡ false → isSound (restOfSubkey e at l) ≡ true → Without x l
   unfolding restOfSubkey

@@ -109,7 +109,7 @@ module _ (e : Edition) (parent : ℕ → ℕ) (name : ℕ → List ℕ) (m : ℕ
         (λ (l : k < j). absurd (siblings k j lk l hj (sym p) (sym n)))
         (order j k)
 
-    -- Equal fronts end in equal names, and before these stand the fronts of the parents.
+    -- Equal fronts end in equal names, and before these are the fronts of the parents.
     front-unique : (steps i j : ℕ) → i ≤ m → j ≤ m → reachesBy parent steps i ≡ true → reachesBy parent steps j ≡ true
         → frontBy parent name steps i ≡ frontBy parent name steps j → i ≡ j
     unfolding reachesBy

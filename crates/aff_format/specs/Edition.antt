@@ -36,7 +36,7 @@ sectionRank Two Symbol = 0
 sectionRank Two Tree = 1
 sectionRank Two Data = 2
 
--- Where the header of a section begins: there stands its offset, and 8 bytes on its size.
+-- Where the header of a section begins: there is its offset, and 8 bytes on its size.
 abbrev pub sectionHeaderAt : Edition → Section → ℕ
 sectionHeaderAt e s = 32 + sectionRank e s * sectionHeaderSize e
 

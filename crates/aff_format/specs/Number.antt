@@ -20,7 +20,7 @@ unfoldable pub beBytes : ℕ → ℕ → List ℕ
 beBytes zero n = []
 beBytes (suc w) n = beBytes w (n / 256) ++ (n % 256 ∷ [])
 
--- The signed number that 32 bits stand for: `negsuc k` is -(k + 1).
+-- The signed number that 32 bits encode: `negsuc k` is -(k + 1).
 unfoldable pub twosComplement : ℕ → ℤ
 twosComplement n = cond (ltb n (2 ^ 31)) (pos n) (negsuc (4294967295 - n))
 

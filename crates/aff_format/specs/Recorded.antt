@@ -14,7 +14,7 @@ use Rattle.aff_format.specs.declared.entry.FoundEntry.{FoundEntry}
 unfoldable pub nameFrom : List ℕ → ℕ → ℕ → List ℕ
 nameFrom image end p = upToZero (part p (end - p) image)
 
--- What stands in the image at the place recorded for node k's entry.
+-- What the image has at the place recorded for node k's entry.
 abbrev pub foundEntry : List ℕ → List ℕ → ℕ → FoundEntry
 foundEntry image entries k = entryOf (drop (getD entries (k - 1) 0) image)
 

@@ -24,7 +24,7 @@ narrowFirst x = isLetter x || (eqb x 95 || eqb x 58)
 unfoldable pub narrowNext : ℕ → Bool
 narrowNext x = narrowFirst x || (isDigit x || (eqb x 46 || eqb x 45))
 
--- Whether a byte may begin a subkey, and whether it may stand after its first byte.
+-- Whether a byte may begin a subkey, and whether it may come after its first byte.
 abbrev pub mayBegin : Edition → ℕ → Bool
 mayBegin One x = narrowFirst x
 mayBegin Two x = narrowFirst x

@@ -1,4 +1,4 @@
-// Where an entry's data stand.
+// Where an entry's data are.
 use crate::entry::Entry;
 ghost use mathlib.Core.Path.{_≡_};
 ghost use Prim.Native.Nat.{_+_, _<_};

@@ -74,7 +74,7 @@ fn type_at(bytes: &[u8], at: usize) -> FoundKind
     Kind::from_code(bytes[at] as u64)
 }
 
-// The entry that stands in a run of bytes at a place.
+// The entry in a run of bytes at a place.
 pub fn entry_at(bytes: &[u8], at: usize) -> FoundEntry
     ensures { λ r. ⌜ r ≡ entryOf (drop at (now (bytes .entry))) ⌝ }
 {

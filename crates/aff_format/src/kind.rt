@@ -17,7 +17,7 @@ pub enum FoundKind {
 }
 
 impl Kind {
-    // The code that stands for the kind in a file.
+    // The code of the kind in a file.
     pub fn code(self) -> u8
         ensures { λ r. ⌜ r ≡ kindCode self ⌝ }
     {

@@ -12,7 +12,7 @@ pub mod element; // one element of a node's data
 pub mod subkey; // the rule for a subkey
 pub mod path; // the grammar of a path
 pub mod entry; // tree entries
-pub mod data; // where an entry's data stand
+pub mod data; // where an entry's data are
 pub mod recorded; // strings and entries by their places
 
 pub use edition::Edition;

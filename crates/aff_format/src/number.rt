@@ -53,7 +53,7 @@ pub fn put_be(out: &mut [u8], at: usize, width: usize, n: u64)
     }
 }
 
-// The signed number that 32 bits stand for.
+// The signed number that 32 bits encode.
 pub fn signed(n: u32) -> i32
     ensures { λ r. ⌜ r ≡ twosComplement n ⌝ }
 {

@@ -22,7 +22,7 @@ pub fn place(area: &[u32], i: usize) -> usize
     if i < area.len() { index(area[i]) } else { 0 }
 }
 
-// What stands in the image at the place recorded for the entry of a node that is not the root.
+// What the image has at the place recorded for the entry of a node that is not the root.
 pub fn found_entry(image: &[u8], entries: &[u32], node: usize) -> FoundEntry
     requires { ⌜ 1 ≤ node ⌝ }
     ensures { λ r. ⌜ r ≡ foundEntry (now (image .entry)) (now (entries .entry)) node ⌝ }

@@ -45,7 +45,7 @@ fn narrow_first(x: u8) -> bool
     x == b':'
 }
 
-// Whether a byte may stand after the first of a subkey of editions 1 and 2.
+// Whether a byte may come after the first of a subkey of editions 1 and 2.
 fn narrow_next(x: u8) -> bool
     ensures { λ r. ⌜ r ≡ narrowNext x ⌝ }
 {

@@ -31,7 +31,7 @@ taken-after used text l h =
     ap (take (used + length text)) (sym (append-assoc (take used l) text (drop (used + length text) l)))
     ∙ take-at (take used l ++ text) _ (used + length text) (length-append (take used l) text ∙ ap (λ (n : ℕ). n + length text) (length-take-le used l h))
 
--- A number that stands in a list occurs in it.
+-- A number that is in a list occurs in it.
 occurs : (l : List ℕ) (k : ℕ) → k < length l → 0 < occurrences (getD l k 0) l
 unfolding occurrences hit
 occurs [] k h = absurd (omega arith)

@@ -56,7 +56,7 @@ module _ (image : List ℕ) (reader : Reader) (strings entries : List ℕ) where
   abbrev pub rowsFrom : ℕ → List ℕ
   rowsFrom k = rows (drop k (listingOrder image reader strings entries))
 
-  -- All is ready for the first line: the record belongs to the caller's buffers, no path is too long, and listing order stands at the front of its
+  -- All is ready for the first line: the record belongs to the caller's buffers, no path is too long, and listing order is at the front of its
   -- area.
   pub record Ready (numbers : List ℕ) : Type 0 where
     pub belongs : ReaderBelongs image reader strings entries
@@ -101,7 +101,7 @@ judged image strings entries =
     withPaths image (stringsAfter image (formFor image) strings entries) (entriesAfter image (formFor image) strings entries)
     (openAnswer image (formFor image) (length strings) (length entries))
 
--- After an accepted opening, listing order stands at the front of its area, also where a path is too long; a refused one leaves the area.
+-- After an accepted opening, listing order is at the front of its area, also where a path is too long; a refused one leaves the area.
 abbrev pub withOrder : List ℕ → List ℕ → List ℕ → List ℕ → Answer Reader → List ℕ
 withOrder image strings entries numbers (refused t) = numbers
 withOrder image strings entries numbers (accepted r) = frontWritten (accepted (r .nodes + 1)) (listingOrder image r strings entries) numbers

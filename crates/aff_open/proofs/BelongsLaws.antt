@@ -212,7 +212,7 @@ none-belongs image strings entries = sizes-decide image noReader strings entries
 -- ---- What a call that passes 24 knows.
 
 module _ {image : List ℕ} {reader : Reader} {strings entries : List ℕ} (b : ReaderBelongs image reader strings entries) where
-  -- A string ends, and so begins, before the end of the symbol section, which is inside the image (`symbols-inside`). There stands a zero.
+  -- A string ends, and so begins, before the end of the symbol section, which is inside the image (`symbols-inside`). There is a zero.
   pub string-within : (i : ℕ) → i < reader .strings
       → getD strings i 0 + length (recordedString image (reader .symbols .offset + reader .symbols .size) strings i) < reader .symbols .offset + reader .symbols .size
   string-within i l =

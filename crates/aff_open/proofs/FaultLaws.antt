@@ -25,7 +25,7 @@ use Rattle.aff_format.proofs.ClimbLaws.{reaches-within}
 use Rattle.aff_format.proofs.LowestLaws.{none-holds, holds-none, none-at}
 use Rattle.aff_format.proofs.SameLaws.{same-eq, same-refl, ne-same}
 use Rattle.aff_format.proofs.StringsLaws.{endsInZero-textOf, textOf-stringsOf}
-use Rattle.aff_format.specs.Rule.{Rule, AllHold, FirstFails, Settled, eachFrom}
+use Rattle.aff_format.specs.Rule.{Rule, AllHold, FirstFails, Settled}
 use Rattle.aff_open.specs.Rules.{Inside, Summed, Counted, Unrepeated, FirstRepeat, Linked, Climbs, NameFree, DataInside}
 use Rattle.aff_open.specs.Faults.{nodeRules, treeRules, rulesFrom27, symbolRules, sectionRules, editionRules, rulesBefore27, rules}
 use Rattle.aff_tables.specs.Tables.{nodeEntry, isEmpty, countDiffers, repeats}
@@ -36,7 +36,7 @@ use Rattle.aff_open.specs.declared.reader.Reader.{Reader}
 use Rattle.aff_tables.proofs.LinkLaws.{link-asks, repeat-asks, repeat-found}
 use Rattle.aff_format.proofs.EntryLaws.{data-asks}
 use Rattle.aff_open.proofs.TablesLaws.{lengths-right}
-use Rattle.aff_format.proofs.RuleLaws.{AskFor, none, one, each, Each, settled, all-accept, first-refuses, OtherNumbers, other-each, each-reported}
+use Rattle.aff_format.proofs.RuleLaws.{AskFor, none, one, each, Each, settled, all-accept, first-refuses, other-each, LowestFails, each-reported}
 use Rattle.aff_open.proofs.SectionLaws.{known-is, text-known, known-text}
 use Rattle.aff_tables.proofs.TreeTableLaws.{empty-is}
 
@@ -206,16 +206,15 @@ module _ (image form : List ℕ) (strings entries : ℕ) where
   pub hold-accepted : AllHold (rules image form strings entries) → openAnswer image form strings entries ≡ accepted (readerFor (editionIn image) image)
   hold-accepted h = all-accept (rules image form strings entries) _ (openAnswer image form strings entries) opening-settled h
 
-  -- Of the tree table and the nodes other numbers are reported than 27.
-  tree-others : (e : Edition) → OtherNumbers 27 (treeRules e image (nodesIn e image) ++ nodeRules e image (stringsIn e image) (nodesIn e image))
-  tree-others e =
-      let ss = stringsIn e image in
-      let es = nodesIn e image in
+  -- 27 is reported exactly where the rules before hold, with the lowest string of which its rule fails: no other rule reports this number.
+  repeats-reported : (e : Edition) (ss : List (List ℕ)) (es : List Entry) (k : ℕ)
+      → FirstFails (rulesBefore27 image form strings entries ++ rulesFrom27 e image ss es) (refusalAt 27 k)
+      ↔ (AllHold (rulesBefore27 image form strings entries) × LowestFails (Unrepeated ss) (length ss) 0 k)
+  repeats-reported e ss es k =
       let n = length es in
-      let inside = other-each 27 13 refl (DataInside e image es) [] n 1 tt in
-      let free = other-each 27 12 refl (NameFree ss es) (eachFrom 13 (DataInside e image es) n 1 []) n 1 inside in
-      let climbs = other-each 27 11 refl (Climbs es) (eachFrom 12 (NameFree ss es) n 1 (eachFrom 13 (DataInside e image es) n 1 [])) n 1 free in
-      (refl, (refl, other-each 27 10 refl (Linked e ss es) (eachFrom 11 (Climbs es) n 1 (eachFrom 12 (NameFree ss es) n 1 (eachFrom 13 (DataInside e image es) n 1 []))) n 1 climbs))
+      each-reported 27 k (Unrepeated ss) (treeRules e image es ++ nodeRules e image ss es) (rulesBefore27 image form strings entries) (length ss) 0
+      (refl, (refl, (refl, (refl, (refl, (refl, (refl, (refl, (refl, (refl, (refl, (refl, (refl, (refl, (refl, tt)))))))))))))))
+      (refl, (refl, other-each 27 10 refl _ _ n 1 (other-each 27 11 refl _ _ n 1 (other-each 27 12 refl _ _ n 1 (other-each 27 13 refl _ [] n 1 tt)))))
 
   -- So an opening is refused by 27 at string k exactly when that string equals an earlier one and no lower string does, and none of the rules before
   -- fails, those of 8, 25 and 26 among them.
@@ -223,11 +222,8 @@ module _ (image form : List ℕ) (strings entries : ℕ) where
       ↔ (AllHold (rulesBefore27 image form strings entries) × FirstRepeat (stringsIn (editionIn image) image) k)
   unfolding rules
   refused-27 k =
-      let e = editionIn image in
-      let ss = stringsIn e image in
-      let reported =
-      each-reported 27 k (Unrepeated ss) (treeRules e image (nodesIn e image) ++ nodeRules e image ss (nodesIn e image)) (rulesBefore27 image form strings entries)
-      (length ss) 0 (refl, (refl, (refl, (refl, (refl, (refl, (refl, (refl, (refl, (refl, (refl, (refl, (refl, (refl, (refl, tt))))))))))))))) (tree-others e) in (
+      let ss = stringsIn (editionIn image) image in
+      let reported = repeats-reported (editionIn image) ss (nodesIn (editionIn image) image) k in (
         λ h.
             let (b, f) = reported .0 (refused-first h) in
             let l : k < length ss = omega (arith, f .most) in

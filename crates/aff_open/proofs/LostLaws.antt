@@ -48,7 +48,7 @@ module _ (image : List ℕ) (end p : ℕ) (inside : end ≤ length image) where
   run-at : (i : ℕ) → i < end - p → getD (part p (end - p) image) i 0 ≡ getD image (p + i) 0
   run-at i h = getD-take (end - p) (drop p image) i 0 h ∙ getD-drop p image i 0
 
-  -- A zero after its start ends the string there or before; where it ends inside the section stands a zero.
+  -- A zero after its start ends the string there or before; where it ends inside the section is a zero.
   pub name-until : (z : ℕ) → p ≤ z → z < end → getD image z 0 ≡ 0 → p + length (nameFrom image end p) ≤ z
   unfolding nameFrom
   name-until z l h e =

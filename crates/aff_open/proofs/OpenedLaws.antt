@@ -135,9 +135,9 @@ module _ (image form strings entries : List ℕ) {r : Reader} (h : openAnswer im
       (string-placed image (sectionOffset e Symbol image) (sectionSize e Symbol image) (zeros strings) (omega (arith, laid-strings .placed .few, strings-long))
       (tables-ended image form strings entries found) (section-inside Symbol readable) i l)
 
-  stands : (k : ℕ) → 0 < k → k ≤ m → foundEntry image es k ≡ Whole (node k)
+  entries-whole : (k : ℕ) → 0 < k → k ≤ m → foundEntry image es k ≡ Whole (node k)
   unfolding sectionBytes
-  stands k lo hi =
+  entries-whole k lo hi =
       rw (laid-entries .are k lo hi, entries-after)
       (entry-found image 2048 (sectionOffset e Tree image) (sectionSize e Tree image) (zeros entries) (omega (arith, laid-entries .few, entries-long)) k lo hi)
 
@@ -167,7 +167,7 @@ module _ (image form strings entries : List ℕ) {r : Reader} (h : openAnswer im
           placed i l .1,
           name-zero image end (getD ss i 0) (section-inside Symbol readable) (placed i l .1),
         );
-        entry-whole = stands;
+        entry-whole = entries-whole;
         parent-exists = λ k lo hi. link k lo hi .0;
         string-exists = λ k lo hi. link k lo hi .1;
         node-data = λ k lo hi v. let d = data-asks _ _ _ .0 (none-holds _ _ 1 (none .3) k (omega arith) (omega arith)) v .1 in omega arith;

@@ -85,7 +85,7 @@ pub record ReaderBelongs (image : List ℕ) (reader : Reader) (strings entries :
   pub symbols-inside : reader .symbols .offset + reader .symbols .size ≤ length image
   pub tree-inside : reader .tree .offset + reader .tree .size ≤ length image
   pub data-inside : reader .«data» .offset + reader .«data» .size ≤ length image
-  -- Each string begins inside the symbol section, and a zero stands there from it on.
+  -- Each string begins inside the symbol section, and a zero is there from it on.
   pub string-begins : (i : ℕ) → i < reader .strings → reader .symbols .offset ≤ getD strings i 0
   pub string-zero : (i : ℕ) → i < reader .strings
       → (z : ℕ) × (getD strings i 0 ≤ z) × (z < reader .symbols .offset + reader .symbols .size) × (getD image z 0 ≡ 0)

@@ -26,7 +26,7 @@ pub record Obeys (image form : List ℕ) : Type 0 where
   pub text : take 20 image ≡ signatureText edition
   pub number-form : part 20 12 image ≡ form
   pub header-sum : part (headerSumAt edition) 16 image ≡ md5 (take (headerSumAt edition) image)
-  -- The sections, which may stand anywhere and overlap.
+  -- The sections, which may be anywhere and overlap.
   pub inside : (s : Section) → Inside edition s image
   pub sums : (s : Section) → Summed edition s image
   -- The symbol table: a run of strings, each ended by a zero byte; no string occurs twice.

@@ -29,7 +29,7 @@ abbrev pub isKnown : FoundEdition → Bool
 isKnown (Known e) = true
 isKnown Unknown = false
 
--- Edition 2 stands for no edition: its form is the one passed for such a text, and nothing else of it is asked after refusal 3.
+-- Edition 2 is taken for no edition: its form is the one passed for such a text, and nothing else of it is asked after refusal 3.
 abbrev pub orTwo : FoundEdition → Edition
 orTwo (Known e) = e
 orTwo Unknown = Two

@@ -19,7 +19,7 @@ ghost use Rattle.aff_open.specs.Sections.{sectionOffset, sectionSize, se
 ghost use Rattle.aff_open.specs.passes.Opening.{Readable};
 ghost use Rattle.aff_open.specs.Opening.{insideChecks, sumChecks, sectionChecks, spanOf};
 
-// The 8 bytes that stand `at` bytes after the start of a section header.
+// The 8 bytes that are `at` bytes after the start of a section header.
 fn field(image: &[u8], edition: Edition, section: Section, at: usize) -> u64
     requires { ⌜ (headerSize edition ≤ length (now image)) × (at ≤ 16) ⌝ }
     ensures { λ r. ⌜ r ≡ beOf (part (sectionHeaderAt edition section + at) 8 (now (image .entry))) ⌝ }

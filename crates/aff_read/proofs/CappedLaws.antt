@@ -44,7 +44,7 @@ capped-more : (limit n : ℕ) → capped limit n + 1 ≡ capped (limit + 1) (n +
 capped-more limit n =
     capped-by limit n (λ h e. rw e (sym (capped-within (limit + 1) (n + 1) (omega arith)))) (λ h e. rw e (sym (capped-past (limit + 1) (n + 1) (omega arith))))
 
--- The first bytes alone say how many stand before the first zero, up to one past the limit.
+-- The first bytes alone say how many are before the first zero, up to one past the limit.
 counted-in : (limit : ℕ) (l : List ℕ) → length (upToZero (take (suc limit) l)) ≡ capped limit (length (upToZero l))
 unfolding upToZero
 counted-in limit [] = sym (capped-within limit 0 (omega arith))

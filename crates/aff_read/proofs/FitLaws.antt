@@ -89,7 +89,7 @@ module _ (image : List ℕ) (end k : ℕ) where
   unfolding nameFrom upToZero
   name-on h f n = rw (part-cons image k end, ne-eqb (getD image k 0) 0)
 
-  -- Where the loop stands at byte k of the image and n of the path.
+  -- Where the loop is at byte k of the image and n of the path.
   module _ (path : List ℕ) (n : ℕ) where
     pub name-fits-past : end ≤ k → n + 2 ≡ fitFrom (nameFrom image end k) (drop n path) n
     unfolding fitFrom

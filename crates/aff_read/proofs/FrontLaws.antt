@@ -67,7 +67,7 @@ module _ (image : List ℕ) (reader : Reader) (strings entries : List ℕ) where
         path-other node n ∙ front-step (parentAt image entries) (nameAt image reader strings entries) (reader .nodes) node n (b .climb-ends node h there))
         (at-zero (λ k. k) node))
 
-    -- Where its name begins, and what stands there.
+    -- Where its name begins, and what is there.
     pub name-starts : nameSpan image reader strings entries node .offset ≤ symbolsEnd reader
     unfolding nameSpan
     name-starts =

@@ -1,5 +1,5 @@
--- Listing order has each node exactly once and nothing else, for a record that belongs: k stands below n in so many levels where k is n,
--- or k's parent stands there in one level less; every climb reaches the root. Assumes nothing.
+-- Listing order has each node exactly once and nothing else, for a record that belongs: k is below n in so many levels where k is n,
+-- or k's parent is there in one level less; every climb reaches the root. Assumes nothing.
 use mathlib.Core.Path.{_≡_, refl, sym, ap, _∙_}
 use mathlib.Core.Bool.{Bool, true, false, cond}
 use mathlib.Core.List.{List, [], _∷_, _++_}
@@ -179,7 +179,7 @@ module _ (parent : ℕ → ℕ) where
     step (suc depth) n k z h =
         omega (arith, children-count (preorder parent all (suc depth)) (preorder parent all depth) n k all (λ c. step depth c k z h), mark-all n k all z h)
 
-    -- The root stands at the front only.
+    -- The root is at the front only.
     root-once : (depth n : ℕ) → occurrences 0 (preorder parent all depth n) ≤ hit 0 n
     unfolding preorder occurrences
     root-once zero n = omega arith
@@ -197,7 +197,7 @@ module _ (parent : ℕ → ℕ) where
         omega (arith, hit-other k n (λ e. omega arith), children-without (preorder parent all depth) n k all (λ c l z. only-nodes depth c l k g))
 
     module _ (linked : (k : ℕ) → 0 < k → k < all → parent k < all) where
-      -- A node whose climb reaches the root stands below it once.
+      -- A node whose climb reaches the root is below it once.
       climbed-once : (steps k : ℕ) → k < all → reachesBy parent steps k ≡ true → occurrences k (preorder parent all (suc steps) 0) ≡ 1
       unfolding reachesBy
       climbed-once zero zero h e = root-count 0 0 ∙ hit-same 0 0 refl

@@ -1,4 +1,4 @@
--- Where name and data of a node stand, and that they lie inside the image. Assumes nothing.
+-- Where name and data of a node are, and that they lie inside the image. Assumes nothing.
 use mathlib.Core.Path.{_≡_, refl, sym, ap, _∙_}
 use mathlib.Core.Bool.{Bool, true, false}
 use mathlib.Core.List.{List}

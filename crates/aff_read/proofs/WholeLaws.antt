@@ -54,7 +54,7 @@ module _ (parent : ℕ → ℕ) where
         (omega arith, λ h. let e = w .1 (omega arith) in rw e)
 
     module _ (links : (k : ℕ) → 0 < k → k < all → parent k < all) where
-      -- A node whose climb ends within so many steps stands as often one level deeper.
+      -- A node whose climb ends within so many steps occurs as often one level deeper.
       settled-count : (steps k n : ℕ) → k < all → reachesBy parent steps k ≡ true
           → occurrences k (preorder parent all (suc (suc steps)) n) ≡ occurrences k (preorder parent all (suc steps) n)
       unfolding reachesBy

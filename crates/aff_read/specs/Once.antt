@@ -1,4 +1,4 @@
--- How often a number stands in a list: for the theorem that listing order has each node exactly once (proofs/OnceLaws).
+-- How often a number occurs in a list: for the theorem that listing order has each node exactly once (proofs/OnceLaws).
 use mathlib.Core.Bool.{cond}
 use mathlib.Core.List.{List, [], _∷_}
 use Prim.Native.Nat.{ℕ, _+_}

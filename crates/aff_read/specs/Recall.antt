@@ -32,7 +32,7 @@ unfoldable pub nameAt : List ℕ → Reader → List ℕ → List ℕ → ℕ �
 nameAt image reader strings entries k =
     cond (eqb k 0) [] (recordedString image (symbolsEnd reader) strings (recordedEntry image entries k .string))
 
--- Where name and data stand in the image; empty ones at 0.
+-- Where name and data are in the image; empty ones at 0.
 unfoldable pub nameSpan : List ℕ → Reader → List ℕ → List ℕ → ℕ → Span
 nameSpan image reader strings entries k =
     cond (eqb k 0) noSpan

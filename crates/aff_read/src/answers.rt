@@ -8,7 +8,7 @@ pub enum KindAnswer {
     Refused(Refusal),
 }
 
-// Where a part of the image stands.
+// Where a part of the image is.
 pub enum PartAnswer {
     At(Span),
     Refused(Refusal),

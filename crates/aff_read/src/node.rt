@@ -34,7 +34,7 @@ pub fn judge(image: &[u8], reader: Reader, strings: &[u32], entries: &[u32], nod
     Verdict::Accepted
 }
 
-// Where the name of a node stands, for a record that belongs.
+// Where the name of a node is, for a record that belongs.
 pub fn name_span(
     image: &[u8],
     reader: Reader,
@@ -58,7 +58,7 @@ pub fn name_span(
     }
 }
 
-// Where the data of a node stand, for a record that belongs.
+// Where the data of a node are, for a record that belongs.
 pub fn data_span(
     image: &[u8],
     reader: Reader,
@@ -80,7 +80,7 @@ pub fn data_span(
     }
 }
 
-// The name of a node: where it stands in the image, without its zero. The root's is empty.
+// The name of a node: where it is in the image, without its zero. The root's is empty.
 pub fn name_bounds(
     image: &[u8],
     reader: Reader,
@@ -135,7 +135,7 @@ pub fn count(
     }
 }
 
-// The data of a node: where they stand in the image. A Void node has none.
+// The data of a node: where they are in the image. A Void node has none.
 pub fn view_bounds(
     image: &[u8],
     reader: Reader,

@@ -259,7 +259,7 @@ fn is_root(path: &[u8]) -> bool
     path[0] == b'/'
 }
 
-// Whether the string that begins at a place stands in a path from `at` on: 2 more than where it ends there, or 1 where it does not. One pass
+// Whether a path has the string that begins at a place from `at` on: 2 more than where it ends there, or 1 where it does not. One pass
 // over the two, no further than the first byte that differs.
 fn fit_from(image: &[u8], from: usize, end: usize, path: &[u8], at: usize) -> usize
     requires { ⌜ (from ≤ end) × (end ≤ length (now image)) × (at ≤ length (now path)) ⌝ }

@@ -1,4 +1,4 @@
--- The buffer after all stores of a close: header, data, strings, entries, and what stood after. It obeys the format, and its tables are those of
+-- The buffer after all stores of a close: header, data, strings, entries, and what was after them. It obeys the format, and its tables are those of
 -- the writer's areas. Each field of the header is found by its place among the pieces. Assumes nothing.
 use mathlib.Core.Path.{_≡_, refl, sym, ap, ap₂, _∙_, subst}
 use mathlib.Core.Bool.{true}
@@ -131,7 +131,7 @@ module _ (s : State) (tree : Tree) (g : Invariant s tree) where
   pub closed : List ℕ
   closed = applyStores (s .buffer) (closeStores (s .buffer) (s .writer) (s .text) (s .tree))
 
-  -- Each section: where it stands, its bytes, and the count in its header.
+  -- Each section: where it is, its bytes, and the count in its header.
   abbrev placeOf : Section → ℕ
   placeOf Symbol = dataPlace + dataSize tree
   placeOf section.Tree = dataPlace + dataSize tree + length symbols
@@ -346,7 +346,7 @@ module _ (s : State) (tree : Tree) (g : Invariant s tree) where
   unfolding closed-obeys
   closed-nodes = entries-found closed-obeys
 
-  -- The buffer after the stores, and the data in it: those that stood there.
+  -- The buffer after the stores, and the data in it: those that were there.
   pub closed-buffer : closed ≡ applyStores (s .buffer) (closeStores (s .buffer) (s .writer) (s .text) (s .tree))
   unfolding closed
   closed-buffer = refl

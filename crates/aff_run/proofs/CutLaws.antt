@@ -39,8 +39,8 @@ module _ (before : List Check) (none : Others 23 before) (all : List Store) wher
   abbrev judged : ℕ → Answer ℕ
   judged allowance = firstWrong (before ++ (check (ltb allowance (length all)) (refusalAt 23 allowance) ∷ [])) (length all)
 
-  stands : (t : RefusalCode) (allowance : ℕ) → firstWrong {A = ℕ} before 0 ≡ refused t → judged allowance ≡ refused t
-  stands t allowance e = refused-before before (check (ltb allowance (length all)) (refusalAt 23 allowance) ∷ []) 0 (length all) e
+  refused-judged : (t : RefusalCode) (allowance : ℕ) → firstWrong {A = ℕ} before 0 ≡ refused t → judged allowance ≡ refused t
+  refused-judged t allowance e = refused-before before (check (ltb allowance (length all)) (refusalAt 23 allowance) ∷ []) 0 (length all) e
 
   suffices : (c allowance : ℕ) → firstWrong before 0 ≡ accepted c → length all ≤ allowance → judged allowance ≡ accepted (length all)
   suffices c allowance e h =
@@ -63,7 +63,7 @@ module _ (before : List Check) (none : Others 23 before) (all : List Store) wher
 
       by-checks : (a : Answer ℕ) → firstWrong before 0 ≡ a → length (take (storesReported (judged allowance)) all) ≡ storesReported (judged allowance)
       by-checks (accepted c) e = by-number c e (ltb allowance (length all)) refl
-      by-checks (refused t) e = rw (stands t allowance e, others-reported 23 before none 0 e)
+      by-checks (refused t) e = rw (refused-judged t allowance e, others-reported 23 before none 0 e)
 
   -- Its step goes by its answer.
   module _ (by : Answer ℕ → Step) (answers : (a : Answer ℕ) → by a .answer ≡ a) (made : (a : Answer ℕ) → by a .stores ≡ take (storesReported a) all)
@@ -105,7 +105,7 @@ module _ (before : List Check) (none : Others 23 before) (all : List Store) wher
     by-checks : (a : Answer ℕ) → firstWrong before 0 ≡ a → Compared (by (judged (min allowance left))) (by (judged allowance)) left
     by-checks (accepted c) e = by-numbers c e (ltb allowance (length all)) (ltb left (cond (ltb allowance (length all)) allowance (length all))) refl refl
     by-checks (refused t) e =
-        alike-by (refused t) (stands t (min allowance left) e) (stands t allowance e) (rw (others-reported 23 before none 0 e) (omega arith))
+        alike-by (refused t) (refused-judged t (min allowance left) e) (refused-judged t allowance e) (rw (others-reported 23 before none 0 e) (omega arith))
 
     compared : Compared (by (judged (min allowance left))) (by (judged allowance)) left
     compared = by-checks (firstWrong before 0) refl

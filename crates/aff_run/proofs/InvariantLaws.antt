@@ -1,5 +1,5 @@
 -- What holds between the calls of a run while the writer is live: the record and the two areas are those of the tree described so far, and
--- the data that the nodes have stand in the buffer. From it what the writer reads in its areas, and that the record belongs. Assumes nothing.
+-- the data that the nodes have are in the buffer. From it what the writer reads in its areas, and that the record belongs. Assumes nothing.
 use mathlib.Core.Path.{_≡_, refl, sym, ap, _∙_}
 use mathlib.Core.Bool.{Bool, true, false, cond}
 use mathlib.Core.List.{List, [], _∷_, _++_}
@@ -63,7 +63,7 @@ Each names buffer size i (e ∷ es) (t ∷ ts) = Stored names buffer size i e t 
 -- ---- What holds between the calls.
 
 pub record Invariant (s : State) (tree : Tree) : Type 0 where
-  -- The two areas: the strings, the slots, and what stands after them.
+  -- The two areas: the strings, the slots, and what comes after them.
   pub entries : List Entry
   pub text-rest : List ℕ
   pub tree-rest : List ℕ
@@ -297,7 +297,7 @@ module _ (s : State) (tree : Tree) (g : Invariant s tree) where
   pub name-in : (k : ℕ) → 0 < k → k ≤ length tree → nameOf (s .writer) (s .text) (s .tree) k ≡ treeNode tree k .name
   name-in k lo hi = rw (names-in, entry-in k hi) (stored-in k lo hi .name-is)
 
-  -- What stands after the strings and the slots.
+  -- What comes after the strings and the slots.
   pub text-after : drop (length (textOf (namesOf tree))) (s .text) ≡ g .text-rest
   text-after = rw (g .text-is) (drop-at (textOf (namesOf tree)) (g .text-rest) (length (textOf (namesOf tree))) refl)
 

@@ -73,7 +73,7 @@ module _ (names : List (List ℕ)) (x : List ℕ) where
       go true = refl
       go false = List·getD-append names (x ∷ []) [] i h
 
-  -- The text area with the name stored after the text, unless it is one of the names. What is after it then stood there before.
+  -- The text area with the name stored after the text, unless it is one of the names. What is after it then was there before.
   pub text-stored : (rest : List ℕ) → (k : ℕ)
       × (cond (isIn x names) (textOf names ++ rest) (spliced (length (textOf names)) (x ++ (0 ∷ [])) (textOf names ++ rest)) ≡ textOf (addName names x) ++ drop k rest)
   text-stored rest = rw add-is (go (isIn x names))

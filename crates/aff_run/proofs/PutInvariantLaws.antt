@@ -1,4 +1,4 @@
--- An accepted put leaves record, tree area and buffer of the tree in which the node has its data: the bytes stand after those put before, and no
+-- An accepted put leaves record, tree area and buffer of the tree in which the node has its data: the bytes come after those put before, and no
 -- earlier byte changes. Assumes nothing.
 use mathlib.Core.Path.{_≡_, refl, sym, ap, _∙_}
 use mathlib.Core.Bool.{Bool, true, false, not, true≢false}

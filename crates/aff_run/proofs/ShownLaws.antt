@@ -81,14 +81,14 @@ front-string image at n =
     let l = part at n image in
     sym (take-take (length (upToZero l)) n (drop at image) (omega (arith, length-upToZero l, length-take-most n (drop at image)))) ∙ take-upToZero l
 
--- Where the name of a node that is not the root stands.
+-- Where the name of a node that is not the root is.
 name-span : (image : List ℕ) (reader : Reader) (strings entries : List ℕ) (node : ℕ) → (node ≡ 0 → ⊥)
     → _≡_ {A = Span} (record { offset = getD strings (recordedEntry image entries node .string) 0; size = length (recordedString image (symbolsEnd reader) strings (recordedEntry image entries node .string)) })
     (nameSpan image reader strings entries node)
 unfolding nameSpan nameAt
 name-span image reader strings entries node f = rw (ne-eqb node 0 f)
 
--- Where the data of a node stand, by its entry.
+-- Where the data of a node are, by its entry.
 abbrev spanBy : Entry → Kind → Span
 spanBy e kind = cond (isVoid kind) noSpan (record { offset = e .offset; size = e .count * elementSize kind })
 

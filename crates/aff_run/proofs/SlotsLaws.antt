@@ -33,7 +33,7 @@ unfolding slotsOf
 length-slotsOf [] = refl
 length-slotsOf (e ∷ es) = length-append (slotBytes e) (slotsOf es) ∙ omega (arith, length-slotBytes e, length-slotsOf es)
 
--- The slot of entry k, and what stands after it.
+-- The slot of entry k, and what comes after it.
 pub drop-slots : (es : List Entry) (rest : List ℕ) (k : ℕ) → k < length es
     → drop (25 * k) (slotsOf es ++ rest) ≡ slotBytes (getD es k noEntry) ++ (slotsOf (drop (suc k) es) ++ rest)
 unfolding slotsOf

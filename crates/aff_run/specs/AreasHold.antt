@@ -29,7 +29,7 @@ pub record SlotOf (names : List (List ℕ)) (size : ℕ) (t : Node) (slot : List
   pub string : entry .string < length names
   pub name : getD names (entry .string) [] ≡ t .name
   pub count : entry .count ≡ countIn (t .kind) (t .bytes)
-  -- The data stand inside what was put.
+  -- The data lie inside what was put.
   pub begins : isVoid (t .kind) ≡ false → dataPlace ≤ entry .offset
   pub ends : isVoid (t .kind) ≡ false → entry .offset + length (t .bytes) ≤ dataPlace + size
   pub last : isVoid (t .kind) ≡ true → drop 13 slot ≡ replicate 12 0

@@ -1,5 +1,5 @@
 -- Climbs with marks. A climb that meets its own mark goes round and never reaches the root; one that meets an earlier climb's mark reaches
--- it as that one did. More steps than nodes change nothing (`settled`), so the node a climb stands at reaches the root as its start does.
+-- it as that one did. More steps than nodes change nothing (`settled`), so the node that a climb is at reaches the root as its start does.
 -- Assumes nothing.
 use mathlib.Core.Path.{_≡_, refl, sym, ap, _∙_}
 use mathlib.Core.Bool.{Bool, true, false, not}
@@ -69,7 +69,7 @@ module _ (parent : ℕ → ℕ) where
   cycle zero j m x l s e = let i = steps-reach (suc j) m x x s e in omega arith
   cycle (suc fuel) j m x l s e = let i = steps-reach (suc j) m x x s e in cycle fuel j (m - suc j) x (omega arith) s (i .1)
 
--- The climb from k stands at x; a node with its mark is after it by a step or more.
+-- The climb from k is at x; a node with its mark is after it by a step or more.
 pub record On (parent : ℕ → ℕ) (nodes k x : ℕ) (marks₀ marks : List ℕ) : Type 0 where
   pub linked : (y : ℕ) → 0 < y → y ≤ nodes → parent y ≤ nodes
   pub start : 0 < k

@@ -1,4 +1,4 @@
--- The walk that splits a section at its zeros: it stands in a string that began at `start` and has no zero so far. Assumes nothing.
+-- The walk that splits a section at its zeros: it is in a string that began at `start` and has no zero so far. Assumes nothing.
 use mathlib.Core.Path.{_≡_, sym, _∙_}
 use mathlib.Core.Bool.{false}
 use mathlib.Core.List.{List, [], _∷_, _++_}

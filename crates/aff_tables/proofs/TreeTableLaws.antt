@@ -93,18 +93,18 @@ entries-few limit l = run-few (run-of limit l)
 
 -- Entries by their places.
 
--- After the first entry of a part stands a part.
+-- After the first entry of a part comes a part.
 part-after : (at n k : ℕ) (l : List ℕ) → drop k (part at n l) ≡ part (at + k) (n - k) l
 part-after at n k l = drop-take k n (drop at l) ∙ rw drop-drop
 
-run-stands : {limit : ℕ} {l : List ℕ} {es : List Entry} {rest : List ℕ} → Run limit l es rest → (image : List ℕ) (at n : ℕ) → l ≡ part at n image
+run-found : {limit : ℕ} {l : List ℕ} {es : List Entry} {rest : List ℕ} → Run limit l es rest → (image : List ℕ) (at n : ℕ) → l ≡ part at n image
     → (i : ℕ) → i < length es → entryOf (drop (getD (entryPlaces at es) i 0) image) ≡ Whole (getD es i noEntry)
 unfolding entryPlaces
-run-stands over image at n p i h = absurd (omega arith)
-run-stands (next {e = e} q r) image at n p zero h = entry-from-front n (drop at image) e (ap entryOf (sym p) ∙ q)
-run-stands (next {e = e} q r) image at n p (suc i) h =
+run-found over image at n p i h = absurd (omega arith)
+run-found (next {e = e} q r) image at n p zero h = entry-from-front n (drop at image) e (ap entryOf (sym p) ∙ q)
+run-found (next {e = e} q r) image at n p (suc i) h =
     let s = entrySize (e .kind) in
-    run-stands r image (at + s) (n - s) (ap (drop s) p ∙ part-after at n s image) i (omega arith)
+    run-found r image (at + s) (n - s) (ap (drop s) p ∙ part-after at n s image) i (omega arith)
 
 module _ (image : List ℕ) (limit from size : ℕ) (area : List ℕ) (fits : length (entriesIn limit (part from size image)) ≤ length area) where
   abbrev entries : List Entry
@@ -115,7 +115,7 @@ module _ (image : List ℕ) (limit from size : ℕ) (area : List ℕ) (fits : le
   entry-found (suc i) p h =
       let z : suc i - 1 ≡ i = omega arith in
       rw (z, laid-at area (entryPlaces from entries) i (rw length-entryPlaces (omega arith)) (omega arith))
-      (run-stands (run-of limit (part from size image)) image from size refl i (omega arith))
+      (run-found (run-of limit (part from size image)) image from size refl i (omega arith))
 
   pub entries-are : (k : ℕ) → 0 < k → k ≤ length entries → recordedEntry image (laidOver area (entryPlaces from entries)) k ≡ nodeEntry entries k
   unfolding recordedEntry

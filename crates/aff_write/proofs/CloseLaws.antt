@@ -134,7 +134,7 @@ front-fits x l₀ l₁ e = rw e (simp length-append (omega arith))
 pub front-taken : (x l₀ l₁ : List ℕ) (n : ℕ) → n ≡ length x → l₁ ≡ spliced 0 x l₀ → take n l₁ ≡ x
 front-taken x l₀ l₁ n h e = ap (take n) e ∙ take-front n x l₀ (sym h)
 
--- The data as the code lends them.
+-- The data as the code passes them.
 pub data-lengths : (buffer : List ℕ) (writer : Writer) (from : ℕ) → from ≡ dataPlace → take (from + writer .«data» - from) (drop from buffer) ≡ dataBytes buffer writer
 data-lengths buffer writer from e = let n : from + writer .«data» - from ≡ writer .«data» = omega arith in rw (n, e)
 

@@ -19,7 +19,7 @@ symbolsPlace writer = dataPlace + writer .«data»
 abbrev pub treePlace : Writer → ℕ
 treePlace writer = symbolsPlace writer + writer .text
 
--- The data that stand in the buffer.
+-- The data in the buffer.
 abbrev pub dataBytes : List ℕ → Writer → List ℕ
 dataBytes buffer writer = part dataPlace (writer .«data») buffer
 

@@ -28,7 +28,7 @@ fn lengths_wrong(buffer: &[u8], form: &[u8], text: &[u8], tree: &[u8]) -> bool
     limits::IMAGE_LIMIT < buffer.len()
 }
 
-// Begins a file of edition 2 in a buffer: 1, 21, 23. `form` has the 12 bytes that stand after the signature text. An accepted begin stores 0
+// Begins a file of edition 2 in a buffer: 1, 21, 23. `form` has the 12 bytes that come after the signature text. An accepted begin stores 0
 // at the buffer's place 0, so that nothing opens there until the file is closed, and clears both areas.
 pub fn begin(
     buffer: &mut [u8],

@@ -79,7 +79,7 @@ fn whole(area: &mut [u8]) -> bool {
     io::read_full(STDIN_FILENO, area) == area.len()
 }
 
-// Reads the next image of standard input, which stands after its length in 4 bytes, into the front of an area.
+// Reads the next image of standard input, which comes after its length in 4 bytes, into the front of an area.
 pub fn next_image(area: &mut [u8]) -> Next
     ensures { λ r. ⌜ r .size ≤ length (now (area .exit)) ⌝ }
 {

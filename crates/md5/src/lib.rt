@@ -123,7 +123,7 @@ fn eight_bytes(x: u64) -> [u8; 8]
     ]
 }
 
-// Writes s into b from index `at` on. What stands in b before `at` stays; nothing is said of what stands after s.
+// Writes s into b from index `at` on. The bytes of b before `at` stay; nothing is said of those after s.
 fn put(b: &mut [u8], at: usize, s: &[u8])
     requires { ⌜ at + length (now s) ≤ length (now b) ⌝ }
     ensures { λ _. ⌜ take (at + length (now (s .entry))) (now (b .exit)) ≡ take at (now (b .entry)) ++ now (s .entry) ⌝ }
@@ -135,7 +135,7 @@ fn put(b: &mut [u8], at: usize, s: &[u8])
     }
 }
 
-// Writes x into b from index `at` on, the low byte first. What stands in b before `at` stays; nothing is said of what stands after x.
+// Writes x into b from index `at` on, the low byte first. The bytes of b before `at` stay; nothing is said of those after x.
 fn put_word(b: &mut [u8], at: usize, x: u32)
     requires { ⌜ at + 4 ≤ length (now b) ⌝ }
     ensures { λ _. ⌜ take (at + 4) (now (b .exit)) ≡ take at (now (b .entry)) ++ le 4 x ⌝ }
@@ -144,7 +144,7 @@ fn put_word(b: &mut [u8], at: usize, x: u32)
     put(b, at, &bytes);
 }
 
-// Writes n zeros into b from index `at` on. What stands in b before `at` stays; nothing is said of what stands after them.
+// Writes n zeros into b from index `at` on. The bytes of b before `at` stay; nothing is said of those after them.
 fn clear(b: &mut [u8], at: usize, n: usize)
     requires { ⌜ at + n ≤ length (now b) ⌝ }
     ensures { λ _. ⌜ take (at + n) (now (b .exit)) ≡ take at (now (b .entry)) ++ replicate n 0 ⌝ }
@@ -353,7 +353,7 @@ fn output(v: State) -> [u8; 16]
     out
 }
 
-// The MD5 digest of a message of any length. The message is read where it stands, not copied.
+// The MD5 digest of a message of any length. The message is read where it is, not copied.
 pub fn md5(message: &[u8]) -> [u8; 16]
     ensures { λ r. ⌜ r ≡ md5Of (now (message .entry)) ⌝ }
 {

@@ -6,7 +6,7 @@ use aff_format::Verdict;
 use aff_open::Reader;
 use aff_read::KindAnswer;
 
-// The elements of a node, and what stands after them: 16.
+// The elements of a node, and the index after them: 16.
 fn elements(
     image: &[u8],
     reader: Reader,

@@ -1,4 +1,4 @@
-// Opens each image of standard input, which stands after its length in 4 bytes, and prints what opening answers: the record's edition, strings,
+// Opens each image of standard input, each after its length in 4 bytes, and prints what opening answers: the record's edition, strings,
 // nodes and data record count, or the refusal's number and place; then the sums of the two areas. tests/make_images.py makes images and
 // answers; it shares no code with the library. Last, areas and forms of wrong lengths are passed: nothing changes.
 use aff_format::Verdict;
@@ -79,11 +79,11 @@ fn images() {
 }
 
 // Areas and a form that are passed, and whether the areas stay as they are.
-fn lend(form: &[u8], strings: &mut [u32], entries: &mut [u32]) {
+fn pass_areas(form: &[u8], strings: &mut [u32], entries: &mut [u32]) {
     let first = total(strings);
     let second = total(entries);
     let opening = aff_open::open(b"", form, strings, entries);
-    console::text(b"lent ");
+    console::text(b"passed ");
     show(opening);
     if total(strings) == first {
         if total(entries) == second {
@@ -100,7 +100,7 @@ fn lengths(strings: usize, entries: usize, form: usize)
     let mut places = [7u32; 2049];
     let mut nodes = [9u32; 2049];
     let bytes = [0u8; 13];
-    lend(
+    pass_areas(
         &bytes[..form],
         &mut places[..strings],
         &mut nodes[..entries],

@@ -103,7 +103,7 @@ impl Report {
         }
         if self.judged != [0, 0] {
             let [refused, passed] = self.judged;
-            println!("states of lent memory: {passed} pass 24, {refused} do not");
+            println!("states of memory passed: {passed} pass 24, {refused} do not");
         }
         println!("{} answers compared", self.questions);
         println!("{} agree, {} differ", self.agree, self.differ);

@@ -49,7 +49,7 @@ abbrev pub sizeFound : FoundEntry → ℕ
 sizeFound (Whole e) = entrySize (e .kind)
 sizeFound Broken = 0
 
--- n whole entries, and what stands after them.
+-- n whole entries, and the bytes after them.
 abbrev pub walkOf : ℕ → List ℕ → WalkResult
 walkOf n rest = cond (isEmpty rest) (walked.Nodes n) (walked.BrokenAt (n + 1))
 

@@ -1,4 +1,4 @@
--- `test_open::lengths` meets its contract: the parts that it lends are as long as it says. Assumes nothing.
+-- `test_open::lengths` meets its contract: the parts that it passes are as long as it says. Assumes nothing.
 use borrow.Author.Needs.{needs}
 use Rattle.test_open.proofs.Parts.{part-long}
 use Rattle.test_open.proofs.lengths.Statement.{statement}

@@ -1,4 +1,4 @@
--- `put_sum` meets its contract: the sum of the front stands after it. Assumes nothing.
+-- `put_sum` meets its contract: the sum of the front is stored after it. Assumes nothing.
 use borrow.Author.Needs.{needs}
 use native.Mathlib.Omega.{arith}
 use mathlib.Core.Path.{sym}

@@ -1,4 +1,4 @@
--- `form_of` meets its contract: a run put over as many bytes is what stands there. Assumes nothing.
+-- `form_of` meets its contract: a run put over as many bytes is what is there then. Assumes nothing.
 use mathlib.Core.Path.{sym, _∙_}
 use Prim.Native.Nat.{ℕ}
 use lib.ListN.{length-replicate}

@@ -1,4 +1,4 @@
--- `aff_count` meets its contract: the answer of `count` for the record that the numbers stand for. Assumes nothing.
+-- `aff_count` meets its contract: the answer of `count` for the record with these numbers. Assumes nothing.
 use borrow.Author.Needs.{needs}
 use mathlib.Core.Path.{ap, _∙_}
 use Prim.Native.Nat.{ℕ}

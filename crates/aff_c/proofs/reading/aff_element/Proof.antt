@@ -1,4 +1,4 @@
--- `aff_element` meets its contract: the answer of `element` for the record that the numbers stand for. Assumes nothing.
+-- `aff_element` meets its contract: the answer of `element` for the record with these numbers. Assumes nothing.
 use borrow.Author.Needs.{needs}
 use mathlib.Core.Path.{ap, _∙_}
 use Rattle.aff_open.specs.declared.reader.Reader.{Reader}

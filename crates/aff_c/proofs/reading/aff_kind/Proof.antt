@@ -1,4 +1,4 @@
--- `aff_kind` meets its contract: the answer of `kind` for the record that the numbers stand for. Assumes nothing.
+-- `aff_kind` meets its contract: the answer of `kind` for the record with these numbers. Assumes nothing.
 use borrow.Author.Needs.{needs}
 use mathlib.Core.Path.{ap, _∙_}
 use Rattle.aff_format.specs.Kind.{kindCode}

@@ -1,4 +1,4 @@
--- `aff_listing` meets its contract: the answer of `listing` for the record that the numbers stand for. Assumes nothing.
+-- `aff_listing` meets its contract: the answer of `listing` for the record with these numbers. Assumes nothing.
 use borrow.Author.Needs.{needs}
 use mathlib.Core.Path.{_≡_, sym, ap, _∙_}
 use mathlib.Core.List.{List}

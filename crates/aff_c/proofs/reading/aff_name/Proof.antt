@@ -1,4 +1,4 @@
--- `aff_name` meets its contract: the answer of `name_bounds` for the record that the numbers stand for. Assumes nothing.
+-- `aff_name` meets its contract: the answer of `name_bounds` for the record with these numbers. Assumes nothing.
 use borrow.Author.Needs.{needs}
 use mathlib.Core.Path.{ap, _∙_}
 use Rattle.aff_open.specs.declared.reader.Reader.{Reader}

@@ -1,4 +1,4 @@
--- `aff_close` meets its contract: the answer of `close` for the record that the numbers and the form stand for. Assumes nothing.
+-- `aff_close` meets its contract: the answer of `close` for the record with these numbers and this form. Assumes nothing.
 use borrow.Author.Needs.{needs}
 use Rattle.aff_c.proofs.WritingLaws.{closed-left}
 use Rattle.aff_c.proofs.writing.aff_close.Statement.{statement}

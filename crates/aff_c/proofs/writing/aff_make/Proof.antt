@@ -1,4 +1,4 @@
--- `aff_make` meets its contract: the answer of `make` for the record that the numbers and the form stand for. Assumes nothing.
+-- `aff_make` meets its contract: the answer of `make` for the record with these numbers and this form. Assumes nothing.
 use borrow.Author.Needs.{needs}
 use Rattle.aff_c.proofs.WritingLaws.{made-left}
 use Rattle.aff_c.proofs.writing.aff_make.Statement.{statement}

@@ -1,4 +1,4 @@
--- `recorded::place` meets its contract: after the end of the area stands the default. Assumes nothing.
+-- `recorded::place` meets its contract: after the end of the area it is the default. Assumes nothing.
 use borrow.Author.Needs.{needs}
 use mathlib.Core.Path.{sym}
 use lib.ListN.{List·getD-eq-default}

@@ -1,4 +1,4 @@
--- `fit_below` meets its contract: the parent does not fit, the path ends there, another byte stands there, or the name decides.
+-- `fit_below` meets its contract: the parent does not fit, the path ends there, another byte is there, or the name decides.
 use borrow.Author.Needs.{needs}
 use mathlib.Core.Path.{_≡_, refl, ap, _∙_}
 use Prim.Native.Nat.{ℕ}

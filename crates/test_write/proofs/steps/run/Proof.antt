@@ -1,4 +1,4 @@
--- `run` meets its contract: the parts that it lends are as long as it says. Assumes nothing.
+-- `run` meets its contract: the parts that it passes are as long as it says. Assumes nothing.
 use borrow.Author.Needs.{needs}
 use mathlib.Core.Path.{sym}
 use lib.Seq.{length-take-le}
