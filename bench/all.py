@@ -42,7 +42,8 @@ def build():
     for name in ("md5", "open", "read", "write"):
         tools.program(name)
     stack.program()
-    tools.lister()
+    tools.lister("list")
+    tools.lister("listall")
     tools.second_reader()
 
 

@@ -1,10 +1,11 @@
 // The program that bench/read.py and bench/second.py build and run.
 // `read CALL FILE KEYS SAMPLES BATCH` opens the image of edition 2 in a file and then makes one call again and again, by the proved functions of
 // crates/aff_c. CALL is judge (the view of the root: 24 and nothing else), lookup, view, element, decode (of an element of a view that was taken
-// before), whole (a view, and the decoding of all its elements) or order (listing order, which must be that of the numbers). KEYS is a file of
-// lines `NODE PATH`, which the calls take in turn; NODE is 0 where no node has the path, and only lookup takes such. Element j of node n is
-// n + j / 1024, and a node with data has 64. A sample is the processor time of BATCH calls in a row, divided by BATCH. It prints the
-// median in seconds, and fails where an answer is another.
+// before), whole (a view, and the decoding of all its elements), order (listing order of all nodes, which must be that of the numbers) or short
+// (listing order of the nodes that are not Void, which must be those of the keys, in their order). KEYS is a file of lines `NODE PATH`, which the
+// calls take in turn; NODE is 0 where no node has the path, and only lookup takes such. Element j of node n is n + j / 1024, and a node with data
+// has 64. A sample is the processor time of BATCH calls in a row, divided by BATCH. It prints the median in seconds, and fails where an answer is
+// another.
 #include "../include/aff.h"
 #include "timing.h"
 
@@ -31,14 +32,14 @@ static bool decodes(uint64_t node, uint64_t offset, uint64_t size, uint64_t inde
     return aff_decode(AFF_DOUBLE, image + offset, size, index, &value, &imaginary) == 0 && value == node + index / 1024.0 && imaginary == 0;
 }
 
-// Whether listing order is that of the numbers, up to the last key's node at least.
-static bool ordered(void) {
+// Whether listing order is that of the numbers of all nodes, or has the nodes of the keys.
+static bool ordered(bool all) {
     static uint32_t output[2049];
     uint64_t listed = 0;
     memset(output, 0xff, sizeof output);
-    bool right = aff_listing(PASSED, output, 2049, &listed) == 0 && keys[count - 1].node < listed;
+    bool right = aff_listing(PASSED, all, output, 2049, &listed) == 0 && listed == (all ? record[10] + 1 : count);
     for (uint64_t i = 0; right && i < listed; i++) {
-        right = output[i] == i;
+        right = output[i] == (all ? i : keys[i].node);
     }
     return right;
 }
@@ -64,7 +65,9 @@ static bool call(uint64_t index) {
         return right;
     }
     case 'o':
-        return ordered();
+        return ordered(true);
+    case 's':
+        return ordered(false);
     default:
         return decodes(keys[k].node, keys[k].offset, keys[k].size, index);
     }
@@ -100,8 +103,8 @@ static void load(const char *path) {
 }
 
 int main(int argc, char **argv) {
-    if (argc != 6 || strchr("jlvedwo", argv[1][0]) == NULL) {
-        fputs("usage: read judge|lookup|view|element|decode|whole|order FILE KEYS SAMPLES BATCH\n", stderr);
+    if (argc != 6 || strchr("jlvedwos", argv[1][0]) == NULL) {
+        fputs("usage: read judge|lookup|view|element|decode|whole|order|short FILE KEYS SAMPLES BATCH\n", stderr);
         return 2;
     }
     which = argv[1][0];

@@ -1,6 +1,6 @@
 #!/usr/bin/env python3
 """The processor time of one reading call on an opened image, by its number of nodes: `lookup`, `view`, `element`, the decoding of a held view, and
-listing order.
+listing order of all nodes and of those that are not Void.
 
 Two shapes of tree, each of 256 and of 2,048 nodes: all nodes children of the root, with a name each; and three levels, whose names come again below
 each parent. Besides, lookups in images that are made to be slow. Nodes with data hold 64 Doubles. Keys are taken at random, the last among
@@ -52,6 +52,11 @@ def absent(tree):
     return [(0, path[:-1] + b"x") for _, path in drawn(tree)]
 
 
+def with_data(tree):
+    """The nodes that are not Void, in listing order, which is that of their numbers in these trees."""
+    return [(node, tree.path(node)) for node in tree.full]
+
+
 def long_absent(tree):
     return [(0, b"/x/" + b"a" * LONG)]
 
@@ -65,7 +70,8 @@ USUAL = [
     ("`view`", "view", drawn),
     ("`element`", "element", drawn),
     ("decoding of a held view", "decode", drawn),
-    ("listing order", "order", last),
+    ("listing order, all nodes", "order", last),
+    ("listing order, nodes that are not Void", "short", with_data),
 ]
 
 # Lookups that are made to be slow: what they are, the name of each node of the chain, and the key.

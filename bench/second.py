@@ -1,7 +1,7 @@
 #!/usr/bin/env python3
 """The times of the library's functions beside those of the second reader's, tests/second_reader, on the same files.
 
-Both take processor time by the same clock, in the same way (bench/timing.h, tests/second_reader/src/times.rs); those of the two programs that list
+Both take processor time by the same clock, in the same way (bench/timing.h, tests/second_reader/src/times.rs); those of the programs `list` and `listall`
 are elapsed times, from the start of the process to its end. The run fails where a digest, an opening's number, a looked up node, an
 element, a built file or a listing is another than expected. The two take turns; bench/tools.py says how times are taken.
 
@@ -23,7 +23,7 @@ from tools import OUT, Table, batched, in_turns, lister, measured, printed, prog
 from trees import flat, levels
 
 MANY = 2048
-# The most that `list` takes.
+# The most bytes that `list` and `listall` take.
 LISTED = 65536
 
 # What an image is, the expected number, and its maker.
@@ -34,7 +34,8 @@ READ = [
     ("`lookup`, keys at random", "lookup", read.drawn),
     ("`lookup`, the last key", "lookup", read.last),
     ("`view` and the decoding of its 64 Doubles", "whole", read.drawn),
-    ("listing order", "order", read.last),
+    ("listing order, all nodes", "order", read.last),
+    ("listing order, nodes that are not Void", "short", read.with_data),
 ]
 
 SHAPES = [("flat", flat), ("three levels", levels)]
@@ -88,9 +89,15 @@ def launched(words, image, output):
     return time.perf_counter() - begin
 
 
-def listed(rounds, tree):
-    """The two programs on an image whose nodes stand in listing order."""
-    lines = [b"/ void 0\n"] + [b"%s %s\n" % (tree.path(n), b"int 1" if tree.nodes[n - 1][2] else b"void 0") for n in range(1, MANY + 1)]
+def lines(tree, program):
+    """What `list` or `listall` prints of a tree whose numbers are in listing order."""
+    nodes = [(b"/", False)] + [(tree.path(number), full) for number, (_, _, full) in enumerate(tree.nodes, 1)]
+    return [b"%s %s\n" % (path, b"int 1" if full else b"void 0") for path, full in nodes if full or program == "listall"]
+
+
+def listed(rounds, tree, program):
+    """Our program `list` or `listall` and the second reader's, on one image."""
+    expected = b"".join(lines(tree, program))
     with tempfile.TemporaryDirectory(dir=OUT) as folder:
         image, output = os.path.join(folder, "image"), os.path.join(folder, "output")
         with open(image, "wb") as file:
@@ -100,13 +107,13 @@ def listed(rounds, tree):
             def samples(count, batch):
                 found = [sum(launched(words, image, output) for _ in range(batch)) / batch for _ in range(count)]
                 with open(output, "rb") as file:
-                    if file.read() != b"".join(lines):
+                    if file.read() != expected:
                         sys.exit(f"{' '.join(words)}: another listing than expected")
                 return [statistics.median(found)]
 
             return batched(samples)
 
-        return in_turns(rounds, run(lister()), run(second_reader(), "list", image))
+        return in_turns(rounds, run(lister(program)), run(second_reader(), program, image))
 
 
 def tables(rounds):
@@ -125,8 +132,9 @@ def tables(rounds):
             add(f"{what}; 2,048 nodes, {shape}", called(rounds, bench, call, keys))
     for shape, make in SHAPES:
         add(f"a whole file of 2,048 nodes, {shape}: `begin`, `make` and `put` for each node, `close`", built(rounds, make(MANY)))
-    add("the programs `list`; 2,048 nodes, flat, all Void", listed(rounds, flat(MANY, False)))
-    add("the programs `list`; 2,048 nodes, three levels, an Int in each of the last", listed(rounds, levels(MANY)))
+    for what, tree in (("flat, all Void", flat(MANY, False)), ("three levels, an Int in each of the last", levels(MANY))):
+        for name in ("list", "listall"):
+            add(f"the programs `{name}`; 2,048 nodes, {what}", listed(rounds, tree, name))
     return [table]
 
 

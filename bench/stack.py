@@ -35,8 +35,9 @@ def tables(_):
     if done.returncode:
         sys.exit(f"{done.stdout}tests/stack.c failed")
     for line in done.stdout.splitlines():
-        call, most = line.split()
-        table.add(f"`{call}`", f"{int(most):,}")
+        call, most = line.rsplit(maxsplit=1)
+        name, *choice = call.split(", ")
+        table.add(", ".join([f"`{name}`", *choice]), f"{int(most):,}")
     return [table]
 
 

@@ -40,9 +40,10 @@ def program(name):
 
 
 @functools.cache
-def lister():
-    build("rt", "check", "list")
-    return os.path.join(ROOT, "target", "bin", "list")
+def lister(name):
+    """The program `list` or `listall`."""
+    build("rt", "check", name)
+    return os.path.join(ROOT, "target", "bin", name)
 
 
 @functools.cache

@@ -92,9 +92,11 @@ uint32_t aff_open_image(const uint8_t *image, size_t image_length, const uint8_t
 // Finds the node with a path such as "/a/n"; the root's path is "/". Returns 14 for a malformed path, 15 if no node has it.
 uint32_t aff_lookup(AFF_OPENED, const uint8_t *path, size_t path_length, uint64_t *node);
 
-// Stores the numbers of all nodes, the root first, each node followed by its children in number order and each child by its whole subtree. count is how
-// many: record[10] + 1, so at most 2,049. Returns 21 if the output is shorter.
-uint32_t aff_listing(AFF_OPENED, uint32_t *output, size_t output_length, uint64_t *count);
+// Stores the numbers of nodes at the front of the output, each node before its children, these in number order and each child followed by its whole
+// subtree. With all true: every node, the root first. With all false: the same order without the Void nodes, so without the root; a node of another type
+// is listed also if it has no elements, and so are the nodes below a Void one. count is how many numbers were stored: record[10] + 1 with all true, at
+// most 2,048 with all false, and 0 if all nodes are Void. Returns 21 if the output has fewer places than that.
+uint32_t aff_listing(AFF_OPENED, bool all, uint32_t *output, size_t output_length, uint64_t *count);
 
 // Finds a node's name: the size bytes at image + offset, not counting the zero byte that ends it there. The root's name is empty. Returns 15 for a
 // number of no node.

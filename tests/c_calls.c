@@ -222,7 +222,9 @@ static void null_reading(const uint8_t *worked) {
     CHECK(aff_count(worked, WORKED, record, strings, AFF_STRINGS, NULL, 0, 2, &n) == AFF_ERR_MISMATCH && n == 77);
     CHECK(aff_name(OPENED(NULL, 0), 0, &n, &size) == AFF_ERR_MISMATCH && aff_view(OPENED(NULL, 0), 0, &n, &size) == AFF_ERR_MISMATCH);
     CHECK(aff_kind(OPENED(NULL, 0), 0, &n) == AFF_ERR_MISMATCH && aff_element(OPENED(NULL, 0), 2, 0, &value, &imaginary) == AFF_ERR_MISMATCH);
-    CHECK(aff_listing(OPENED(worked, WORKED), NULL, 0, &n) == AFF_ERR_SPACE && aff_path(OPENED(worked, WORKED), 2, NULL, 0, &n) == AFF_ERR_SPACE);
+    CHECK(aff_listing(OPENED(NULL, 0), true, NULL, 0, &n) == AFF_ERR_MISMATCH && aff_listing(OPENED(NULL, 0), false, NULL, 0, &n) == AFF_ERR_MISMATCH);
+    CHECK(aff_listing(OPENED(worked, WORKED), true, NULL, 0, &n) == AFF_ERR_SPACE && aff_listing(OPENED(worked, WORKED), false, NULL, 0, &n) == AFF_ERR_SPACE);
+    CHECK(aff_path(OPENED(worked, WORKED), 2, NULL, 0, &n) == AFF_ERR_SPACE);
     CHECK(aff_decode(AFF_INT, NULL, 0, 0, &value, &imaginary) == AFF_ERR_INDEX && value == 77 && imaginary == 77 && n == 77 && size == 77);
     CHECK(aff_lookup(OPENED(worked, WORKED), (const uint8_t *)"/a/n", 4, &n) == AFF_OK && n == 2);
 }
@@ -247,13 +249,47 @@ static void null_writing(void) {
 
 // ---- Outputs of exactly the length needed, and special numbers
 
-static void outputs(const uint8_t *worked) {
-    uint32_t order[4] = {9, 9, 9, 9};
-    uint8_t path[5] = "xxxx";
-    uint64_t n = 77;
+// Listing order into outputs from no place to one more than needed. Refused, it changes nothing; accepted, it stores the numbers and leaves the rest.
+static void listed(const uint8_t *image, size_t length, bool all, const uint32_t *expected, size_t needed) {
+    for (size_t places = 0; places <= needed + 1; places++) {
+        uint32_t order[8] = {9, 9, 9, 9, 9, 9, 9, 9};
+        uint64_t count = 77;
+        bool fits = needed <= places;
+        CHECK(aff_listing(OPENED(image, length), all, order, places, &count) == (uint32_t)(fits ? AFF_OK : AFF_ERR_SPACE));
+        CHECK(count == (fits ? needed : 77));
+        for (size_t k = 0; k < 8; k++) {
+            CHECK(order[k] == (fits && k < needed ? expected[k] : 9));
+        }
+    }
+}
+
+// The worked file; a Void node, a Double with no element and an Int below the Void node; Void nodes only; no node.
+static void listings(const uint8_t *worked) {
+    static struct writer w;
     CHECK(open_image(worked, WORKED) == AFF_OK);
-    CHECK(aff_listing(OPENED(worked, WORKED), order, 2, &n) == AFF_ERR_SPACE && n == 77 && order[0] == 9);
-    CHECK(aff_listing(OPENED(worked, WORKED), order, 3, &n) == AFF_OK && n == 3 && order[0] == 0 && order[2] == 2 && order[3] == 9);
+    listed(worked, WORKED, true, (const uint32_t[]){0, 1, 2}, 3);
+    listed(worked, WORKED, false, (const uint32_t[]){2}, 1);
+    reset(&w, BUFFER, 0);
+    CHECK(begin(&w, 1) == AFF_OK && make(&w, 0, "a") == AFF_OK && make(&w, 0, "b") == AFF_OK && make(&w, 1, "c") == AFF_OK);
+    CHECK(put(&w, 2, AFF_DOUBLE, 0, 0) == AFF_OK && put(&w, 3, AFF_INT, 4, 4) == AFF_OK && finish(&w, UINT64_MAX) == AFF_OK);
+    CHECK(open_image(w.buffer, BUFFER) == AFF_OK);
+    listed(w.buffer, BUFFER, true, (const uint32_t[]){0, 1, 3, 2}, 4);
+    listed(w.buffer, BUFFER, false, (const uint32_t[]){3, 2}, 2);
+    for (int nodes = 2; 0 <= nodes; nodes -= 2) {
+        uint64_t count = 77;
+        reset(&w, BUFFER, 0);
+        CHECK(begin(&w, 1) == AFF_OK && (nodes == 0 || (make(&w, 0, "a") == AFF_OK && make(&w, 1, "b") == AFF_OK)) && finish(&w, UINT64_MAX) == AFF_OK);
+        CHECK(open_image(w.buffer, BUFFER) == AFF_OK);
+        listed(w.buffer, BUFFER, true, (const uint32_t[]){0, 1, 2}, (size_t)nodes + 1);
+        listed(w.buffer, BUFFER, false, NULL, 0);
+        CHECK(aff_listing(OPENED(w.buffer, BUFFER), false, NULL, 0, &count) == AFF_OK && count == 0);
+    }
+}
+
+static void outputs(const uint8_t *worked) {
+    uint8_t path[5] = "xxxx";
+    uint64_t n = 3;
+    CHECK(open_image(worked, WORKED) == AFF_OK);
     CHECK(aff_path(OPENED(worked, WORKED), 2, path, 3, &n) == AFF_ERR_SPACE && n == 3 && path[0] == 'x');
     CHECK(aff_path(OPENED(worked, WORKED), 2, path, 5, &n) == AFF_OK && n == 4 && memcmp(path, "/a/n", 5) == 0);
     CHECK(aff_path(OPENED(worked, WORKED), 3, path, 5, &n) == AFF_ERR_NOT_FOUND && n == 4);
@@ -304,6 +340,7 @@ int main(int argc, char **argv) {
     finished_size(worked);
     null_reading(worked);
     null_writing();
+    listings(worked);
     outputs(worked);
     special_numbers();
     printf("%lu checks, %lu failed\n", checks, failures);

@@ -1,6 +1,6 @@
 #!/usr/bin/env python3
-"""All the evidence from outside the proofs in one run: the library in C and C++, its stack, the library beside the second reader, the program
-`list`, runs of the writer, real kills.
+"""All the evidence from outside the proofs in one run: the library in C and C++, its stack, the library beside the second reader, the programs
+`list` and `listall`, runs of the writer, real kills.
 
     tests/evidence.py [SEED [PART]]
 
@@ -8,7 +8,7 @@ SEED is 6000 where none is given; every image and run of a seed is the same each
 numbers of images, runs and kills, for a short try. The last line is 'nothing differs', or names the parts that differ, and the exit status is then
 1. docs/EVIDENCE.md says what is compared.
 
-It needs rt, cargo, a C compiler as cc, a C++ compiler as c++, and Linux on x86-64, and works below target/. The lister and the library are proved
+It needs rt, cargo, a C compiler as cc, a C++ compiler as c++, and Linux on x86-64, and works below target/. The listers and the library are proved
 again where their proofs are not up to date.
 """
 import argparse
@@ -32,7 +32,7 @@ WARNINGS = ["-Wall", "-Wextra", "-pedantic", "-Werror", "-Wconversion", "-Wshado
 # What is compared by the second reader, the command, how many, and what follows these on the command line.
 COMPARED = [
     ("images in memory: opening, every reading call, altered memory", "agree", 20_000, []),
-    ("images through the program `list`", "lists", 500, [os.path.join(TARGET, "bin", "list")]),
+    ("images through the programs `list` and `listall`", "lists", 500, [os.path.join(TARGET, "bin", name) for name in ("list", "listall")]),
     ("runs of the writer, whole and cut, altered memory", "writes", 5_000, []),
     ("processes killed while they write into a mapped file", "kills", 2_000, [FOLDER]),
     ("runs stopped after each instruction", "steps", 20, [FOLDER]),
@@ -47,8 +47,8 @@ def built(command, **more):
 
 
 def build():
-    """The lister, the static library, and the second reader with it."""
-    built(["rt", "check", "list"])
+    """The listers, the static library, and the second reader with it."""
+    built(["rt", "check", "list", "listall"])
     built(["rt", "staticlib", "aff_c"])
     manifest = os.path.join(ROOT, "tests", "second_reader", "Cargo.toml")
     folders = {"CARGO_TARGET_DIR": os.path.join(TARGET, "second_reader"), "AFF_LIBRARY": os.path.join(TARGET, "staticlib")}

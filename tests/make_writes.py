@@ -238,7 +238,7 @@ class Script:
         return [(p, n, k, len(d) // SIZE.get(k, 1)) for p, n, k, d in self.tree]
 
     def listed(self):
-        """The buffer as `list` prints it."""
+        """The buffer as `listall` prints it."""
         self.step("l")
         self.out.append(brief(lines(self.rows())).decode())
 

@@ -1,8 +1,9 @@
 // The stack that each call of include/aff.h needs: `stack [-s BYTES] IMAGE...` runs every call in a thread with a stack of BYTES (327,680 where none
 // is given) in memory of its own, above a page that cannot be touched. The stack is filled with a pattern before each call; what a call needs is
 // counted from the frame of its caller down to the lowest byte that changed. An image is a chain of nodes: the calls are made for its last node in
-// listing order, the deepest. The writer makes a chain of 2,048 nodes, each below the last; its file is read too.
-// It prints a line for each call, `NAME BYTES`, the most over all chains. The exit status is 1 where that is above 262,144, or where a call is refused.
+// listing order, the deepest, which has data. The writer makes a chain of 2,048 nodes, each below the last; its file is read too.
+// It prints a line for each call, `NAME BYTES`, the most over all chains; for aff_listing a line for each choice, `NAME, CHOICE BYTES`. The exit status is
+// 1 where that is above 262,144, or where a call is refused.
 #define _GNU_SOURCE
 #include "aff.h"
 #include <pthread.h>
@@ -106,9 +107,15 @@ static uint32_t call_open_image(void) {
 }
 
 static uint32_t call_listing(void) {
-    uint32_t found = aff_listing(OPENED, order, NODES + 1, &number);
-    node = order[number - 1];
+    uint64_t count = 0;
+    uint32_t found = aff_listing(OPENED, false, order, NODES + 1, &count);
+    node = count == 0 ? 0 : order[count - 1];
     return found;
+}
+
+static uint32_t call_listing_all(void) {
+    uint32_t found = aff_listing(OPENED, true, order, NODES + 1, &number);
+    return found == AFF_OK && order[number - 1] != node ? (uint32_t)AFF_ERR_NOT_FOUND : found;
 }
 
 static uint32_t call_name(void) {
@@ -148,7 +155,8 @@ static uint32_t call_decode(void) {
 static struct call reading[] = {
     {"aff_form_for", call_form_for, 0},
     {"aff_open_image", call_open_image, 0},
-    {"aff_listing", call_listing, 0},
+    {"aff_listing, nodes that are not Void", call_listing, 0},
+    {"aff_listing, all nodes", call_listing_all, 0},
     {"aff_name", call_name, 0},
     {"aff_kind", call_kind, 0},
     {"aff_count", call_count, 0},

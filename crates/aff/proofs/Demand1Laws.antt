@@ -40,7 +40,7 @@ use Rattle.aff_run.proofs.AreasHoldLaws.{run-held}
 use Rattle.aff.specs.Demand1.{NotBy, Is24, Not24, Is24Unless, EachReading, EachWriting, Numbered, callStores, Demand1}
 use Rattle.aff.proofs.LeavesLaws.{opening-leaves, reading-leaves, begin-leaves, writing-leaves}
 use Rattle.aff.proofs.RulesLaws.{opening-by, decode-by, reading-by, begin-by, writing-by}
-use Rattle.aff_read.specs.ListingOrder.{listingAnswer}
+use Rattle.aff_read.specs.ListingOrder.{listedCount, listingAnswer}
 
 -- ---- Checks that report other numbers.
 
@@ -87,7 +87,7 @@ module _ (Sort : (A : Type 0) → Answer A → Type 0) (image : List ℕ) (r : R
         lookup = λ path.
             f _ (check (not (isPath (editionBy r) path)) (refusal 14) ∷ check (not (isAt (found image r strings entries path))) (refusal 15) ∷ []) _
             (refl, (refl, tt));
-        listing = λ buffer. f _ (short buffer (r .nodes + 1)) _ (refl, tt);
+        listing = λ choice buffer. f _ (short buffer (listedCount image r strings entries choice)) _ (refl, tt);
       }
 
 module _ (image : List ℕ) (r : Reader) (strings entries : List ℕ) where

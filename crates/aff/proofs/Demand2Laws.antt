@@ -10,7 +10,7 @@ use native.Mathlib.Numerals.{add-one}
 use native.Mathlib.Omega.{arith}
 use lib.Dec.{eqb, ltb}
 use lib.ListN.{length, getD, take}
-use borrow.Author.Tests.{ne-eqb, le-ltb, le-leb, lt-leb}
+use borrow.Author.Tests.{ne-eqb, lt-ltb, le-ltb, le-leb, lt-leb}
 use Rattle.aff_format.specs.Answer.{accepted, refused, check, refusal}
 use Rattle.aff_format.specs.Bytes.{part}
 use Rattle.aff_format.specs.Edition.{editionNumber}
@@ -45,14 +45,18 @@ use Rattle.aff_read.specs.Recall.{kindAt, parentAt, nameAt, dataSpan, spanBytes
 use Rattle.aff_read.proofs.FrontLaws.{name-bytes}
 use Rattle.aff_read.proofs.ListingLaws.{preorder-same}
 use Rattle.aff_read.proofs.LookupLaws.{lookup-malformed, lookup-accepts, lookup-absent}
-use Rattle.aff_read.proofs.OnceLaws.{order-once, order-only, order-length}
+use Rattle.aff_read.proofs.KeptLaws.{preorder-kept, kept-count, every-below}
+use Rattle.aff_read.proofs.ListedLaws.{order-count, order-only, order-length}
 use Rattle.aff_read.proofs.UniqueLaws.{lookup-only, lookup-path}
 use Rattle.aff_read.specs.Shows.{PartIs}
 use Rattle.aff_run.proofs.ShownLaws.{name-part, view-part, number-absent}
 use Rattle.aff.specs.Demand2.{dataNamed, Reads, itsEntry, itsName, itsParent, itsPath, ItsNode, NoNode, ReadsFile, Demand2}
 use Rattle.aff.proofs.CasesLaws.{cases-hold}
 use Rattle.aff.proofs.Demand1Laws.{others-not}
-use Rattle.aff_read.specs.ListingOrder.{preorder, listingOrder, listingAnswer}
+use Rattle.aff_read.specs.ListingOrder.{lists, own, preorder, kept, isListed, listingOrder, listedCount, listingAnswer}
+use Rattle.aff_read.specs.Once.{occurrences}
+use Rattle.aff_read.specs.declared.choice.Choice.{Choice}
+use Rattle.aff_read.specs.declared.choice.Choice.the-variants.{AllNodes, NotVoid}
 
 -- ---- What is read with a record that belongs.
 
@@ -111,9 +115,38 @@ module _ (image : List ℕ) (r : Reader) (strings entries : List ℕ) (b : Reade
     unfolding elementAnswer
     element-past index h = rw (it, passes, le-leb (recordedEntry image entries node .count) index h)
 
-  order-begins : take 1 (listingOrder image r strings entries) ≡ 0 ∷ []
-  unfolding preorder
+  order-begins : take 1 (listingOrder image r strings entries AllNodes) ≡ 0 ∷ []
+  unfolding preorder own
   order-begins = rw (add-one (r .nodes))
+
+  -- Both answers of listing, by the length of the order.
+  listing-length : (choice : Choice) (size : ℕ) → length (listingOrder image r strings entries choice) ≤ size
+      → listingAnswer image r strings entries choice size ≡ accepted (length (listingOrder image r strings entries choice))
+  unfolding listingAnswer
+  listing-length choice size h =
+      let few : listedCount image r strings entries choice ≤ size = omega (arith, order-length b choice) in
+      rw (it, le-ltb size (listedCount image r strings entries choice) few) (ap accepted (sym (order-length b choice)))
+
+  listing-short : (choice : Choice) (size : ℕ) → size < length (listingOrder image r strings entries choice)
+      → listingAnswer image r strings entries choice size ≡ refused (refusal 21)
+  unfolding listingAnswer
+  listing-short choice size h =
+      let many : size < listedCount image r strings entries choice = omega (arith, order-length b choice) in
+      rw (it, lt-ltb size (listedCount image r strings entries choice) many)
+
+  -- The short order.
+  short-order : listingOrder image r strings entries NotVoid
+      ≡ kept (λ node. not (isVoid (recordedEntry image entries node .kind))) (listingOrder image r strings entries AllNodes)
+  short-order = preorder-kept (isListed image entries NotVoid) (parentAt image entries) (r .nodes + 1) (r .nodes + 1) 0
+
+  short-once : (node : ℕ) → node ≤ r .nodes → isVoid (recordedEntry image entries node .kind) ≡ false → occurrences node (listingOrder image r strings entries NotVoid) ≡ 1
+  short-once node h e = order-count b NotVoid node h ∙ rw e
+
+  short-void : (node : ℕ) → isVoid (recordedEntry image entries node .kind) ≡ true → occurrences node (listingOrder image r strings entries NotVoid) ≡ 0
+  short-void node e =
+      ap (occurrences node) short-order
+      ∙ kept-count (isListed image entries NotVoid) node (listingOrder image r strings entries AllNodes)
+      ∙ rw e
 
   reads : Reads image r strings entries
   reads =
@@ -126,9 +159,16 @@ module _ (image : List ℕ) (r : Reader) (strings entries : List ℕ) (b : Reade
         element = λ node index there. element-read node there index;
         element-past = λ node index there. element-past node there index;
         order-begins = order-begins;
-        order-once = order-once b;
-        order-only = order-only b;
-        order-length = order-length b;
+        order-once = order-count b AllNodes;
+        order-only = order-only b AllNodes;
+        order-length = order-length b AllNodes ∙ every-below (r .nodes + 1);
+        short-order = short-order;
+        short-once = short-once;
+        short-void = short-void;
+        short-only = order-only b NotVoid;
+        short-length = order-length b NotVoid;
+        listing-length = listing-length;
+        listing-short = listing-short;
       }
 
 -- ---- What is read right after an accepted opening.
@@ -239,15 +279,20 @@ module _ (image form strings entries : List ℕ) {r : Reader} (h : openAnswer im
     λ o k l e. o k (omega (arith, nodes-count)) (sym (path-is k l) ∙ e),
   )
 
-  -- Listing order by the file's parents.
-  order-is : listingOrder image r ss es ≡ preorder (itsParent file) (length (file .entries) + 1) (length (file .entries) + 1) 0
-  order-is =
-      preorder-same (parentAt image es) (itsParent file) (r .nodes + 1) (r .nodes + 1) 0 (λ k lo hi. parent-is k (omega arith))
-      ∙ ap (λ (n : ℕ). preorder (itsParent file) (n + 1) (n + 1) 0) nodes-count
+  -- Listing order by the file's types and parents.
+  order-is : (choice : Choice) → listingOrder image r ss es choice
+      ≡ preorder (λ node. lists choice (itsEntry file node .kind)) (itsParent file) (length (file .entries) + 1) (length (file .entries) + 1) 0
+  order-is choice =
+      let keep : ℕ → Bool = λ node. lists choice (itsEntry file node .kind) in
+      preorder-same (parentAt image es) (itsParent file) (isListed image es choice) keep (r .nodes + 1) (λ k lo hi. parent-is k (omega arith))
+      (λ k hi. ap (λ (e : Entry). lists choice (e .kind)) (entry-is k (omega arith))) (r .nodes + 1) 0 (omega arith)
+      ∙ ap (λ (n : ℕ). preorder keep (itsParent file) (n + 1) (n + 1) 0) nodes-count
 
-  listing-is : (size : ℕ) → length (file .entries) < size → listingAnswer image r ss es size ≡ accepted (length (file .entries) + 1)
+  listing-is : (size : ℕ) → length (file .entries) < size → listingAnswer image r ss es AllNodes size ≡ accepted (length (file .entries) + 1)
   unfolding listingAnswer
-  listing-is size l = rw (record-belongs shown, nodes-count, le-ltb size (length (file .entries) + 1) (omega arith))
+  listing-is size l =
+      let all : listedCount image r ss es AllNodes ≡ length (file .entries) + 1 = every-below (r .nodes + 1) ∙ ap (λ (n : ℕ). n + 1) nodes-count in
+      rw (record-belongs shown, all, le-ltb size (length (file .entries) + 1) (omega arith))
 
   reads-file : ReadsFile image r ss es file
   unfolding nameAt kindAnswer countAnswer

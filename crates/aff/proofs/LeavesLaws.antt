@@ -25,7 +25,7 @@ use Rattle.aff_open.proofs.BelongsLaws.{belongs-record}
 use Rattle.aff_read.specs.Answers.{existsChecks as numberChecks}
 use Rattle.aff_read.specs.Paths.{pathAnswer}
 use Rattle.aff_read.specs.Recall.{pathAt}
-use Rattle.aff_read.proofs.OnceLaws.{order-length}
+use Rattle.aff_read.proofs.ListedLaws.{order-length}
 use Rattle.aff_areas.specs.Stores.{applyStores}
 use Rattle.aff_areas.specs.Writer.{stopped}
 use Rattle.aff_run.specs.Run.{Call, make, put, close, State, next, beginStep, needed, completed, step, afterCall, Run, runBegin, runStart}
@@ -33,7 +33,8 @@ use Rattle.aff_run.proofs.BeginInvariantLaws.{begin-stores}
 use Rattle.aff_run.proofs.BeginRefusedLaws.{none-stored}
 use Rattle.aff_run.proofs.RunLaws.{needed-made, next-unchanged}
 use Rattle.aff.specs.Leaves.{OpeningLeaves, ReadingLeaves, BeginLeaves, WritingLeaves}
-use Rattle.aff_read.specs.ListingOrder.{listingOrder, listingAnswer}
+use Rattle.aff_read.specs.ListingOrder.{listingOrder, listedCount, listingAnswer}
+use Rattle.aff_read.specs.declared.choice.Choice.{Choice}
 use Rattle.aff_read.proofs.OutputLaws.{text-fits, wrote}
 
 -- ---- Opening.
@@ -90,14 +91,15 @@ opening-leaves image form strings entries =
 -- ---- Outputs.
 
 module _ (image : List ℕ) (r : Reader) (strings entries : List ℕ) where
-  listing-fits : (size : ℕ) {n : ℕ} → listingAnswer image r strings entries size ≡ accepted n
-      → (n ≡ length (listingOrder image r strings entries)) × (length (listingOrder image r strings entries) ≤ size)
+  listing-fits : (choice : Choice) (size : ℕ) {n : ℕ} → listingAnswer image r strings entries choice size ≡ accepted n
+      → (n ≡ length (listingOrder image r strings entries choice)) × (length (listingOrder image r strings entries choice) ≤ size)
   unfolding listingAnswer
-  listing-fits size h =
+  listing-fits choice size h =
       let checks = check (not (readerBelongs image r strings entries)) (refusal 24) ∷ [] in
-      let (e, l) = text-fits checks size (r .nodes + 1) h in
-      let c = passed (checks ++ (check (ltb size (r .nodes + 1)) (refusal 21) ∷ [])) (r .nodes + 1) h in
-      let k = order-length (belongs-record (not-false (readerBelongs image r strings entries) (c .0))) in
+      let count = listedCount image r strings entries choice in
+      let (e, l) = text-fits checks size count h in
+      let c = passed (checks ++ (check (ltb size count) (refusal 21) ∷ [])) count h in
+      let k = order-length (belongs-record (not-false (readerBelongs image r strings entries) (c .0))) choice in
       (e ∙ sym k, omega (arith, k))
 
   pub reading-leaves : ReadingLeaves image r strings entries
@@ -107,8 +109,9 @@ module _ (image : List ℕ) (r : Reader) (strings entries : List ℕ) where
         path = λ node out.
             wrote (pathAnswer image r strings entries node (length out)) (pathAt image r strings entries node) out
             (λ n h. text-fits (numberChecks image r strings entries node) (length out) (length (pathAt image r strings entries node)) h);
-        listing = λ out.
-            wrote (listingAnswer image r strings entries (length out)) (listingOrder image r strings entries) out (λ n h. listing-fits (length out) h);
+        listing = λ choice out.
+            wrote (listingAnswer image r strings entries choice (length out)) (listingOrder image r strings entries choice) out
+            (λ n h. listing-fits choice (length out) h);
         no-name = λ node t h. rw h;
         no-view = λ node t h. rw h;
       }

@@ -55,7 +55,7 @@ use Rattle.aff_write.specs.Put.{takesNone, wrongData, putPlace, putStores, data
 use Rattle.aff_run.proofs.BeginInvariantLaws.{lengths-right}
 use Rattle.aff_run.proofs.InvariantLaws.{is-void}
 use Rattle.aff.specs.Rules.{fits, decodeRules, existsRules, lookupRules, ReadingByRules, beginRules, DataFits, writerRules, NoSuchChild, Few, makeRules, putRules, closeRules, WritingByRules}
-use Rattle.aff_read.specs.ListingOrder.{listingAnswer}
+use Rattle.aff_read.specs.ListingOrder.{listedCount, listingAnswer}
 
 -- ---- Tests and what they ask.
 
@@ -136,7 +136,7 @@ module _ (image : List ℕ) (r : Reader) (strings entries : List ℕ) where
         element = λ node index. by-checks _ (node-asks node (one (is-below (countAt image entries node) index) (λ _. none)));
         path = λ node buffer. by-checks _ (node-asks node (fits-asks (length (pathAt image r strings entries node)) buffer));
         lookup = lookup-by;
-        listing = λ buffer. by-checks _ (one reader-asks (λ _. fits-asks (r .nodes + 1) buffer));
+        listing = λ choice buffer. by-checks _ (one reader-asks (λ _. fits-asks (listedCount image r strings entries choice) buffer));
       }
 
 -- ---- Writing.

@@ -36,6 +36,7 @@ use Rattle.aff.specs.Leaves.{OpeningLeaves, ReadingLeaves, BeginLeaves, 
 use Rattle.aff_format.specs.Rule.{By, Is}
 use Rattle.aff.specs.Rules.{decodeRules, ReadingByRules, beginRules, WritingByRules}
 use Rattle.aff_read.specs.ListingOrder.{listingAnswer}
+use Rattle.aff_read.specs.declared.choice.Choice.{Choice}
 
 -- An answer is no refusal by this number.
 abbrev pub NotBy : {A : Type 0} → ℕ → Answer A → Type 0
@@ -61,7 +62,7 @@ pub record EachReading (Sort : (A : Type 0) → Answer A → Type 0) (image : Li
   pub element : (node index : ℕ) → Sort _ (elementAnswer image r strings entries node index)
   pub path : (node size : ℕ) → Sort _ (pathAnswer image r strings entries node size)
   pub lookup : (path : List ℕ) → Sort _ (lookupAnswer image r strings entries path)
-  pub listing : (size : ℕ) → Sort _ (listingAnswer image r strings entries size)
+  pub listing : (choice : Choice) (size : ℕ) → Sort _ (listingAnswer image r strings entries choice size)
 
 -- The same of each writing call.
 pub record EachWriting (Sort : (A : Type 0) → Answer A → Type 0) (buffer : List ℕ) (w : Writer) (text tree : List ℕ) : Type 0 where

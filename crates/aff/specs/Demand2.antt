@@ -4,7 +4,7 @@
 -- trace of how they are checked; `rules`, there in Faults.antt, is the same rules in document 01's order, of the strings and entries into which the
 -- tables split from the front (`stringsIn`, `nodesIn`, `bytesAfterNodes`).
 use mathlib.Core.Path.{_≡_}
-use mathlib.Core.Bool.{cond}
+use mathlib.Core.Bool.{true, false, cond, not}
 use mathlib.Core.List.{List, [], _∷_, _++_}
 use mathlib.Core.Logic.{_↔_}
 use Prim.Native.Nat.{ℕ, _+_, _*_, _≤_, _<_}
@@ -37,7 +37,9 @@ use Rattle.aff_read.specs.Once.{occurrences}
 use Rattle.aff_read.specs.Recall.{nameAt, pathAt}
 use Rattle.aff_read.specs.Shows.{PartIs, Absent}
 use Rattle.aff.specs.Cases.{EachHolds, caseTable}
-use Rattle.aff_read.specs.ListingOrder.{preorder, listingOrder, listingAnswer}
+use Rattle.aff_read.specs.ListingOrder.{lists, preorder, kept, keptBelow, listingOrder, listingAnswer}
+use Rattle.aff_read.specs.declared.choice.Choice.{Choice}
+use Rattle.aff_read.specs.declared.choice.Choice.the-variants.{AllNodes, NotVoid}
 
 -- The bytes that an entry names: its count of elements, from its offset on; none where it is Void.
 abbrev pub dataNamed : List ℕ → Entry → List ℕ
@@ -90,11 +92,22 @@ module _ (image : List ℕ) (r : Reader) (strings entries : List ℕ) where
     pub element : (node index : ℕ) → node ≤ r .nodes → index < shown node .count
         → here elementAnswer node index ≡ accepted (elementAt (shown node .kind) (dataNamed image (shown node)) index)
     pub element-past : (node index : ℕ) → node ≤ r .nodes → shown node .count ≤ index → here elementAnswer node index ≡ refused (refusal 16)
-    -- Listing order begins with the root and has each node exactly once, and nothing else.
-    pub order-begins : take 1 (here listingOrder) ≡ 0 ∷ []
-    pub order-once : (node : ℕ) → node ≤ r .nodes → occurrences node (here listingOrder) ≡ 1
-    pub order-only : (n : ℕ) → r .nodes < n → occurrences n (here listingOrder) ≡ 0
-    pub order-length : length (here listingOrder) ≡ r .nodes + 1
+    -- Listing order of all nodes begins with the root and has each node exactly once, and nothing else.
+    pub order-begins : take 1 (here listingOrder AllNodes) ≡ 0 ∷ []
+    pub order-once : (node : ℕ) → node ≤ r .nodes → occurrences node (here listingOrder AllNodes) ≡ 1
+    pub order-only : (n : ℕ) → r .nodes < n → occurrences n (here listingOrder AllNodes) ≡ 0
+    pub order-length : length (here listingOrder AllNodes) ≡ r .nodes + 1
+    -- The short order is exactly that order without its Void nodes. It has each node that is not Void exactly once, and no other number; so it is as long
+    -- as there are nodes that are not Void.
+    pub short-order : here listingOrder NotVoid ≡ kept (λ node. not (isVoid (shown node .kind))) (here listingOrder AllNodes)
+    pub short-once : (node : ℕ) → node ≤ r .nodes → isVoid (shown node .kind) ≡ false → occurrences node (here listingOrder NotVoid) ≡ 1
+    pub short-void : (node : ℕ) → isVoid (shown node .kind) ≡ true → occurrences node (here listingOrder NotVoid) ≡ 0
+    pub short-only : (n : ℕ) → r .nodes < n → occurrences n (here listingOrder NotVoid) ≡ 0
+    pub short-length : length (here listingOrder NotVoid) ≡ keptBelow (λ node. not (isVoid (shown node .kind))) (r .nodes + 1)
+    -- Listing returns the length of the order, and needs an output of that many places and no more.
+    pub listing-length : (choice : Choice) (size : ℕ) → length (here listingOrder choice) ≤ size
+        → here listingAnswer choice size ≡ accepted (length (here listingOrder choice))
+    pub listing-short : (choice : Choice) (size : ℕ) → size < length (here listingOrder choice) → here listingAnswer choice size ≡ refused (refusal 21)
 
   -- What is read right after an accepted opening: the file's own strings and entries, as `Obeys` has them.
   pub record ReadsFile {form : List ℕ} (file : Obeys image form) : Type 0 where
@@ -124,9 +137,10 @@ module _ (image : List ℕ) (r : Reader) (strings entries : List ℕ) where
     pub lookup-absent : (path : List ℕ) → WellFormed (file .edition) path → (here lookupAnswer path ≡ refused (refusal 15)) ↔ NoNode file path
     pub lookup-path : (node : ℕ) → node ≤ r .nodes → here lookupAnswer (itsPath file node) ≡ accepted node
     -- An output for all nodes is accepted, and their number returned, the root included. Listing order: the root, then its children in number order, each
-    -- followed by its subtree, by the file's own parents.
-    pub listing : (size : ℕ) → length (file .entries) < size → here listingAnswer size ≡ accepted (length (file .entries) + 1)
-    pub listing-order : here listingOrder ≡ preorder (itsParent file) (length (file .entries) + 1) (length (file .entries) + 1) 0
+    -- followed by its subtree, by the file's own parents; of these the nodes that the choice lists, by the file's own types.
+    pub listing : (size : ℕ) → length (file .entries) < size → here listingAnswer AllNodes size ≡ accepted (length (file .entries) + 1)
+    pub listing-order : (choice : Choice) → here listingOrder choice
+        ≡ preorder (λ node. lists choice (itsEntry file node .kind)) (itsParent file) (length (file .entries) + 1) (length (file .entries) + 1) 0
 
 pub record Demand2 : Type 0 where
   -- Opening accepts an image of bytes, with areas of 2,048 numbers, exactly when it obeys the format.

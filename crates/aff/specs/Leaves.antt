@@ -20,6 +20,7 @@ use Rattle.aff_areas.specs.Stores.{applyStores}
 use Rattle.aff_areas.specs.Writer.{noWriter, freshWriter, stopped}
 use Rattle.aff_run.specs.Run.{Call, State, needed, completed, step, afterCall, Run, runBegin, runStart}
 use Rattle.aff_read.specs.ListingOrder.{listingOrder, listingAnswer}
+use Rattle.aff_read.specs.declared.choice.Choice.{Choice}
 
 -- ---- Opening.
 
@@ -61,7 +62,7 @@ module _ (image : List ℕ) (r : Reader) (strings entries : List ℕ) where
   -- The other reading calls take no memory that they could change.
   pub record ReadingLeaves : Type 0 where
     pub path : (node : ℕ) → Wrote (here pathAnswer node) (here pathAt node)
-    pub listing : Wrote (here listingAnswer) (here listingOrder)
+    pub listing : (choice : Choice) → Wrote (here listingAnswer choice) (here listingOrder choice)
     -- A refused name or view is an empty part of the image.
     pub no-name : (node : ℕ) (t : RefusalCode) → here nameAnswer node ≡ refused t → partOf image (here nameAnswer node) ≡ []
     pub no-view : (node : ℕ) (t : RefusalCode) → here viewAnswer node ≡ refused t → partOf image (here viewAnswer node) ≡ []

@@ -29,7 +29,8 @@ use Rattle.aff_areas.specs.declared.writer.Writer.{Writer}
 use Rattle.aff_write.specs.Close.{closeStores, closeAnswer}
 use Rattle.aff_write.specs.Make.{addedStrings, addedText, makeAnswer}
 use Rattle.aff_write.specs.Put.{putAnswer}
-use Rattle.aff_read.specs.ListingOrder.{listingAnswer}
+use Rattle.aff_read.specs.ListingOrder.{listedCount, listingAnswer}
+use Rattle.aff_read.specs.declared.choice.Choice.{Choice}
 
 -- 21: an output has room for so many bytes or numbers.
 abbrev pub fits : ℕ → ℕ → List Rule
@@ -62,9 +63,9 @@ module _ (image : List ℕ) (r : Reader) (strings entries : List ℕ) where
       ∷ rule ((node : ℕ) × (node ≤ r .nodes) × (here pathAt node ≡ path)) (refusal 15)
       ∷ []
 
-  -- Listing order: 24; 21, there is room for a number for each node and the root.
-  abbrev pub listingRules : ℕ → List Rule
-  listingRules size = rule (here ReaderBelongs) (refusal 24) ∷ fits (r .nodes + 1) size
+  -- Listing order: 24; 21, the output has a place for each node listed.
+  abbrev pub listingRules : Choice → ℕ → List Rule
+  listingRules choice size = rule (here ReaderBelongs) (refusal 24) ∷ fits (here listedCount choice) size
 
   -- An element of a node, and the length of its path.
   abbrev elementOf : ℕ → ℕ → Element
@@ -82,7 +83,7 @@ module _ (image : List ℕ) (r : Reader) (strings entries : List ℕ) where
     pub element : (node index : ℕ) → By (elementRules node index) (Is (elementOf node index)) (here elementAnswer node index)
     pub path : (node size : ℕ) → By (existsRules node (fits (pathSize node) size)) (Is (pathSize node)) (here pathAnswer node size)
     pub lookup : (path : List ℕ) → By (lookupRules path) (here LowestWith path) (here lookupAnswer path)
-    pub listing : (size : ℕ) → By (listingRules size) (Is (r .nodes + 1)) (here listingAnswer size)
+    pub listing : (choice : Choice) (size : ℕ) → By (listingRules choice size) (Is (here listedCount choice)) (here listingAnswer choice size)
 
 -- ---- Writing.
 

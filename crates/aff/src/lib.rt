@@ -8,6 +8,7 @@ pub use aff_open::form_for;
 pub use aff_open::open;
 
 // Answers of an opened image.
+pub use aff_read::Choice;
 pub use aff_read::KindAnswer;
 pub use aff_read::PartAnswer;
 pub use aff_read::listing::listing;

@@ -1,5 +1,5 @@
 -- What the exported reading functions return, and what they leave in the memory that the caller's references point to. Assumes nothing.
-use mathlib.Core.Bool.{cond}
+use mathlib.Core.Bool.{Bool, true, false, cond}
 use mathlib.Core.List.{List}
 use Prim.Native.Nat.{ℕ}
 use lib.Dec.{ltb}
@@ -14,6 +14,8 @@ use Rattle.aff_format.specs.declared.element.Element.the-variants.{Byte, Int, R
 use Rattle.aff_format.specs.declared.kind.FoundKind.{FoundKind}
 use Rattle.aff_format.specs.declared.kind.FoundKind.the-variants.{Known, Unknown}
 use Rattle.aff_open.specs.declared.reader.Reader.{Reader}
+use Rattle.aff_read.specs.declared.choice.Choice.{Choice}
+use Rattle.aff_read.specs.declared.choice.Choice.the-variants.{AllNodes, NotVoid}
 
 -- The edition of 64 bits: 0, which does not exist, where it has more than 32.
 unfoldable pub editionNumberIn : ℕ → ℕ
@@ -37,6 +39,11 @@ readerIn l =
 abbrev pub numberBy : {A : Type 0} → Answer A → ℕ
 numberBy (accepted a) = 0
 numberBy (refused t) = t .number
+
+-- The choice of a listing by a flag: true for all nodes, false for those that are not Void.
+abbrev pub choiceBy : Bool → Choice
+choiceBy true = AllNodes
+choiceBy false = NotVoid
 
 -- What an output holds after a call: a part of the value, or after a refusal what it held.
 abbrev pub leftBy : {A B : Type 0} → (A → B) → B → Answer A → B

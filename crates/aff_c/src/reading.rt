@@ -9,6 +9,7 @@ use aff_format::NumberAnswer;
 use aff_format::element;
 use aff_open::Reader;
 use aff_open::Span;
+use aff_read::Choice;
 use aff_read::KindAnswer;
 use aff_read::PartAnswer;
 ghost use mathlib.Core.Path.{_≡_};
@@ -21,7 +22,7 @@ ghost use Rattle.aff_format.specs.Verdict.{answerOfNumber};
 ghost use Rattle.aff_read.specs.Answers.{answerOfKind, answerOfPart, nameAnswer, kindAnswer, countAnswer, viewAnswer, elementAnswer};
 ghost use Rattle.aff_read.specs.Paths.{frontWritten, pathAnswer, lookupAnswer};
 ghost use Rattle.aff_read.specs.Recall.{pathAt};
-ghost use Rattle.aff_c.specs.Reading.{editionNumberIn, readerIn, numberBy, leftBy, realPart, imaginaryPart, decodedAnswer};
+ghost use Rattle.aff_c.specs.Reading.{editionNumberIn, readerIn, numberBy, choiceBy, leftBy, realPart, imaginaryPart, decodedAnswer};
 ghost use Rattle.aff_read.specs.ListingOrder.{listingOrder, listingAnswer};
 
 fn edition_of(number: u64) -> u32
@@ -237,21 +238,39 @@ pub extern "C" fn aff_path(
     put_number(answer, size)
 }
 
-// Writes listing order at the front of an output, as `aff_read::listing::listing` does, and reports how many numbers it has.
+// The choice of a listing by a flag: true for all nodes, false for those that are not Void.
+fn choice_of(all: bool) -> Choice
+    ensures { λ r. ⌜ r ≡ choiceBy all ⌝ }
+{
+    if all {
+        return Choice::AllNodes;
+    }
+    Choice::NotVoid
+}
+
+// Writes listing order at the front of an output, as `aff_read::listing::listing` does, and reports how many numbers it wrote.
 #[no_mangle]
 pub extern "C" fn aff_listing(
     image: &[u8],
     record: &[u64; 12],
     strings: &[u32],
     entries: &[u32],
+    all: bool,
     output: &mut [u32],
     count: &mut u64,
 ) -> u32
-    ensures number { λ r. ⌜ r ≡ numberBy (listingAnswer (now (image .entry)) (readerIn (now («record» .entry))) (now (strings .entry)) (now (entries .entry)) (length (now (output .entry)))) ⌝ }
-    ensures output { λ _. ⌜ now (output .exit) ≡ frontWritten (listingAnswer (now (image .entry)) (readerIn (now («record» .entry))) (now (strings .entry)) (now (entries .entry)) (length (now (output .entry)))) (listingOrder (now (image .entry)) (readerIn (now («record» .entry))) (now (strings .entry)) (now (entries .entry))) (now (output .entry)) ⌝ }
-    ensures count { λ _. ⌜ now (count .exit) ≡ leftBy (λ (n : ℕ). n) (now (count .entry)) (listingAnswer (now (image .entry)) (readerIn (now («record» .entry))) (now (strings .entry)) (now (entries .entry)) (length (now (output .entry)))) ⌝ }
+    ensures number { λ r. ⌜ r ≡ numberBy (listingAnswer (now (image .entry)) (readerIn (now («record» .entry))) (now (strings .entry)) (now (entries .entry)) (choiceBy all) (length (now (output .entry)))) ⌝ }
+    ensures output { λ _. ⌜ now (output .exit) ≡ frontWritten (listingAnswer (now (image .entry)) (readerIn (now («record» .entry))) (now (strings .entry)) (now (entries .entry)) (choiceBy all) (length (now (output .entry)))) (listingOrder (now (image .entry)) (readerIn (now («record» .entry))) (now (strings .entry)) (now (entries .entry)) (choiceBy all)) (now (output .entry)) ⌝ }
+    ensures count { λ _. ⌜ now (count .exit) ≡ leftBy (λ (n : ℕ). n) (now (count .entry)) (listingAnswer (now (image .entry)) (readerIn (now («record» .entry))) (now (strings .entry)) (now (entries .entry)) (choiceBy all) (length (now (output .entry)))) ⌝ }
 {
-    let answer = aff_read::listing::listing(image, reader_of(record), strings, entries, output);
+    let answer = aff_read::listing::listing(
+        image,
+        reader_of(record),
+        strings,
+        entries,
+        choice_of(all),
+        output,
+    );
     put_number(answer, count)
 }
 

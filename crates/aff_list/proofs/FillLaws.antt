@@ -3,23 +3,20 @@
 use mathlib.Core.Path.{_≡_, refl, sym, ap, _∙_}
 use mathlib.Core.List.{List, [], _∷_, _++_, append-assoc}
 use mathlib.Core.Logic.{⊎-elim}
-use Prim.Native.Nat.{ℕ, zero, suc, _+_, _≤_, _<_}
+use Prim.Native.Nat.{ℕ, _+_, _≤_, _<_}
 use native.Mathlib.Numerals.{add-one}
 use native.Mathlib.Omega.{arith}
 use lib.ListN.{length, getD, take, drop, length-append}
 use lib.Seq.{drop-cons, drop-drop, getD-take, take-at, length-take-le}
-use borrow.Author.Tests.{ltb-false, eq-eqb}
+use borrow.Author.Tests.{ltb-false}
 use Rattle.aff_format.specs.Bytes.{spliced}
 use Rattle.aff_format.proofs.BytesLaws.{length-spliced, drop-spliced}
 use Rattle.aff_format.proofs.LowestLaws.{none-holds}
 use Rattle.aff_open.specs.declared.reader.Reader.{Reader}
 use Rattle.aff_tables.proofs.OrderLaws.{split}
-use Rattle.aff_read.specs.ListingOrder.{listingOrder}
 use Rattle.aff_list.specs.Line.{lineAt, decimal, kindWord}
-use Rattle.aff_read.specs.Once.{hit, occurrences}
 use Rattle.aff_read.specs.Recall.{kindAt, countAt, pathAt}
 use Rattle.aff_list.proofs.LineLaws.{tail-length}
-use Rattle.aff_read.proofs.OnceLaws.{order-only, order-length}
 use Rattle.aff_list.specs.Lister.{pathLimit, rowLimit, pathTooLong, row, rows, rowsFrom, Ready, Fills}
 use Rattle.aff_list.specs.passes.Block.{endAfter, putAfter}
 use Rattle.aff_list.proofs.RowLaws.{after-stays, after-put}
@@ -31,86 +28,68 @@ taken-after used text l h =
     ap (take (used + length text)) (sym (append-assoc (take used l) text (drop (used + length text) l)))
     ∙ take-at (take used l ++ text) _ (used + length text) (length-append (take used l) text ∙ ap (λ (n : ℕ). n + length text) (length-take-le used l h))
 
--- A number that is in a list occurs in it.
-occurs : (l : List ℕ) (k : ℕ) → k < length l → 0 < occurrences (getD l k 0) l
-unfolding occurrences hit
-occurs [] k h = absurd (omega arith)
-occurs (x ∷ l) zero h = rw (eq-eqb x x refl) (omega arith)
-occurs (x ∷ l) (suc k) h = omega (arith, occurs l k (omega arith))
+-- The node at a place below `lines`.
+pub node-at : (order : List ℕ) (lines k : ℕ) {n : ℕ} → n ≡ getD order k 0 → k < lines → lines ≤ length order
+    → (k < length (take lines order)) × (n ≡ getD (take lines order) k 0)
+node-at order lines k e h few = (omega (arith, length-take-le lines order few), e ∙ sym (getD-take lines order k 0 h))
 
 -- The lines from place `from` on were put into a block, up to place `next`.
-pub record Filling (image : List ℕ) (reader : Reader) (strings entries : List ℕ) (from : ℕ) (block₀ block : List ℕ) (next used : ℕ) : Type 0 where
+pub record Filling (image : List ℕ) (reader : Reader) (strings entries order : List ℕ) (from : ℕ) (block₀ block : List ℕ) (next used : ℕ) : Type 0 where
   pub least : from ≤ next
-  pub most : next ≤ reader .nodes + 1
+  pub most : next ≤ length order
   pub inside : used ≤ length block
-  pub text : rowsFrom image reader strings entries from ≡ take used block ++ rowsFrom image reader strings entries next
+  pub text : rowsFrom image reader strings entries order from ≡ take used block ++ rowsFrom image reader strings entries order next
   pub sized : length block ≡ length block₀
   pub stays : drop used block ≡ drop used block₀
   pub first : next ≤ from → used ≡ 0
 
-module _ {image : List ℕ} {reader : Reader} {strings entries numbers : List ℕ} (ready : Ready image reader strings entries numbers) where
-  abbrev all : List ℕ
-  all = listingOrder image reader strings entries
-
+module _ {image : List ℕ} {reader : Reader} {strings entries order : List ℕ} (ready : Ready image reader strings entries order) where
   abbrev rowOf : ℕ → List ℕ
   rowOf = row image reader strings entries
 
   abbrev rest : ℕ → List ℕ
-  rest = rowsFrom image reader strings entries
+  rest = rowsFrom image reader strings entries order
 
-  number-at : (k : ℕ) → k ≤ reader .nodes → getD all k 0 ≡ getD numbers k 0
-  number-at k h = ap (λ (l : List ℕ). getD l k 0) (sym (ready .ordered)) ∙ getD-take (reader .nodes + 1) numbers k 0 (omega arith)
-
-  placed : (k : ℕ) → k ≤ reader .nodes → k < length all
-  placed k h = omega (arith, order-length (ready .belongs))
-
-  pub number-within : (k : ℕ) → k ≤ reader .nodes → getD numbers k 0 ≤ reader .nodes
-  number-within k h =
-      ⊎-elim (λ (q : reader .nodes < getD numbers k 0). absurd (omega (arith, occurs all k (placed k h), order-only (ready .belongs) (getD all k 0) (omega (arith, number-at k h)))))
-      (λ q. q) (split (reader .nodes) (getD numbers k 0))
-
-  rest-next : (k n : ℕ) → k ≤ reader .nodes → n ≡ getD numbers k 0 → rest k ≡ rowOf n ++ rest (k + 1)
+  rest-next : (k n : ℕ) → k < length order → n ≡ getD order k 0 → rest k ≡ rowOf n ++ rest (k + 1)
   unfolding rows
-  rest-next k n h is = ap (rows image reader strings entries) (drop-cons all k 0 (placed k h)) ∙ rw (number-at k h, is, add-one k)
+  rest-next k n h is = ap (rows image reader strings entries) (drop-cons order k 0 h) ∙ rw (is, add-one k)
 
   row-length : (n : ℕ) → length (rowOf n) ≡ length (lineAt image reader strings entries n) + 1
   unfolding row
   row-length n = length-append (lineAt image reader strings entries n) (10 ∷ [])
 
-  row-small : (n : ℕ) → n ≤ reader .nodes → length (rowOf n) ≤ rowLimit
+  row-small : (k n : ℕ) → k < length order → n ≡ getD order k 0 → length (rowOf n) ≤ rowLimit
   unfolding pathTooLong lineAt
-  row-small n h =
+  row-small k n h is =
       let path = pathAt image reader strings entries n in
-      let short : length path ≤ pathLimit = ltb-false pathLimit (length path) (none-holds (pathTooLong image reader strings entries) (reader .nodes + 1) 0 (ready .fits) n (omega arith) (omega arith)) in
+      let fits = none-holds (λ i. pathTooLong image reader strings entries (getD order i 0)) (length order) 0 (ready .fits) k (omega arith) (omega arith) in
+      let short : length path ≤ pathLimit = ltb-false pathLimit (length path) (rw is fits) in
       omega (arith, row-length n, length-append path (32 ∷ (kindWord (kindAt image entries n) ++ (32 ∷ decimal 10 (countAt image entries n)))), tail-length (kindAt image entries n) (countAt image entries n), short)
 
-  module _ {from : ℕ} {o : List ℕ} (some : from ≤ reader .nodes) where
-    pub filling-none : Filling image reader strings entries from o o from 0
-    filling-none = record { least = omega arith; most = omega arith; inside = omega arith; text = refl; sized = refl; stays = refl; first = λ h. refl }
+  module _ {from : ℕ} {o : List ℕ} (some : from ≤ length order) where
+    pub filling-none : Filling image reader strings entries order from o o from 0
+    filling-none = record { least = omega arith; most = some; inside = omega arith; text = refl; sized = refl; stays = refl; first = λ h. refl }
 
-    module _ {block : List ℕ} {next used : ℕ} (v : Filling image reader strings entries from o block next used) where
-      pub filled-all : reader .nodes < next → Fills image reader strings entries from next used o block
+    module _ {block : List ℕ} {next used : ℕ} (v : Filling image reader strings entries order from o block next used) where
+      pub filled-all : length order ≤ next → Fills image reader strings entries order from next used o block
       filled-all h =
-          record { more = omega arith; most = v .most; inside = v .inside; text = v .text; stays = v .stays; full = λ q. absurd (omega arith) }
+          record { more = λ q. omega arith; most = v .most; inside = v .inside; text = v .text; stays = v .stays; full = λ q. absurd (omega arith) }
 
-      module _ (h : next ≤ reader .nodes) {n end : ℕ} {p : List ℕ} (is : n ≡ getD numbers next 0)
+      module _ (h : next < length order) {n end : ℕ} {p : List ℕ} (is : n ≡ getD order next 0)
           (ends : end ≡ endAfter used (rowOf n) block) (puts : p ≡ putAfter used (rowOf n) block) where
-        within : n ≤ reader .nodes
-        within = omega (arith, is, number-within next h)
-
-        pub filled-full : rowLimit ≤ length o → end ≡ used → Fills image reader strings entries from next used o p
+        pub filled-full : rowLimit ≤ length o → end ≡ used → Fills image reader strings entries order from next used o p
         filled-full size e =
             let kept = after-stays used (rowOf n) block ends puts (omega (arith, row-length n)) e in
             record {
-              more = ⊎-elim (λ q. q) (λ (q : next ≤ from). absurd (omega (arith, kept .0, v .first q, v .sized, row-small n within))) (split from next);
+              more = λ r. ⊎-elim (λ q. q) (λ (q : next ≤ from). absurd (omega (arith, kept .0, v .first q, v .sized, row-small next n h is))) (split from next);
               most = v .most;
               inside = rw (kept .1) (v .inside);
               text = rw (kept .1) (v .text);
               stays = rw (kept .1) (v .stays);
-              full = λ q. rw (number-at next h, sym is, kept .1) (kept .0);
+              full = λ q. rw (sym is, kept .1) (kept .0);
             }
 
-        pub filling-next : (end ≡ used → ⊥) → Filling image reader strings entries from o p (next + 1) end
+        pub filling-next : (end ≡ used → ⊥) → Filling image reader strings entries order from o p (next + 1) end
         filling-next other =
             let (fits, at, area) = after-put used (rowOf n) block ends puts other in
             let taken : take end p ≡ take used block ++ rowOf n = rw (area, at) (taken-after used (rowOf n) block (v .inside)) in
@@ -129,3 +108,8 @@ module _ {image : List ℕ} {reader : Reader} {strings entries numbers : List �
                   ∙ sym (drop-drop (length (rowOf n)) used block) ∙ ap (drop (length (rowOf n))) (v .stays) ∙ drop-drop (length (rowOf n)) used o);
               first = λ g. absurd (omega (arith, v .least));
             }
+
+-- Where a line is left, the next place is further on.
+pub fills-on : {image : List ℕ} {reader : Reader} {strings entries : List ℕ} (numbers : List ℕ) (lines : ℕ) {from next used : ℕ} {before after : List ℕ}
+    → lines ≤ length numbers → Fills image reader strings entries (take lines numbers) from next used before after → from < lines → from < next
+fills-on numbers lines few f h = f .more (omega (arith, length-take-le lines numbers few))

@@ -1,7 +1,7 @@
--- What `list` prints, and the blocks that make it up. The work areas' earlier contents decide nothing: opening clears them. Blocks in order add up
+-- What `list` and `listall` print, and the blocks that make it up. The work areas' earlier contents decide nothing: opening clears them. Blocks in order add up
 -- since each one ends where the next begins. Assumes nothing.
 use mathlib.Core.Path.{_≡_, refl, sym, ap, _∙_}
-use mathlib.Core.Bool.{false}
+use mathlib.Core.Bool.{true, false}
 use mathlib.Core.List.{List, [], _++_, append-nil}
 use mathlib.Core.Logic.{⊎-elim}
 use Prim.Native.Nat.{ℕ, _≤_, _<_}
@@ -10,21 +10,28 @@ use lib.ListN.{length, take, drop, length-replicate, drop-of-length-le}
 use lib.Seq.{length-take-le, take-all}
 use borrow.Author.Tests.{lt-ltb, le-ltb}
 use Rattle.aff_format.specs.Answer.{Answer, accepted, refused}
+use Rattle.aff_format.specs.Kind.{isVoid}
+use Rattle.aff_format.specs.Lowest.{lowestFrom}
 use Rattle.aff_format.proofs.EditionLaws.{length-numberForm}
-use Rattle.aff_open.specs.Belongs.{ReaderBelongs}
 use Rattle.aff_open.specs.Opening.{lengthsWrong, openAnswer, areaFilled, stringPlaces, nodePlaces, stringsAfter, entriesAfter}
 use Rattle.aff_open.specs.Sections.{editionIn, formFor}
 use Rattle.aff_open.specs.declared.reader.Reader.{Reader}
+use Rattle.aff_open.specs.Belongs.{ReaderBelongs}
+use Rattle.aff_open.proofs.BelongsLaws.{belongs-record}
+use Rattle.aff_open.proofs.OpenedLaws.{opened-belongs}
 use Rattle.aff_open.proofs.FaultLaws.{lengths-asks}
 use Rattle.aff_tables.proofs.OrderLaws.{split}
 use Rattle.aff_read.specs.ListingOrder.{listingOrder}
-use Rattle.aff_read.proofs.OnceLaws.{order-length}
+use Rattle.aff_read.specs.Recall.{kindAt}
+use Rattle.aff_read.specs.declared.choice.Choice.{Choice}
+use Rattle.aff_read.specs.declared.choice.Choice.the-variants.{NotVoid}
+use Rattle.aff_read.proofs.ListedLaws.{order-none}
 use Rattle.aff_list.specs.Lister.{inputLimit, rows, rowsFrom, Starts, FilledFrom, none, more, judged, withPaths, printedText, tooLongLine, listed, zeroArea, printed, Printing}
 use Rattle.aff_list.proofs.DigitLaws.{digits-enough}
 
-pub printed-long : (input : List ℕ) → inputLimit < length input → printed input ≡ tooLongLine
+pub printed-long : (choice : Choice) (input : List ℕ) → inputLimit < length input → printed choice input ≡ tooLongLine
 unfolding printed
-printed-long input h = rw (lt-ltb inputLimit (length input) h)
+printed-long choice input h = rw (lt-ltb inputLimit (length input) h)
 
 -- ---- The work areas.
 
@@ -36,7 +43,7 @@ area-same : (answer : Answer Reader) (area places : List ℕ) → length area �
 area-same (accepted r) area places h = rw (h, zero-length)
 area-same (refused t) area places h = rw (h, zero-length)
 
-module _ (input : List ℕ) where
+module _ (choice : Choice) (input : List ℕ) where
   abbrev answer : Answer Reader
   answer = openAnswer input (formFor input) 2048 2048
 
@@ -58,53 +65,77 @@ module _ (input : List ℕ) where
     unfolding entriesAfter
     entries-same = rw (right, s, e) (area-same answer entries (nodePlaces (editionIn input) input) e)
 
-    listed-same : listed input strings entries ≡ printedText input ss es (withPaths input ss es answer)
+    listed-same : listed input choice strings entries ≡ printedText input ss es choice (withPaths input ss es choice answer)
     unfolding listed judged
     listed-same = rw (strings-same, entries-same, s, e)
 
-pub printed-short : (input strings entries : List ℕ) → length input ≤ inputLimit → length strings ≡ 2048 → length entries ≡ 2048
-    → printed input ≡ listed input strings entries
+pub printed-short : (choice : Choice) (input strings entries : List ℕ) → length input ≤ inputLimit → length strings ≡ 2048 → length entries ≡ 2048
+    → printed choice input ≡ listed input choice strings entries
 unfolding printed
-printed-short input strings entries h s e =
+printed-short choice input strings entries h s e =
     rw (le-ltb inputLimit (length input) h)
-    (listed-same input h zeroArea zeroArea zero-length zero-length ∙ sym (listed-same input h strings entries s e))
+    (listed-same choice input h zeroArea zeroArea zero-length zero-length ∙ sym (listed-same choice input h strings entries s e))
+
+-- ---- Void nodes alone.
+
+pub printed-nothing : (input strings entries : List ℕ) {r : Reader} → length input ≤ inputLimit → length strings ≡ 2048 → length entries ≡ 2048
+    → openAnswer input (formFor input) (length strings) (length entries) ≡ accepted r
+    → ((node : ℕ) → node ≤ r .nodes → isVoid (kindAt input (entriesAfter input (formFor input) strings entries) node) ≡ true)
+    → printed NotVoid input ≡ []
+unfolding listed judged rows lowestFrom
+printed-nothing input strings entries {r} h s e opened void =
+    let ss = stringsAfter input (formFor input) strings entries in
+    let es = entriesAfter input (formFor input) strings entries in
+    let b : ReaderBelongs input r ss es = belongs-record (opened-belongs input (formFor input) strings entries opened) in
+    let none : listingOrder input r ss es NotVoid ≡ [] = order-none b NotVoid (λ k g. rw (void k g)) in
+    let passes : withPaths input ss es NotVoid (accepted r) ≡ accepted r = rw none in
+    let decided : judged input NotVoid strings entries ≡ accepted r = rw opened passes in
+    printed-short NotVoid input strings entries h s e ∙ ap (printedText input ss es NotVoid) decided ∙ ap (rows input r ss es) none
 
 -- ---- The front of an input.
 
-pub printed-front : (input : List ℕ) (size : ℕ) → inputLimit < size → printed (take size input) ≡ printed input
-printed-front input size h =
+pub printed-front : (choice : Choice) (input : List ℕ) (size : ℕ) → inputLimit < size → printed choice (take size input) ≡ printed choice input
+printed-front choice input size h =
     ⊎-elim
-    (λ (l : size < length input). printed-long (take size input) (rw (length-take-le size input (omega arith)) h) ∙ sym (printed-long input (omega arith)))
-    (λ (l : length input ≤ size). ap printed (take-all size input l))
+    (λ (l : size < length input). printed-long choice (take size input) (rw (length-take-le size input (omega arith)) h) ∙ sym (printed-long choice input (omega arith)))
+    (λ (l : length input ≤ size). ap (printed choice) (take-all size input l))
     (split size (length input))
 
 -- ---- Blocks in order.
 
+-- No line comes after the last.
+pub rows-end : (image : List ℕ) (reader : Reader) (strings entries order : List ℕ) (k : ℕ) → length order ≤ k → rowsFrom image reader strings entries order k ≡ []
+unfolding rows
+rows-end image reader strings entries order k h = let e : drop k order ≡ [] = drop-of-length-le order {i = k} h in rw e
+
 module _ {image : List ℕ} {reader : Reader} {strings entries : List ℕ} where
-  -- No line comes after that of the last node.
-  pub rows-end : ReaderBelongs image reader strings entries → {k : ℕ} → reader .nodes < k → rowsFrom image reader strings entries k ≡ []
-  unfolding rows
-  rows-end b {k} h =
-      let e : drop k (listingOrder image reader strings entries) ≡ [] = drop-of-length-le (listingOrder image reader strings entries) {i = k} (omega (arith, order-length b)) in
-      rw e
+  filled-rows : {order : List ℕ} {from : ℕ} {text : List ℕ} → FilledFrom image reader strings entries order from text
+      → text ≡ rowsFrom image reader strings entries order from
+  filled-rows {order} {from} (none h) = sym (rows-end image reader strings entries order from h)
+  filled-rows (more {from} {next} {used} {before} {after} {text} l f g) = ap (λ (l : List ℕ). take used after ++ l) (filled-rows g) ∙ sym (f .text)
 
-  filled-rows : ReaderBelongs image reader strings entries → {from : ℕ} {text : List ℕ} → FilledFrom image reader strings entries from text
-      → text ≡ rowsFrom image reader strings entries from
-  filled-rows b (none h) = sym (rows-end b h)
-  filled-rows b (more {from} {next} {used} {before} {after} {text} f g) = ap (λ (l : List ℕ). take used after ++ l) (filled-rows b g) ∙ sym (f .text)
-
-  filled-none : {from : ℕ} {text : List ℕ} → reader .nodes < from → FilledFrom image reader strings entries from text → text ≡ []
+  filled-none : {order : List ℕ} {from : ℕ} {text : List ℕ} → length order ≤ from → FilledFrom image reader strings entries order from text → text ≡ []
   filled-none h (none g) = refl
-  filled-none h (more f g) = absurd (omega (arith, f .more, f .most))
+  filled-none h (more l f g) = absurd (omega arith)
 
-  pub blocks-in-order : {whole numbers : List ℕ} {next used : ℕ} {before after rest : List ℕ}
-      → Starts image reader strings entries whole numbers next used before after → FilledFrom image reader strings entries next rest
+  pub blocks-in-order : {whole numbers : List ℕ} {lines next used : ℕ} {before after rest : List ℕ}
+      → Starts image reader strings entries whole numbers lines next used before after
+      → FilledFrom image reader strings entries (take lines numbers) next rest
       → take used after ++ rest ≡ whole
-  blocks-in-order {whole} {numbers} {next} {used} {before} {after} {rest} s g =
+  blocks-in-order {whole} {numbers} {lines} {next} {used} {before} {after} {rest} s g =
+      let size : length (take lines numbers) ≡ lines = length-take-le lines numbers (s .few) in
       ⊎-elim
-      (λ (h : reader .nodes < next). rw (filled-none h g, append-nil) (sym (s .whole h)))
-      (λ (h : next ≤ reader .nodes). rw (filled-rows (s .ready h .belongs) g) (sym (s .goes-on h)))
-      (split (reader .nodes) next)
+      (λ (h : next < lines). rw (filled-rows g) (sym (s .goes-on h)))
+      (λ (h : lines ≤ next). rw (filled-none (omega arith) g, append-nil) (sym (s .whole h)))
+      (split next lines)
 
 pub printing : Printing
-printing = record { digits = digits-enough; long = printed-long; short = printed-short; front = printed-front; in-order = blocks-in-order }
+printing =
+    record {
+      digits = digits-enough;
+      long = printed-long;
+      short = printed-short;
+      front = printed-front;
+      nothing = printed-nothing;
+      in-order = λ choice s g. blocks-in-order s g;
+    }

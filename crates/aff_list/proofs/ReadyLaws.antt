@@ -2,18 +2,20 @@
 use mathlib.Core.Path.{_≡_, refl, sym, ap, _∙_}
 use mathlib.Core.Bool.{true, false}
 use mathlib.Core.List.{List, _++_}
-use Prim.Native.Nat.{ℕ, _+_, _≤_, _<_}
+use Prim.Native.Nat.{ℕ, _≤_, _<_}
 use native.Mathlib.Omega.{arith}
-use lib.ListN.{length, take, drop}
+use lib.ListN.{length, take, drop, length-append}
 use lib.Seq.{take-at}
 use borrow.Author.Tests.{lt-ltb, le-ltb}
-use Rattle.aff_format.specs.Answer.{Answer, accepted, refused, Check, firstWrong}
+use Rattle.aff_format.specs.Answer.{Answer, accepted, refused, firstWrong}
 use Rattle.aff_format.specs.Refusal.{codeOfRefusal}
+use Rattle.aff_format.specs.Verdict.{answerOfVerdict}
 use Rattle.aff_format.specs.declared.refusal.Refusal.{Refusal}
 use Rattle.aff_format.specs.declared.verdict.Verdict.{Verdict}
 use Rattle.aff_format.specs.declared.verdict.Verdict.the-variants.{Accepted, Refused}
 use Rattle.aff_format.proofs.AnswerLaws.{not-both, passed, passed-value}
 use Rattle.aff_format.proofs.LowestLaws.{none-at}
+use Rattle.aff_format.proofs.VerdictLaws.{verdict-refuses, verdict-accepts}
 use Rattle.aff_open.specs.Belongs.{ReaderBelongs}
 use Rattle.aff_open.specs.Opening.{openAnswer, answerOfOpening, verdictOf, readerAfter, stringsAfter, entriesAfter}
 use Rattle.aff_open.specs.Sections.{formFor}
@@ -21,12 +23,14 @@ use Rattle.aff_open.specs.declared.opening.Opening.{Opening}
 use Rattle.aff_open.specs.declared.reader.Reader.{Reader}
 use Rattle.aff_open.proofs.BelongsLaws.{belongs-record}
 use Rattle.aff_open.proofs.OpenedLaws.{opened-belongs}
-use Rattle.aff_read.specs.ListingOrder.{listingOrder}
+use Rattle.aff_read.specs.ListingOrder.{listingOrder, listedCount}
 use Rattle.aff_read.specs.Recall.{pathAt}
+use Rattle.aff_read.specs.declared.choice.Choice.{Choice}
 use Rattle.aff_read.specs.passes.Capped.{capped}
 use Rattle.aff_read.proofs.CappedLaws.{capped-over, capped-exact}
-use Rattle.aff_read.proofs.OnceLaws.{order-length}
-use Rattle.aff_list.specs.Lister.{pathLimit, pathTooLong, pathChecks, Ready, withPaths, judged, withOrder, orderAfter}
+use Rattle.aff_read.proofs.ListedLaws.{order-exist, order-length, count-most}
+use Rattle.aff_list.specs.Lister.{pathLimit, pathTooLong, pathChecks, Ready, withPaths, judged, answerOfBegun, linesBy, linesAfter, withOrder, orderAfter}
+use Rattle.aff_list.specs.declared.blocks.Begun.{Begun}
 
 -- Whether a path is too long, by its length as it is counted.
 module _ (image : List ℕ) (reader : Reader) (strings entries : List ℕ) (k : ℕ) {n : ℕ} (is : n ≡ capped pathLimit (length (pathAt image reader strings entries k))) where
@@ -40,42 +44,65 @@ module _ (image : List ℕ) (reader : Reader) (strings entries : List ℕ) (k : 
       let short : length (pathAt image reader strings entries k) ≤ pathLimit = omega (arith, capped-exact pathLimit (length (pathAt image reader strings entries k)) is h) in
       le-ltb _ _ short
 
--- After an accepted opening: the paths decide.
-module _ (image : List ℕ) (reader : Reader) (strings entries : List ℕ) where
-  abbrev checks : List Check
-  checks = pathChecks image reader strings entries
+-- After an accepted opening: the paths of the nodes listed decide.
+module _ (image : List ℕ) (reader : Reader) (strings entries : List ℕ) (choice : Choice) where
+  abbrev order : List ℕ
+  order = listingOrder image reader strings entries choice
 
-  paths-ready : ReaderBelongs image reader strings entries → (o : List ℕ) {p : List ℕ}
-      → p ≡ listingOrder image reader strings entries ++ drop (length (listingOrder image reader strings entries)) o
-      → (a : Reader) → firstWrong checks reader ≡ accepted a → Ready image a strings entries p
-  paths-ready b o e a h =
-      rw (sym (passed-value checks reader h))
-      (record {
-        belongs = b;
-        fits = none-at _ (passed checks reader h .0);
-        ordered = ap (take (reader .nodes + 1)) e ∙ take-at (listingOrder image reader strings entries) _ (reader .nodes + 1) (order-length b);
-      })
+  paths-ready : ReaderBelongs image reader strings entries → (a : Reader) → firstWrong (pathChecks image reader strings entries order) reader ≡ accepted a
+      → Ready image a strings entries (listingOrder image a strings entries choice)
+  paths-ready b a h =
+      rw (sym (passed-value (pathChecks image reader strings entries order) reader h))
+      (record { belongs = b; exist = order-exist b choice; fits = none-at _ (passed (pathChecks image reader strings entries order) reader h .0) })
 
--- What is returned and left before the first line: the answer and the record, the two areas, and listing order.
-abbrev pub Begun : List ℕ → List ℕ → List ℕ → List ℕ → Answer Reader → Reader → List ℕ → List ℕ → List ℕ → Type 0
-Begun image strings entries numbers reported reader ss es ns =
-    (reported ≡ judged image strings entries) × ((reader ≡ readerAfter (judged image strings entries)) × ((ss ≡ stringsAfter image (formFor image) strings entries)
-    × ((es ≡ entriesAfter image (formFor image) strings entries) × (ns ≡ orderAfter image strings entries numbers))))
+  -- Listing order at the front of an area: as many numbers as are listed, and these.
+  module _ (b : ReaderBelongs image reader strings entries) (o : List ℕ) where
+    pub order-front : {lines : ℕ} {ns : List ℕ} → lines ≡ listedCount image reader strings entries choice → ns ≡ order ++ drop (length order) o
+        → (lines ≤ length ns) × (take lines ns ≡ order)
+    order-front {lines} {ns} l n = (
+      omega (arith, l, order-length b choice, ap length n, length-append order (drop (length order) o)),
+      rw (n, l) (take-at order (drop (length order) o) (listedCount image reader strings entries choice) (order-length b choice)),
+    )
+
+    -- The nodes measured are those listed, and so they decide.
+    module _ (v : Verdict) {lines : ℕ} {ns : List ℕ} (l : lines ≡ listedCount image reader strings entries choice) (n : ns ≡ order ++ drop (length order) o)
+        (m : answerOfVerdict v ≡ firstWrong (pathChecks image reader strings entries (take lines ns)) (tt {0})) where
+      measured : answerOfVerdict v ≡ firstWrong (pathChecks image reader strings entries order) (tt {0})
+      measured = m ∙ ap (λ (nodes : List ℕ). firstWrong (pathChecks image reader strings entries nodes) (tt {0})) (order-front l n .1)
+
+      pub paths-refuse : (q : Refusal) → v ≡ Refused q → refused (codeOfRefusal q) ≡ withPaths image strings entries choice (accepted reader)
+      paths-refuse q h = verdict-refuses (pathChecks image reader strings entries order) v measured reader q h
+
+      pub paths-accept : v ≡ Accepted → accepted reader ≡ withPaths image strings entries choice (accepted reader)
+      paths-accept h = verdict-accepts (pathChecks image reader strings entries order) v measured reader reader h refl
+
+    pub order-few : listedCount image reader strings entries choice ≤ 2049
+    order-few = omega (arith, count-most b choice, b .few-nodes)
+
+-- What is returned and left before the first line: the answer, the record and the number of lines, the two areas, and listing order.
+abbrev pub Decided : List ℕ → Choice → List ℕ → List ℕ → List ℕ → Answer Reader → Reader → ℕ → List ℕ → List ℕ → List ℕ → Type 0
+Decided image choice strings entries numbers reported reader lines ss es ns =
+    (reported ≡ judged image choice strings entries) × ((reader ≡ readerAfter (judged image choice strings entries)) × ((lines ≡ linesAfter image choice strings entries)
+    × ((ss ≡ stringsAfter image (formFor image) strings entries) × ((es ≡ entriesAfter image (formFor image) strings entries) × (ns ≡ orderAfter image choice strings entries numbers)))))
 
 -- What opening answered.
-module _ (image strings entries numbers : List ℕ) {form ss es : List ℕ} (o : Opening) (f : form ≡ formFor image)
+module _ (image : List ℕ) (choice : Choice) (strings entries numbers : List ℕ) {form ss es : List ℕ} (o : Opening) (f : form ≡ formFor image)
     (reported : answerOfOpening o ≡ openAnswer image form (length strings) (length entries))
     (s : ss ≡ stringsAfter image form strings entries) (e : es ≡ entriesAfter image form strings entries) where
   opened-is : (v : Verdict) → o .verdict ≡ v → openAnswer image form (length strings) (length entries) ≡ verdictOf v (o .reader)
   opened-is v h = sym reported ∙ ap (λ (w : Verdict). verdictOf w (o .reader)) h
 
-  judged-is : (v : Verdict) → o .verdict ≡ v → withPaths image ss es (verdictOf v (o .reader)) ≡ judged image strings entries
+  judged-is : (v : Verdict) → o .verdict ≡ v → withPaths image ss es choice (verdictOf v (o .reader)) ≡ judged image choice strings entries
   unfolding judged
   judged-is v h = rw (s, e, sym (opened-is v h), f)
 
-  order-is : (v : Verdict) → o .verdict ≡ v → withOrder image ss es numbers (verdictOf v (o .reader)) ≡ orderAfter image strings entries numbers
+  order-is : (v : Verdict) → o .verdict ≡ v → withOrder image ss es choice numbers (verdictOf v (o .reader)) ≡ orderAfter image choice strings entries numbers
   unfolding orderAfter
   order-is v h = rw (s, e, sym (opened-is v h), f)
+
+  lines-is : {a : Answer Reader} → a ≡ judged image choice strings entries → linesBy image ss es choice a ≡ linesAfter image choice strings entries
+  unfolding linesAfter
+  lines-is j = rw (s, e, j, f)
 
   strings-left : ss ≡ stringsAfter image (formFor image) strings entries
   strings-left = s ∙ ap (λ (l : List ℕ). stringsAfter image l strings entries) f
@@ -84,41 +111,57 @@ module _ (image strings entries numbers : List ℕ) {form ss es : List ℕ} (o :
   entries-left = e ∙ ap (λ (l : List ℕ). entriesAfter image l strings entries) f
 
   pub begun-refused : o .reader ≡ readerAfter (answerOfOpening o) → (q : Refusal) → o .verdict ≡ Refused q
-      → Begun image strings entries numbers (refused (codeOfRefusal q)) (o .reader) ss es numbers
+      → Decided image choice strings entries numbers (refused (codeOfRefusal q)) (o .reader) 0 ss es numbers
   begun-refused g q h =
       let j = judged-is (Refused q) h in
       let r = g ∙ ap (λ (w : Verdict). readerAfter (verdictOf w (o .reader))) h ∙ ap readerAfter j in
-      (j, (r, (strings-left, (entries-left, order-is (Refused q) h))))
+      (j, (r, (lines-is j, (strings-left, (entries-left, order-is (Refused q) h)))))
 
   module _ (h : o .verdict ≡ Accepted) where
     pub begun-belongs : ReaderBelongs image (o .reader) ss es
     begun-belongs = rw (s, e) (belongs-record (opened-belongs image form strings entries (opened-is Accepted h)))
 
-    pub begun-judged : (p : Opening) {ns : List ℕ} → answerOfOpening p ≡ firstWrong (pathChecks image (o .reader) ss es) (o .reader)
-        → p .reader ≡ readerAfter (answerOfOpening p) → ns ≡ withOrder image ss es numbers (accepted (o .reader))
-        → Begun image strings entries numbers (answerOfOpening p) (p .reader) ss es ns
-    begun-judged p a g n =
+    pub begun-judged : (p : Begun) {ns : List ℕ} → answerOfBegun p ≡ withPaths image ss es choice (accepted (o .reader))
+        → p .reader ≡ readerAfter (answerOfBegun p) → p .lines ≡ linesBy image ss es choice (answerOfBegun p)
+        → ns ≡ withOrder image ss es choice numbers (accepted (o .reader))
+        → Decided image choice strings entries numbers (answerOfBegun p) (p .reader) (p .lines) ss es ns
+    begun-judged p a g l n =
         let j = a ∙ judged-is Accepted h in
-        (j, (g ∙ ap readerAfter j, (strings-left, (entries-left, n ∙ order-is Accepted h))))
+        (j, (g ∙ ap readerAfter j, (l ∙ lines-is j, (strings-left, (entries-left, n ∙ order-is Accepted h)))))
 
--- Accepted: all is ready for the first line.
-module _ (image strings entries numbers : List ℕ) where
+-- Accepted: the nodes listed are at the front of the area, and all is ready for their lines.
+pub record Listed (image : List ℕ) (reader : Reader) (strings entries : List ℕ) (choice : Choice) (lines : ℕ) (numbers : List ℕ) : Type 0 where
+  pub ordered : take lines numbers ≡ listingOrder image reader strings entries choice
+  pub few : lines ≤ length numbers
+  pub ready : Ready image reader strings entries (listingOrder image reader strings entries choice)
+
+module _ (image : List ℕ) (choice : Choice) (strings entries numbers : List ℕ) where
   abbrev ss : List ℕ
   ss = stringsAfter image (formFor image) strings entries
 
   abbrev es : List ℕ
   es = entriesAfter image (formFor image) strings entries
 
-  by-opening : (o : Answer Reader) → openAnswer image (formFor image) (length strings) (length entries) ≡ o → (a : Reader) → withPaths image ss es o ≡ accepted a
-      → Ready image a ss es (withOrder image ss es numbers o)
+  by-opening : (o : Answer Reader) → openAnswer image (formFor image) (length strings) (length entries) ≡ o → (a : Reader) → withPaths image ss es choice o ≡ accepted a
+      → Listed image a ss es choice (listedCount image a ss es choice) (withOrder image ss es choice numbers o)
   by-opening (refused t) e a h = not-both h
-  by-opening (accepted r) e a h = paths-ready image r ss es (belongs-record (opened-belongs image (formFor image) strings entries e)) numbers refl a h
+  by-opening (accepted r) e a h =
+      let b : ReaderBelongs image r ss es = belongs-record (opened-belongs image (formFor image) strings entries e) in
+      let same : r ≡ a = passed-value (pathChecks image r ss es (listingOrder image r ss es choice)) r h in
+      record {
+        ordered = rw (sym same) (order-front image r ss es choice b numbers refl refl .1);
+        few = rw (sym same) (order-front image r ss es choice b numbers refl refl .0);
+        ready = paths-ready image r ss es choice b a h;
+      }
 
-  pub judged-ready : (a : Reader) → judged image strings entries ≡ accepted a → Ready image a ss es (orderAfter image strings entries numbers)
+  pub judged-ready : (a : Reader) → judged image choice strings entries ≡ accepted a
+      → Listed image a ss es choice (listedCount image a ss es choice) (orderAfter image choice strings entries numbers)
   unfolding judged orderAfter
   judged-ready a h = by-opening (openAnswer image (formFor image) (length strings) (length entries)) refl a h
 
-  pub begun-ready : (o : Opening) {ss′ es′ ns : List ℕ} → Begun image strings entries numbers (answerOfOpening o) (o .reader) ss′ es′ ns → o .verdict ≡ Accepted
-      → Ready image (o .reader) ss′ es′ ns
-  begun-ready o (j, (g, (s, (e, n)))) h =
-      rw (s, e, n) (judged-ready (o .reader) (sym j ∙ ap (λ (v : Verdict). verdictOf v (o .reader)) h))
+  pub begun-ready : (o : Begun) {ss′ es′ ns : List ℕ} → Decided image choice strings entries numbers (answerOfBegun o) (o .reader) (o .lines) ss′ es′ ns → o .verdict ≡ Accepted
+      → Listed image (o .reader) ss′ es′ choice (o .lines) ns
+  unfolding linesAfter
+  begun-ready o (j, (g, (l, (s, (e, n))))) h =
+      let a : judged image choice strings entries ≡ accepted (o .reader) = sym j ∙ ap (λ (v : Verdict). verdictOf v (o .reader)) h in
+      rw (s, e, n, l, a) (judged-ready (o .reader) a)

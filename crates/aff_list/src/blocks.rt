@@ -1,36 +1,44 @@
-// What is printed of an input, block by block. The image is opened and every path measured before the first line; then one block is filled after
-// another. The first is `first_block`'s, the others are `fill`'s.
+// What is printed of an input, block by block. The image is opened and the path of each node listed is measured before the first line; then one block
+// is filled after another. The first is `first_block`'s, the others are `fill`'s.
 use crate::line;
 use crate::refusal_line;
 use aff_format::NumberAnswer;
 use aff_format::Refusal;
 use aff_format::Verdict;
 use aff_format::recorded;
-use aff_open::Opening;
 use aff_open::Reader;
+use aff_read::Choice;
 use aff_read::listing;
 use aff_read::paths;
 ghost use mathlib.Core.Path.{_≡_};
 ghost use mathlib.Core.Bool.{cond};
 ghost use Prim.Native.Nat.{_≤_};
-ghost use lib.ListN.{length};
+ghost use lib.ListN.{length, take};
 ghost use Rattle.aff_format.specs.Answer.{accepted, firstWrong};
 ghost use Rattle.aff_format.specs.Verdict.{answerOfVerdict};
 ghost use Rattle.aff_open.specs.Belongs.{ReaderBelongs};
-ghost use Rattle.aff_open.specs.Opening.{answerOfOpening, readerAfter, stringsAfter, entriesAfter};
+ghost use Rattle.aff_open.specs.Opening.{readerAfter, stringsAfter, entriesAfter};
 ghost use Rattle.aff_open.specs.Reader.{noReader};
 ghost use Rattle.aff_open.specs.Sections.{formFor};
-ghost use Rattle.aff_list.specs.Lister.{pathChecks, row, Ready, Fills, Starts, inputLimit, isLong, judged, withOrder, orderAfter, printed};
+ghost use Rattle.aff_list.specs.Lister.{pathChecks, row, Exist, Ready, Fills, Starts, inputLimit, isLong, withPaths, judged, linesBy, linesAfter, withOrder, orderAfter, answerOfBegun, printed};
 ghost use Rattle.aff_list.specs.passes.Block.{endAfter, putAfter};
 
-// 21 where a path is above 65,536 bytes, for a record that belongs. One climb a node.
-fn measure(image: &[u8], reader: Reader, strings: &[u32], entries: &[u32]) -> Verdict
-    requires { ⌜ ReaderBelongs (now image) reader (now strings) (now entries) ⌝ }
-    ensures { λ r. ⌜ answerOfVerdict r ≡ firstWrong (pathChecks (now (image .entry)) reader (now (strings .entry)) (now (entries .entry))) tt ⌝ }
+// 21 where one of the first `lines` nodes of an order has a path above 65,536 bytes, for a record that belongs. One climb a node.
+fn measure(
+    image: &[u8],
+    reader: Reader,
+    strings: &[u32],
+    entries: &[u32],
+    order: &[u32],
+    lines: usize,
+) -> Verdict
+    requires { ⌜ ReaderBelongs (now image) reader (now strings) (now entries) × (lines ≤ length (now order)) × Exist reader (take lines (now order)) ⌝ }
+    ensures { λ r. ⌜ answerOfVerdict r ≡ firstWrong (pathChecks (now (image .entry)) reader (now (strings .entry)) (now (entries .entry)) (take lines (now (order .entry)))) tt ⌝ }
 {
     let mut k: usize = 0;
-    while k <= reader.nodes {
-        if 65536 < paths::path_length(image, reader, strings, entries, k, 65536) {
+    while k < lines {
+        let node = recorded::place(order, k);
+        if 65536 < paths::path_length(image, reader, strings, entries, node, 65536) {
             return Verdict::Refused(Refusal::BufferTooSmall);
         }
         k += 1;
@@ -38,59 +46,73 @@ fn measure(image: &[u8], reader: Reader, strings: &[u32], entries: &[u32]) -> Ve
     Verdict::Accepted
 }
 
-// After an accepted opening: writes listing order, and measures the paths. A path that is too long makes it a refused opening, whose record
-// is all zero.
+// What is decided before the first line: opening's verdict or 21, the record, and how many lines there are. The record of a refusal is all zero, and it
+// has no lines.
+pub struct Begun {
+    pub verdict: Verdict,
+    pub reader: Reader,
+    pub lines: usize,
+}
+
+// After an accepted opening: writes listing order, and measures the paths of the nodes listed.
 fn prepare(
     image: &[u8],
     reader: Reader,
     strings: &[u32],
     entries: &[u32],
+    choice: Choice,
     order: &mut [u32; 2049],
-) -> Opening
+) -> Begun
     requires { ⌜ ReaderBelongs (now image) reader (now strings) (now entries) ⌝ }
-    ensures answer { λ r. ⌜ answerOfOpening r ≡ firstWrong (pathChecks (now (image .entry)) reader (now (strings .entry)) (now (entries .entry))) reader ⌝ }
-    ensures record { λ r. ⌜ r .reader ≡ readerAfter (answerOfOpening r) ⌝ }
-    ensures order { λ _. ⌜ now (order .exit) ≡ withOrder (now (image .entry)) (now (strings .entry)) (now (entries .entry)) (now (order .entry)) (accepted reader) ⌝ }
+    ensures answer { λ r. ⌜ answerOfBegun r ≡ withPaths (now (image .entry)) (now (strings .entry)) (now (entries .entry)) choice (accepted reader) ⌝ }
+    ensures record { λ r. ⌜ r .reader ≡ readerAfter (answerOfBegun r) ⌝ }
+    ensures lines { λ r. ⌜ r .lines ≡ linesBy (now (image .entry)) (now (strings .entry)) (now (entries .entry)) choice (answerOfBegun r) ⌝ }
+    ensures order { λ _. ⌜ now (order .exit) ≡ withOrder (now (image .entry)) (now (strings .entry)) (now (entries .entry)) choice (now (order .entry)) (accepted reader) ⌝ }
 {
-    listing::listing_of(image, reader, strings, entries, order);
+    let lines = listing::listing_of(image, reader, strings, entries, choice, order);
     let none = Reader::none();
-    match measure(image, reader, strings, entries) {
-        Verdict::Refused(refusal) => Opening {
+    match measure(image, reader, strings, entries, order, lines) {
+        Verdict::Refused(refusal) => Begun {
             verdict: Verdict::Refused(refusal),
             reader: none,
+            lines: 0,
         },
-        Verdict::Accepted => Opening {
+        Verdict::Accepted => Begun {
             verdict: Verdict::Accepted,
             reader,
+            lines,
         },
     }
 }
 
-// Opens an image with the form of our programs; where that is accepted, writes listing order and measures the paths. A refusal is all that is
-// printed of the image. Both work areas are left as opening leaves them, also by 21. What it leaves where it accepts is what `fill` asks
-// (`judged-ready`).
+// Opens an image with the form of our programs; where that is accepted, writes the nodes that a choice lists in listing order, and measures their paths.
+// A refusal is all that is printed of the image. Both work areas are left as opening leaves them, also by 21. What it leaves where it accepts is what
+// `fill` asks (`judged-ready`).
 pub fn begin(
     image: &[u8],
+    choice: Choice,
     strings: &mut [u32],
     entries: &mut [u32],
     order: &mut [u32; 2049],
-) -> Opening
-    ensures answer { λ r. ⌜ answerOfOpening r ≡ judged (now (image .entry)) (now (strings .entry)) (now (entries .entry)) ⌝ }
-    ensures record { λ r. ⌜ r .reader ≡ readerAfter (judged (now (image .entry)) (now (strings .entry)) (now (entries .entry))) ⌝ }
+) -> Begun
+    ensures answer { λ r. ⌜ answerOfBegun r ≡ judged (now (image .entry)) choice (now (strings .entry)) (now (entries .entry)) ⌝ }
+    ensures record { λ r. ⌜ r .reader ≡ readerAfter (judged (now (image .entry)) choice (now (strings .entry)) (now (entries .entry))) ⌝ }
+    ensures lines { λ r. ⌜ r .lines ≡ linesAfter (now (image .entry)) choice (now (strings .entry)) (now (entries .entry)) ⌝ }
     ensures strings { λ _. ⌜ now (strings .exit) ≡ stringsAfter (now (image .entry)) (formFor (now (image .entry))) (now (strings .entry)) (now (entries .entry)) ⌝ }
     ensures entries { λ _. ⌜ now (entries .exit) ≡ entriesAfter (now (image .entry)) (formFor (now (image .entry))) (now (strings .entry)) (now (entries .entry)) ⌝ }
-    ensures order { λ _. ⌜ now (order .exit) ≡ orderAfter (now (image .entry)) (now (strings .entry)) (now (entries .entry)) (now (order .entry)) ⌝ }
+    ensures order { λ _. ⌜ now (order .exit) ≡ orderAfter (now (image .entry)) choice (now (strings .entry)) (now (entries .entry)) (now (order .entry)) ⌝ }
 {
     let form = aff_open::form_for(image);
     let opening = aff_open::open(image, &form, strings, entries);
     let verdict = opening.verdict;
     let reader = opening.reader;
     match verdict {
-        Verdict::Refused(refusal) => Opening {
+        Verdict::Refused(refusal) => Begun {
             verdict: Verdict::Refused(refusal),
             reader,
+            lines: 0,
         },
-        Verdict::Accepted => prepare(image, reader, strings, entries, order),
+        Verdict::Accepted => prepare(image, reader, strings, entries, choice, order),
     }
 }
 
@@ -131,29 +153,30 @@ fn put_row(
     }
 }
 
-// Where a filled block ends: the place in listing order of the line that comes next, and the bytes filled.
+// Where a filled block ends: the place in the order of the line that comes next, and the bytes filled.
 pub struct Filled {
     pub next: usize,
     pub used: usize,
 }
 
-// Fills a block from its front with the lines from a place in listing order on, one at least and as many as it has room for; the rest of it
-// stays.
+// Fills a block from its front with the lines of the first `lines` nodes of an order, from a place on: as many as it has space for, and one at least
+// where one is left; the rest of it stays.
 pub fn fill(
     image: &[u8],
     reader: Reader,
     strings: &[u32; 2048],
     entries: &[u32; 2048],
     order: &[u32; 2049],
+    lines: usize,
     from: usize,
     block: &mut [u8; 131072],
 ) -> Filled
-    requires { ⌜ Ready (now image) reader (now strings) (now entries) (now order) × (from ≤ reader .nodes) ⌝ }
-    ensures { λ r. ⌜ Fills (now (image .entry)) reader (now (strings .entry)) (now (entries .entry)) from (r .next) (r .used) (now (block .entry)) (now (block .exit)) ⌝ }
+    requires { ⌜ Ready (now image) reader (now strings) (now entries) (take lines (now order)) × (lines ≤ length (now order)) × (from ≤ lines) ⌝ }
+    ensures { λ r. ⌜ Fills (now (image .entry)) reader (now (strings .entry)) (now (entries .entry)) (take lines (now (order .entry))) from (r .next) (r .used) (now (block .entry)) (now (block .exit)) ⌝ }
 {
     let mut next = from;
     let mut used: usize = 0;
-    while next <= reader.nodes {
+    while next < lines {
         let node = recorded::place(order, next);
         let end = put_row(image, reader, strings, entries, node, used, block);
         if end == used {
@@ -165,10 +188,11 @@ pub fn fill(
     Filled { next, used }
 }
 
-// Where the first block ends: the record of the opening, the place in listing order of the line that comes next, and the bytes filled. A place
-// past the last node: there is no further block.
+// Where the first block ends: the record of the opening, how many lines there are in all, the place in listing order of the line that comes next, and the
+// bytes filled. Where the next place is the number of lines there is no further block.
 pub struct First {
     pub reader: Reader,
+    pub lines: usize,
     pub next: usize,
     pub used: usize,
 }
@@ -176,31 +200,36 @@ pub struct First {
 // The first block of an input that is not too long.
 fn first_lines(
     image: &[u8],
+    choice: Choice,
     strings: &mut [u32; 2048],
     entries: &mut [u32; 2048],
     order: &mut [u32; 2049],
     block: &mut [u8; 131072],
 ) -> First
     requires { ⌜ length (now image) ≤ inputLimit ⌝ }
-    ensures block { λ r. ⌜ Starts (now (image .entry)) (r .reader) (now (strings .exit)) (now (entries .exit)) (printed (now (image .entry))) (now (order .exit)) (r .next) (r .used) (now (block .entry)) (now (block .exit)) ⌝ }
-    ensures record { λ r. ⌜ r .reader ≡ readerAfter (judged (now (image .entry)) (now (strings .entry)) (now (entries .entry))) ⌝ }
+    ensures block { λ r. ⌜ Starts (now (image .entry)) (r .reader) (now (strings .exit)) (now (entries .exit)) (printed choice (now (image .entry))) (now (order .exit)) (r .lines) (r .next) (r .used) (now (block .entry)) (now (block .exit)) ⌝ }
+    ensures record { λ r. ⌜ r .reader ≡ readerAfter (judged (now (image .entry)) choice (now (strings .entry)) (now (entries .entry))) ⌝ }
+    ensures lines { λ r. ⌜ r .lines ≡ linesAfter (now (image .entry)) choice (now (strings .entry)) (now (entries .entry)) ⌝ }
     ensures strings { λ _. ⌜ now (strings .exit) ≡ stringsAfter (now (image .entry)) (formFor (now (image .entry))) (now (strings .entry)) (now (entries .entry)) ⌝ }
     ensures entries { λ _. ⌜ now (entries .exit) ≡ entriesAfter (now (image .entry)) (formFor (now (image .entry))) (now (strings .entry)) (now (entries .entry)) ⌝ }
-    ensures order { λ _. ⌜ now (order .exit) ≡ orderAfter (now (image .entry)) (now (strings .entry)) (now (entries .entry)) (now (order .entry)) ⌝ }
+    ensures order { λ _. ⌜ now (order .exit) ≡ orderAfter (now (image .entry)) choice (now (strings .entry)) (now (entries .entry)) (now (order .entry)) ⌝ }
 {
-    let opening = begin(image, strings, entries, order);
-    let verdict = opening.verdict;
-    let reader = opening.reader;
+    let begun = begin(image, choice, strings, entries, order);
+    let verdict = begun.verdict;
+    let reader = begun.reader;
+    let lines = begun.lines;
     match verdict {
         Verdict::Refused(refusal) => First {
             reader,
-            next: 1,
+            lines,
+            next: 0,
             used: refusal_line::put_refusal(refusal, block),
         },
         Verdict::Accepted => {
-            let filled = fill(image, reader, strings, entries, order, 0, block);
+            let filled = fill(image, reader, strings, entries, order, lines, 0, block);
             First {
                 reader,
+                lines,
                 next: filled.next,
                 used: filled.used,
             }
@@ -212,23 +241,26 @@ fn first_lines(
 // the further blocks, where there are any. An input that is too long is not opened; of any other, areas and record are left as `begin` says.
 pub fn first_block(
     image: &[u8],
+    choice: Choice,
     strings: &mut [u32; 2048],
     entries: &mut [u32; 2048],
     order: &mut [u32; 2049],
     block: &mut [u8; 131072],
 ) -> First
-    ensures block { λ r. ⌜ Starts (now (image .entry)) (r .reader) (now (strings .exit)) (now (entries .exit)) (printed (now (image .entry))) (now (order .exit)) (r .next) (r .used) (now (block .entry)) (now (block .exit)) ⌝ }
-    ensures record { λ r. ⌜ r .reader ≡ cond (isLong (now (image .entry))) noReader (readerAfter (judged (now (image .entry)) (now (strings .entry)) (now (entries .entry)))) ⌝ }
+    ensures block { λ r. ⌜ Starts (now (image .entry)) (r .reader) (now (strings .exit)) (now (entries .exit)) (printed choice (now (image .entry))) (now (order .exit)) (r .lines) (r .next) (r .used) (now (block .entry)) (now (block .exit)) ⌝ }
+    ensures record { λ r. ⌜ r .reader ≡ cond (isLong (now (image .entry))) noReader (readerAfter (judged (now (image .entry)) choice (now (strings .entry)) (now (entries .entry)))) ⌝ }
+    ensures lines { λ r. ⌜ r .lines ≡ cond (isLong (now (image .entry))) 0 (linesAfter (now (image .entry)) choice (now (strings .entry)) (now (entries .entry))) ⌝ }
     ensures strings { λ _. ⌜ now (strings .exit) ≡ cond (isLong (now (image .entry))) (now (strings .entry)) (stringsAfter (now (image .entry)) (formFor (now (image .entry))) (now (strings .entry)) (now (entries .entry))) ⌝ }
     ensures entries { λ _. ⌜ now (entries .exit) ≡ cond (isLong (now (image .entry))) (now (entries .entry)) (entriesAfter (now (image .entry)) (formFor (now (image .entry))) (now (strings .entry)) (now (entries .entry))) ⌝ }
-    ensures order { λ _. ⌜ now (order .exit) ≡ cond (isLong (now (image .entry))) (now (order .entry)) (orderAfter (now (image .entry)) (now (strings .entry)) (now (entries .entry)) (now (order .entry))) ⌝ }
+    ensures order { λ _. ⌜ now (order .exit) ≡ cond (isLong (now (image .entry))) (now (order .entry)) (orderAfter (now (image .entry)) choice (now (strings .entry)) (now (entries .entry)) (now (order .entry))) ⌝ }
 {
     if 65536 < image.len() {
         return First {
             reader: Reader::none(),
-            next: 1,
+            lines: 0,
+            next: 0,
             used: paths::put(b"too long\n", 0, block),
         };
     }
-    first_lines(image, strings, entries, order, block)
+    first_lines(image, choice, strings, entries, order, block)
 }

@@ -1,4 +1,4 @@
-// What the program `list` prints of an image.
+// What the programs `list` and `listall` print of an image.
 pub mod decimal; // numbers in decimal digits
 pub mod line; // a node's line
 pub mod refusal_line; // the line `refused N P`

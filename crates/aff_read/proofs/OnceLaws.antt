@@ -1,4 +1,4 @@
--- Listing order has each node exactly once and nothing else, for a record that belongs: k is below n in so many levels where k is n,
+-- The order of all nodes has each node exactly once and nothing else, for a record that belongs: k is below n in so many levels where k is n,
 -- or k's parent is there in one level less; every climb reaches the root. Assumes nothing.
 use mathlib.Core.Path.{_≡_, refl, sym, ap, _∙_}
 use mathlib.Core.Bool.{Bool, true, false, cond}
@@ -10,36 +10,37 @@ use native.Mathlib.Numerals.{add-one}
 use native.Mathlib.Omega.{arith}
 use borrow.Author.Tests.{eq-eqb, ne-eqb}
 use lib.Dec.{eqb}
-use lib.ListN.{length, drop}
+use lib.ListN.{length, getD}
 use Rattle.aff_format.specs.Tree.{reachesBy}
 use Rattle.aff_format.proofs.ClimbLaws.{absurd-bool, reaches-root, reaches-up}
 use Rattle.aff_open.specs.Belongs.{ReaderBelongs}
-use Rattle.aff_open.specs.passes.Belongs.{ParentsCopied}
-use Rattle.aff_tables.specs.passes.Climb.{copiedParent as parentIn}
-use Rattle.aff_format.specs.Recorded.{recordedEntry}
 use Rattle.aff_open.specs.declared.reader.Reader.{Reader}
 use Rattle.aff_tables.proofs.OrderLaws.{split}
-use Rattle.aff_read.specs.ListingOrder.{childOf, childrenTo, preorder, listingOrder}
+use Rattle.aff_read.specs.ListingOrder.{own, every, childOf, childrenTo, preorder}
 use Rattle.aff_read.specs.Once.{hit, occurrences}
 use Rattle.aff_read.specs.Recall.{parentAt}
-use Rattle.aff_read.specs.passes.Written.{Written}
-use Rattle.aff_read.proofs.ListingLaws.{preorder-same}
-use Rattle.aff_read.proofs.WrittenLaws.{written-same, written-front}
 
 -- ---- Occurrences.
 
-hit-same : (k x : ℕ) → k ≡ x → hit k x ≡ 1
+pub hit-same : (k x : ℕ) → k ≡ x → hit k x ≡ 1
 unfolding hit
 hit-same k x e = rw (eq-eqb k x e)
 
-hit-other : (k x : ℕ) → (k ≡ x → ⊥) → hit k x ≡ 0
+pub hit-other : (k x : ℕ) → (k ≡ x → ⊥) → hit k x ≡ 0
 unfolding hit
 hit-other k x e = rw (ne-eqb k x e)
 
-occurrences-append : (k : ℕ) (a b : List ℕ) → occurrences k (a ++ b) ≡ occurrences k a + occurrences k b
+pub occurrences-append : (k : ℕ) (a b : List ℕ) → occurrences k (a ++ b) ≡ occurrences k a + occurrences k b
 unfolding occurrences
 occurrences-append k [] b = sym (zero-add (occurrences k b))
 occurrences-append k (x ∷ a) b = omega (arith, occurrences-append k a b)
+
+-- A number that is in a list occurs in it.
+pub occurs : (l : List ℕ) (k : ℕ) → k < length l → 0 < occurrences (getD l k 0) l
+unfolding occurrences hit
+occurs [] k h = absurd (omega arith)
+occurs (x ∷ l) zero h = rw (eq-eqb x x refl) (omega arith)
+occurs (x ∷ l) (suc k) h = omega (arith, occurs l k (omega arith))
 
 -- The occurrences of all numbers below m.
 unfoldable pub total : ℕ → List ℕ → ℕ
@@ -66,7 +67,7 @@ total-cons (suc m) x l h =
     (eq-or-lt-of-le q)
 
 -- No number from m on occurs in l.
-abbrev Below : ℕ → List ℕ → Type 0
+abbrev pub Below : ℕ → List ℕ → Type 0
 Below m l = (k : ℕ) → m ≤ k → occurrences k l ≡ 0
 
 head-below : (m x : ℕ) (l : List ℕ) → Below m (x ∷ l) → x < m
@@ -79,16 +80,11 @@ unfolding occurrences
 total-length m [] h = sym (total-nil m)
 total-length m (x ∷ l) h = omega (arith, total-length m l (λ k g. omega (arith, h k g)), total-cons m x l (head-below m x l h))
 
-total-once : (m : ℕ) (l : List ℕ) → ((k : ℕ) → k < m → occurrences k l ≡ 1) → total m l ≡ m
-unfolding total
-total-once zero l h = refl
-total-once (suc m) l h = omega (arith, total-once m l (λ k g. h k (omega arith)), h m (omega arith))
-
-cond-zero : (b : Bool) (x : ℕ) → x ≡ 0 → cond b x 0 ≡ 0
+pub cond-zero : (b : Bool) (x : ℕ) → x ≡ 0 → cond b x 0 ≡ 0
 cond-zero true x e = e
 cond-zero false x e = refl
 
-cond-add : (b : Bool) (x y : ℕ) → cond b (x + y) 0 ≡ cond b x 0 + cond b y 0
+pub cond-add : (b : Bool) (x y : ℕ) → cond b (x + y) 0 ≡ cond b x 0 + cond b y 0
 cond-add true x y = refl
 cond-add false x y = refl
 
@@ -173,32 +169,32 @@ module _ (parent : ℕ → ℕ) where
 
   module _ (all : ℕ) where
     -- k below n in so many levels is k's parent below n in one less, or k is n.
-    pub step : (depth n k : ℕ) → (k ≡ 0 → ⊥) → k < all → occurrences k (preorder parent all (suc depth) n) ≡ hit k n + occurrences (parent k) (preorder parent all depth n)
-    unfolding preorder occurrences
-    step zero n k z h = ap (λ (j : ℕ). hit k n + j) (children-without (preorder parent all 0) n k all (λ c l z. refl))
+    pub step : (depth n k : ℕ) → (k ≡ 0 → ⊥) → k < all → occurrences k (preorder every parent all (suc depth) n) ≡ hit k n + occurrences (parent k) (preorder every parent all depth n)
+    unfolding preorder own occurrences
+    step zero n k z h = ap (λ (j : ℕ). hit k n + j) (children-without (preorder every parent all 0) n k all (λ c l z. refl))
     step (suc depth) n k z h =
-        omega (arith, children-count (preorder parent all (suc depth)) (preorder parent all depth) n k all (λ c. step depth c k z h), mark-all n k all z h)
+        omega (arith, children-count (preorder every parent all (suc depth)) (preorder every parent all depth) n k all (λ c. step depth c k z h), mark-all n k all z h)
 
     -- The root is at the front only.
-    root-once : (depth n : ℕ) → occurrences 0 (preorder parent all depth n) ≤ hit 0 n
-    unfolding preorder occurrences
+    root-once : (depth n : ℕ) → occurrences 0 (preorder every parent all depth n) ≤ hit 0 n
+    unfolding preorder own occurrences
     root-once zero n = omega arith
     root-once (suc depth) n =
-        omega (arith, children-without (preorder parent all depth) n 0 all (λ c l z. omega (arith, root-once depth c, hit-other 0 c (λ e. z (sym e)))))
+        omega (arith, children-without (preorder every parent all depth) n 0 all (λ c l z. omega (arith, root-once depth c, hit-other 0 c (λ e. z (sym e)))))
 
-    pub root-count : (depth n : ℕ) → occurrences 0 (preorder parent all (suc depth) n) ≡ hit 0 n
-    unfolding preorder occurrences
+    pub root-count : (depth n : ℕ) → occurrences 0 (preorder every parent all (suc depth) n) ≡ hit 0 n
+    unfolding preorder own occurrences
     root-count depth n = omega (arith, root-once (suc depth) n)
 
-    pub only-nodes : (depth n : ℕ) → n < all → Below all (preorder parent all depth n)
-    unfolding preorder occurrences
+    pub only-nodes : (depth n : ℕ) → n < all → Below all (preorder every parent all depth n)
+    unfolding preorder own occurrences
     only-nodes zero n h k g = refl
     only-nodes (suc depth) n h k g =
-        omega (arith, hit-other k n (λ e. omega arith), children-without (preorder parent all depth) n k all (λ c l z. only-nodes depth c l k g))
+        omega (arith, hit-other k n (λ e. omega arith), children-without (preorder every parent all depth) n k all (λ c l z. only-nodes depth c l k g))
 
     module _ (linked : (k : ℕ) → 0 < k → k < all → parent k < all) where
       -- A node whose climb reaches the root is below it once.
-      climbed-once : (steps k : ℕ) → k < all → reachesBy parent steps k ≡ true → occurrences k (preorder parent all (suc steps) 0) ≡ 1
+      climbed-once : (steps k : ℕ) → k < all → reachesBy parent steps k ≡ true → occurrences k (preorder every parent all (suc steps) 0) ≡ 1
       unfolding reachesBy
       climbed-once zero zero h e = root-count 0 0 ∙ hit-same 0 0 refl
       climbed-once zero (suc k) h e = absurd-bool (sym (ne-eqb (suc k) 0 (λ q. omega arith)) ∙ e)
@@ -211,7 +207,7 @@ module _ (parent : ℕ → ℕ) where
             hit-other (suc k) 0 (λ q. omega arith),
           )
 
--- ---- Listing order.
+-- ---- The order of all nodes.
 
 module _ {image : List ℕ} {reader : Reader} {strings entries : List ℕ} (b : ReaderBelongs image reader strings entries) where
   pub linked : (k : ℕ) → 0 < k → k < reader .nodes + 1 → parentAt image entries k < reader .nodes + 1
@@ -221,29 +217,11 @@ module _ {image : List ℕ} {reader : Reader} {strings entries : List ℕ} (b : 
   reached zero h = reaches-root (parentAt image entries) (reader .nodes)
   reached (suc k) h = b .climb-ends (suc k) (omega arith) h
 
-  -- Each node exactly once.
-  pub order-once : (k : ℕ) → k ≤ reader .nodes → occurrences k (listingOrder image reader strings entries) ≡ 1
-  order-once k h =
-      ap (λ (d : ℕ). occurrences k (preorder (parentAt image entries) (reader .nodes + 1) d 0)) (add-one (reader .nodes))
+  -- Each node exactly once, and no other number.
+  pub all-once : (k : ℕ) → k ≤ reader .nodes → occurrences k (preorder every (parentAt image entries) (reader .nodes + 1) (reader .nodes + 1) 0) ≡ 1
+  all-once k h =
+      ap (λ (d : ℕ). occurrences k (preorder every (parentAt image entries) (reader .nodes + 1) d 0)) (add-one (reader .nodes))
       ∙ climbed-once (parentAt image entries) (reader .nodes + 1) linked (reader .nodes) k (omega arith) (reached k h)
 
-  -- No other number.
-  pub order-only : (k : ℕ) → reader .nodes < k → occurrences k (listingOrder image reader strings entries) ≡ 0
-  order-only k h = only-nodes (parentAt image entries) (reader .nodes + 1) (reader .nodes + 1) 0 (omega arith) k (omega arith)
-
-  pub order-length : length (listingOrder image reader strings entries) ≡ reader .nodes + 1
-  order-length =
-      total-length (reader .nodes + 1) (listingOrder image reader strings entries) (λ k g. order-only k (omega arith))
-      ∙ total-once (reader .nodes + 1) (listingOrder image reader strings entries) (λ k g. order-once k (omega arith))
-
-  -- By parents copied once: it has room in an area of more numbers than nodes, and as many numbers as there are nodes are written.
-  module _ {parents : List ℕ} (copied : ParentsCopied (recordedEntry image entries) (reader .nodes) parents) where
-    copied-order : preorder (parentIn parents) (reader .nodes + 1) (reader .nodes + 1) 0 ≡ listingOrder image reader strings entries
-    copied-order = preorder-same (parentIn parents) (parentAt image entries) (reader .nodes + 1) (reader .nodes + 1) 0 (λ k z h. copied .parent k z (omega arith))
-
-    pub order-fits : (o : List ℕ) → reader .nodes < length o → 0 + length (preorder (parentIn parents) (reader .nodes + 1) (reader .nodes + 1) 0) ≤ length o
-    order-fits o h = omega (arith, ap length copied-order, order-length)
-
-    pub order-written : {o p : List ℕ} {end : ℕ} → Written 0 (preorder (parentIn parents) (reader .nodes + 1) (reader .nodes + 1) 0) o p end
-        → (end ≡ reader .nodes + 1) × (p ≡ listingOrder image reader strings entries ++ drop (length (listingOrder image reader strings entries)) o)
-    order-written w = let f = written-front (written-same copied-order w) in (f .0 ∙ order-length, f .1)
+  pub all-only : Below (reader .nodes + 1) (preorder every (parentAt image entries) (reader .nodes + 1) (reader .nodes + 1) 0)
+  all-only k h = only-nodes (parentAt image entries) (reader .nodes + 1) (reader .nodes + 1) 0 (omega arith) k h

@@ -1,5 +1,5 @@
 -- The depth of listing order cuts nothing: one level more has the same nodes, so it is as long, and a longer listing of no more nodes is
--- the same. So a node's listing is the node, then its children in number order, each followed by its whole subtree. Assumes nothing.
+-- the same. So a node's listing is the node, where it is listed, then its children in number order, each followed by its whole subtree. Assumes nothing.
 use mathlib.Core.Path.{_≡_, refl, sym, ap, _∙_}
 use mathlib.Core.Bool.{Bool, true, false, cond}
 use mathlib.Core.List.{List, [], _∷_, _++_}
@@ -13,9 +13,11 @@ use Rattle.aff_format.specs.Tree.{reachesBy}
 use Rattle.aff_format.proofs.ClimbLaws.{absurd-bool, reaches-up}
 use Rattle.aff_open.specs.Belongs.{ReaderBelongs}
 use Rattle.aff_open.specs.declared.reader.Reader.{Reader}
-use Rattle.aff_read.specs.ListingOrder.{childOf, childrenTo, preorder}
+use Rattle.aff_read.specs.ListingOrder.{own, every, childOf, childrenTo, preorder, kept, isListed}
 use Rattle.aff_read.specs.Once.{occurrences}
 use Rattle.aff_read.specs.Recall.{parentAt}
+use Rattle.aff_read.specs.declared.choice.Choice.{Choice}
+use Rattle.aff_read.proofs.KeptLaws.{children-kept, preorder-kept}
 use Rattle.aff_read.proofs.OnceLaws.{total, total-length, step, root-count, only-nodes, linked, reached}
 
 -- b is at least as long as a, and is a where it is no longer.
@@ -46,17 +48,17 @@ module _ (parent : ℕ → ℕ) where
       (children-within f g n m w) (child-within f g n m (w m))
 
   module _ (all : ℕ) where
-    level-within : (depth n : ℕ) → Within (preorder parent all depth n) (preorder parent all (suc depth) n)
-    unfolding preorder
+    level-within : (depth n : ℕ) → Within (preorder every parent all depth n) (preorder every parent all (suc depth) n)
+    unfolding preorder own
     level-within zero n = (omega arith, λ h. absurd (omega arith))
     level-within (suc depth) n =
-        let w = children-within (preorder parent all depth) (preorder parent all (suc depth)) n all (level-within depth) in
+        let w = children-within (preorder every parent all depth) (preorder every parent all (suc depth)) n all (level-within depth) in
         (omega arith, λ h. let e = w .1 (omega arith) in rw e)
 
     module _ (links : (k : ℕ) → 0 < k → k < all → parent k < all) where
       -- A node whose climb ends within so many steps occurs as often one level deeper.
       settled-count : (steps k n : ℕ) → k < all → reachesBy parent steps k ≡ true
-          → occurrences k (preorder parent all (suc (suc steps)) n) ≡ occurrences k (preorder parent all (suc steps) n)
+          → occurrences k (preorder every parent all (suc (suc steps)) n) ≡ occurrences k (preorder every parent all (suc steps) n)
       unfolding reachesBy
       settled-count zero zero n h e = root-count parent all 1 n ∙ sym (root-count parent all 0 n)
       settled-count zero (suc k) n h e = absurd-bool (sym (ne-eqb (suc k) 0 (λ q. omega arith)) ∙ e)
@@ -74,31 +76,48 @@ unfolding total
 total-same zero l r h = refl
 total-same (suc m) l r h = omega (arith, total-same m l r (λ k g. h k (omega arith)), h m (omega arith))
 
--- The listing of a node; listing order is the root's.
-abbrev pub listed : List ℕ → Reader → List ℕ → ℕ → List ℕ
-listed image reader entries n = preorder (parentAt image entries) (reader .nodes + 1) (reader .nodes + 1) n
+-- The listing of a node by a choice; listing order is the root's.
+abbrev pub listed : List ℕ → Reader → List ℕ → Choice → ℕ → List ℕ
+listed image reader entries choice n = preorder (isListed image entries choice) (parentAt image entries) (reader .nodes + 1) (reader .nodes + 1) n
 
 module _ {image : List ℕ} {reader : Reader} {strings entries : List ℕ} (b : ReaderBelongs image reader strings entries) where
+  -- The listing of a node with every node.
+  abbrev full : ℕ → List ℕ
+  full = preorder every (parentAt image entries) (reader .nodes + 1) (reader .nodes + 1)
+
   settled : (n : ℕ) → n ≤ reader .nodes
-      → preorder (parentAt image entries) (reader .nodes + 1) (suc (reader .nodes)) n ≡ preorder (parentAt image entries) (reader .nodes + 1) (suc (suc (reader .nodes))) n
+      → preorder every (parentAt image entries) (reader .nodes + 1) (suc (reader .nodes)) n
+      ≡ preorder every (parentAt image entries) (reader .nodes + 1) (suc (suc (reader .nodes))) n
   settled n h =
       let p = parentAt image entries in
       let all = reader .nodes + 1 in
       let d = reader .nodes in
-      let s : total all (preorder p all (suc (suc d)) n) ≡ total all (preorder p all (suc d) n) =
+      let s : total all (preorder every p all (suc (suc d)) n) ≡ total all (preorder every p all (suc d) n) =
       total-same all _ _ (λ k g. settled-count p all (linked b) d k n g (reached b k (omega arith))) in
       level-within p all (suc d) n .1
       (omega (
         arith,
         s,
-        total-length all (preorder p all (suc d) n) (only-nodes p all (suc d) n (omega arith)),
-        total-length all (preorder p all (suc (suc d)) n) (only-nodes p all (suc (suc d)) n (omega arith)),
+        total-length all (preorder every p all (suc d) n) (only-nodes p all (suc d) n (omega arith)),
+        total-length all (preorder every p all (suc (suc d)) n) (only-nodes p all (suc (suc d)) n (omega arith)),
       ))
 
-  pub listed-whole : (n : ℕ) → n ≤ reader .nodes
-      → listed image reader entries n ≡ n ∷ childrenTo (listed image reader entries) (parentAt image entries) n (reader .nodes + 1)
-  unfolding preorder
-  listed-whole n h =
-      ap (λ (d : ℕ). preorder (parentAt image entries) (reader .nodes + 1) d n) (add-one (reader .nodes))
+  full-whole : (n : ℕ) → n ≤ reader .nodes → full n ≡ n ∷ childrenTo full (parentAt image entries) n (reader .nodes + 1)
+  unfolding preorder own
+  full-whole n h =
+      ap (λ (d : ℕ). preorder every (parentAt image entries) (reader .nodes + 1) d n) (add-one (reader .nodes))
       ∙ settled n h
-      ∙ ap (λ (d : ℕ). n ∷ childrenTo (preorder (parentAt image entries) (reader .nodes + 1) d) (parentAt image entries) n (reader .nodes + 1)) (sym (add-one (reader .nodes)))
+      ∙ ap (λ (d : ℕ). n ∷ childrenTo (preorder every (parentAt image entries) (reader .nodes + 1) d) (parentAt image entries) n (reader .nodes + 1)) (sym (add-one (reader .nodes)))
+
+  -- For every choice, by the listing with every node without those that are not listed.
+  pub listed-whole : (choice : Choice) (n : ℕ) → n ≤ reader .nodes
+      → listed image reader entries choice n
+      ≡ own (isListed image entries choice) n ++ childrenTo (listed image reader entries choice) (parentAt image entries) n (reader .nodes + 1)
+  unfolding kept
+  listed-whole choice n h =
+      let p = parentAt image entries in
+      let all = reader .nodes + 1 in
+      let keep = isListed image entries choice in
+      preorder-kept keep p all all n
+      ∙ ap (kept keep) (full-whole n h)
+      ∙ ap (λ (l : List ℕ). own keep n ++ l) (sym (children-kept keep p (listed image reader entries choice) full n all (preorder-kept keep p all all)))

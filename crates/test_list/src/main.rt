@@ -1,5 +1,15 @@
-// Prints each image of standard input as `list` does, briefly, after a line with its number. tests/make_listings.py makes images and answers;
-// it shares no code with the library.
+// Prints each image of standard input as `list` does, then as `listall` does, briefly, each after a line with its number. tests/make_listings.py makes
+// images and answers; it shares no code with the library.
+use aff_read::Choice;
+
+fn both(k: usize, image: &[u8]) {
+    console::decimal(k as u64);
+    console::text(b" list\n");
+    test_list_brief::print(image, Choice::NotVoid);
+    console::decimal(k as u64);
+    console::text(b" listall\n");
+    test_list_brief::print(image, Choice::AllNodes);
+}
 
 // Image k; false where there is none.
 fn one(k: usize) -> bool {
@@ -9,9 +19,7 @@ fn one(k: usize) -> bool {
         return false;
     }
     let size = next.size;
-    console::decimal(k as u64);
-    console::text(b"\n");
-    test_list_brief::print(&image[..size]);
+    both(k, &image[..size]);
     true
 }
 

@@ -1,6 +1,7 @@
-// For tests: what `list` prints of an image, by the same functions, with a block above 1,024 bytes shown by its length and its MD5 sum.
+// For tests: what `list` or `listall` prints of an image, by the same functions, with a block above 1,024 bytes shown by its length and its MD5 sum.
 use aff_format::number;
 use aff_list::blocks;
+use aff_read::Choice;
 use libc::STDOUT_FILENO;
 
 fn brief(block: &[u8]) {
@@ -16,18 +17,35 @@ fn brief(block: &[u8]) {
     console::text(b"\n");
 }
 
-pub fn print(image: &[u8]) {
+pub fn print(image: &[u8], choice: Choice) {
     let mut strings = [0u32; 2048];
     let mut entries = [0u32; 2048];
     let mut order = [0u32; 2049];
     let mut block = [0u8; 131072];
-    let first = blocks::first_block(image, &mut strings, &mut entries, &mut order, &mut block);
+    let first = blocks::first_block(
+        image,
+        choice,
+        &mut strings,
+        &mut entries,
+        &mut order,
+        &mut block,
+    );
     let reader = first.reader;
+    let lines = first.lines;
     let used = first.used;
     brief(&block[..used]);
     let mut next = first.next;
-    while next <= reader.nodes {
-        let filled = blocks::fill(image, reader, &strings, &entries, &order, next, &mut block);
+    while next < lines {
+        let filled = blocks::fill(
+            image,
+            reader,
+            &strings,
+            &entries,
+            &order,
+            lines,
+            next,
+            &mut block,
+        );
         let used = filled.used;
         brief(&block[..used]);
         next = filled.next;

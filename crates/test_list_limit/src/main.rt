@@ -1,4 +1,6 @@
 // The program `list` again, run here on one byte above its limit.
+use aff_read::Choice;
+
 fn main() {
-    aff_list::run();
+    aff_list::run(Choice::NotVoid);
 }

@@ -1,5 +1,6 @@
 // Prints of each image of standard input what the second reader says of it as well: the refusal, or each node in listing order, its line and its
 // first elements, bit for bit. tests/second_reader makes images and answers; it shares no code with the library.
+use aff::Choice;
 use aff::NumberAnswer;
 use aff::Reader;
 use aff::Verdict;
@@ -34,7 +35,14 @@ fn node(image: &[u8], reader: Reader, strings: &[u32], entries: &[u32], k: usize
 
 fn nodes(image: &[u8], reader: Reader, strings: &[u32], entries: &[u32]) {
     let mut order = [0u32; 2049];
-    aff::listing(image, reader, strings, entries, &mut order);
+    aff::listing(
+        image,
+        reader,
+        strings,
+        entries,
+        Choice::AllNodes,
+        &mut order,
+    );
     let mut i: usize = 0;
     while i < 2049 {
         if reader.nodes < i {

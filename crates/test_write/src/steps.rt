@@ -2,9 +2,10 @@
 // Calls: b begin (allowance; form), m make (parent; name), p put (node, type, allowance; data), c close (allowance).
 // Changes: = the lengths passed (buffer, text area, tree area), a a field of the record (field, value), f the buffer filled (byte), R S T one byte of
 // buffer, text area, tree area (place, byte).
-// Prints: # some text, s sums of what is passed, x the buffer, l the buffer as `list` prints it, o the buffer opened and read.
+// Prints: # some text, s sums of what is passed, x the buffer, l the buffer as `listall` prints it, o the buffer opened and read.
 use crate::record;
 use aff_format::number;
+use aff_read::Choice;
 use aff_write::Writer;
 use aff_write::Writing;
 use test_dump::show;
@@ -148,7 +149,7 @@ fn aside(step: Step, bytes: &[u8], buffer: &mut [u8], text: &mut [u8], tree: &mu
             show::hex(buffer);
             console::text(b"\n");
         }
-        b'l' => test_list_brief::print(buffer),
+        b'l' => test_list_brief::print(buffer, Choice::AllNodes),
         b'o' => test_dump::print(buffer),
         _ => {}
     }

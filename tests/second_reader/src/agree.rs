@@ -1,6 +1,6 @@
 //! Compares the library with this reader, call by call, over images and over altered memory.
 
-use crate::answers::{decoded, judged, Element, Lent, Reader};
+use crate::answers::{decoded, judged, Choice, Element, Lent, Reader};
 use crate::format::{form_for, Kind, MOST};
 use crate::images::{image, Image};
 use crate::library;
@@ -105,7 +105,9 @@ fn answers(random: &Random, passed: &Lent, report: &mut Report) {
     for node in asked(random, nodes) {
         node_answers(random, passed, &reader, node, report);
     }
-    listing(random, passed, &reader, report);
+    for choice in [Choice::All, Choice::NotVoid] {
+        listing(random, passed, &reader, choice, report);
+    }
     for path in [b"".as_slice(), b"/", b"//", b"a", b"/9", b"/a", b"/a/"] {
         lookup(passed, &reader, path, report);
     }
@@ -272,14 +274,25 @@ fn decode(random: &Random, report: &mut Report) {
 
 const NAN: u64 = 0x7ff8_0000_0000_0000;
 
-/// Listing order into an area that is long enough, just long enough, or one too short.
-fn listing(random: &Random, passed: &Lent, reader: &Result<Reader, u32>, report: &mut Report) {
-    let nodes = passed.record.nodes.min(4096) as usize;
-    let buffer = random.pick(&[nodes + 1, nodes + 1, nodes + 4, nodes, 0]);
-    let (mut first, mut second) = (vec![0xaaaa; buffer], vec![0xaaaa; buffer]);
-    let ours = here(reader, |r| r.order_into(&mut first));
-    report.same("listing", &ours, &library::order_into(passed, &mut second));
-    report.same("listing numbers", &first, &second);
+/// Listing order into areas of exactly the length needed, one place less, and more; where 24 is due, into areas of some lengths.
+fn listing(
+    random: &Random,
+    passed: &Lent,
+    reader: &Result<Reader, u32>,
+    choice: Choice,
+    report: &mut Report,
+) {
+    let some = random.below(passed.record.nodes.min(4096) as usize + 2);
+    let needed = reader.as_ref().map_or(some, |r| r.listed(choice).len());
+    let longer = needed + random.between(1, 5);
+    for places in [Some(needed), needed.checked_sub(1), Some(longer)] {
+        let Some(places) = places else { continue };
+        let (mut first, mut second) = (vec![0xaaaa; places], vec![0xaaaa; places]);
+        let ours = here(reader, |r| r.order_into(choice, &mut first));
+        let theirs = library::order_into(passed, choice, &mut second);
+        report.same("listing", &ours, &theirs);
+        report.same("listing numbers", &first, &second);
+    }
 }
 
 /// The same calls after one to three things passed have been altered since opening.

@@ -1,4 +1,4 @@
-//! The answers of an opened image, from document 01, "Reading keys", "Numbers handed back" and "The lister".
+//! The answers of an opened image, from document 01, "Reading keys", "Numbers handed back" and "The lister", and request C-12.
 
 use crate::format::{big, form_for, is_path, Edition, Entry, Kind, LONGEST_IMAGE, MOST};
 use crate::open::{open, reaches_root, until_zero, Record, Span};
@@ -19,6 +19,13 @@ pub enum Element {
     Int(i32),
     Real(u64),
     Pair(u64, u64),
+}
+
+/// Which nodes a listing has (C-12): `listall` "prints all nodes", `list` "leaves out Void nodes".
+#[derive(Clone, Copy, PartialEq, Eq, Debug)]
+pub enum Choice {
+    All,
+    NotVoid,
 }
 
 /// What is passed, after 24 has been judged.
@@ -260,9 +267,16 @@ impl<'a> Reader<'a> {
         order
     }
 
-    /// The order into a passed area: 21 where it has too few places; "whose rest stays".
-    pub fn order_into(&self, area: &mut [u32]) -> Result<u64, u32> {
-        let order = self.order();
+    /// The nodes of a choice: "the short order is exactly the full one without its Void nodes".
+    pub fn listed(&self, choice: Choice) -> Vec<u64> {
+        let mut order = self.order();
+        order.retain(|number| choice == Choice::All || self.kind(*number) != Ok(Kind::Void));
+        order
+    }
+
+    /// The order into a passed area: 21 where it has too few places; "whose rest stays". It "answers how many numbers it wrote".
+    pub fn order_into(&self, choice: Choice, area: &mut [u32]) -> Result<u64, u32> {
+        let order = self.listed(choice);
         if order.len() > area.len() {
             return Err(21);
         }
@@ -287,8 +301,8 @@ pub fn decoded(kind: Kind, bytes: &[u8]) -> Element {
 /// "Program `list` reads an image of at most 65,536 bytes"; a path is at most as long.
 pub const LISTED: usize = 65_536;
 
-/// What `list` prints of an input.
-pub fn listing(input: &[u8]) -> Vec<u8> {
+/// What `list` or `listall` prints of an input.
+pub fn listing(input: &[u8], choice: Choice) -> Vec<u8> {
     if input.len() > LISTED {
         return b"too long\n".to_vec();
     }
@@ -301,7 +315,7 @@ pub fn listing(input: &[u8]) -> Vec<u8> {
                 strings: &opened.strings,
                 entries: &opened.entries,
             };
-            lines(&passed).unwrap_or_else(|number| refused(number, 0))
+            lines(&passed, choice).unwrap_or_else(|number| refused(number, 0))
         }
     }
 }
@@ -310,16 +324,17 @@ fn refused(number: u32, place: u64) -> Vec<u8> {
     format!("refused {number} {place}\n").into_bytes()
 }
 
-/// "path, a space, type word, a space, count"; 21 for a path above 65,536 bytes.
-fn lines(passed: &Lent) -> Result<Vec<u8>, u32> {
+/// "path, a space, type word, a space, count"; 21 for a path above 65,536 bytes, which "looks only at the nodes listed".
+fn lines(passed: &Lent, choice: Choice) -> Result<Vec<u8>, u32> {
     let reader = judged(passed)?;
+    let listed = reader.listed(choice);
     let mut output = Vec::new();
-    for number in 0..=reader.nodes() {
-        if reader.path_length(number)? > LISTED as u64 {
+    for number in &listed {
+        if reader.path_length(*number)? > LISTED as u64 {
             return Err(21);
         }
     }
-    for number in reader.order() {
+    for number in listed {
         output.extend(reader.path(number)?);
         let word = reader.kind(number)?.word();
         output.extend(format!(" {word} {}\n", reader.count(number)?).into_bytes());

@@ -528,14 +528,25 @@ fn lawful_empty(random: &Random) -> Image {
     lawful(draft, "empty sections")
 }
 
-/// A chain whose last path has a length near the lister's limit of 65,536: one byte less, the same, one byte more.
+/// A chain whose last path has a length near the listers' limit of 65,536: one byte less, the same, one byte more. All its nodes are
+/// Void, or all but the last or another one (C-12: "21 looks only at the nodes listed").
 fn long_path(random: &Random) -> Image {
     let nodes = random.pick(&[16, 64, 256, 1024]);
     let subkey = 65_536 / nodes - 1;
     let more = random.below(3);
+    let full = random.pick(&[
+        None,
+        Some(nodes - 1),
+        Some(nodes - 1),
+        Some(random.below(nodes)),
+    ]);
     let strings = vec![vec![b'p'; subkey], vec![b'q'; subkey - 1 + more]];
     let node = |i: usize| Node {
-        code: Kind::Void.code(),
+        code: if full == Some(i) {
+            Kind::Int.code()
+        } else {
+            Kind::Void.code()
+        },
         parent: i as u64,
         string: u32::from(i + 1 == nodes),
         count: 0,
@@ -544,7 +555,8 @@ fn long_path(random: &Random) -> Image {
     let nodes = (0..nodes).map(node).collect();
     let mut draft = draft(random, strings, nodes);
     apart(random, &mut draft);
-    lawful(draft, "path near the lister's limit")
+    with_data(random, &mut draft);
+    lawful(draft, "path near the listers' limit")
 }
 
 /// An image of 65,535 to 65,537 bytes, the last of them of no section.
@@ -554,7 +566,7 @@ fn long_image(random: &Random) -> Image {
     with_data(random, &mut draft);
     let length = draft.bytes.len().max(65_535 + random.below(3));
     draft.bytes.resize(length, 7);
-    lawful(draft, "image near the lister's limit")
+    lawful(draft, "image near the listers' limit")
 }
 
 /// Image `number` of a seed.

@@ -1,7 +1,7 @@
 //! The library through its C side: the functions of the crate aff_c, as the heads of its sources give them. A slice is a pointer
 //! and a length.
 
-use crate::answers::Lent;
+use crate::answers::{Choice, Lent};
 use crate::format::Refusal;
 use crate::open::{Record, Span};
 use crate::runs::{Alteration, Call, Desk, Run};
@@ -118,7 +118,7 @@ macro_rules! reading {
 
 reading! {
     aff_lookup(path: *const u8, path_length: usize, node: *mut u64);
-    aff_listing(output: *mut u32, output_length: usize, count: *mut u64);
+    aff_listing(all: bool, output: *mut u32, output_length: usize, count: *mut u64);
     aff_name(node: u64, offset: *mut u64, size: *mut u64);
     aff_kind(node: u64, kind: *mut u64);
     aff_count(node: u64, count: *mut u64);
@@ -301,11 +301,12 @@ pub fn path_into(passed: &Lent, node: u64, output: &mut [u8]) -> Result<u64, u32
     reported(number, size, NONE)
 }
 
-pub fn order_into(passed: &Lent, output: &mut [u32]) -> Result<u64, u32> {
+pub fn order_into(passed: &Lent, choice: Choice, output: &mut [u32]) -> Result<u64, u32> {
     let mut count = NONE;
     let number = ask!(
         aff_listing,
         passed,
+        choice == Choice::All,
         output.as_mut_ptr(),
         output.len(),
         &mut count

@@ -1,6 +1,6 @@
-//! Runs a program `list` on images and compares what it prints with what document 01, "The lister", says.
+//! Runs the programs `list` and `listall` on images and compares what they print with what document 01, "The lister", and request C-12 say.
 
-use crate::answers::{listing, LISTED};
+use crate::answers::{listing, Choice, LISTED};
 use crate::format::form_for;
 use crate::images::image;
 use crate::open::open;
@@ -32,20 +32,45 @@ fn head(bytes: &[u8]) -> String {
     String::from_utf8_lossy(&bytes[..bytes.len().min(120)]).into_owned()
 }
 
-/// Image `number` of a seed through the program.
-pub fn compare(seed: u64, number: u64, program: &Path, report: &mut Report) -> io::Result<()> {
+/// A program, and the nodes that it lists.
+pub struct Program<'a> {
+    path: &'a Path,
+    choice: Choice,
+}
+
+impl<'a> Program<'a> {
+    pub fn new(path: &'a str, choice: Choice) -> Program<'a> {
+        let path = Path::new(path);
+        Program { path, choice }
+    }
+}
+
+/// Image `number` of a seed through the programs.
+pub fn compare(
+    seed: u64,
+    number: u64,
+    programs: &[Program],
+    report: &mut Report,
+) -> io::Result<()> {
     let image = image(seed, number);
     report.begin(seed, number, &image);
     report.opened(&image, &open(&image.bytes, &form_for(&image.bytes)));
-    let ours = listing(&image.bytes);
-    let theirs = printed(program, &image.bytes)?;
-    report.same("first lines", &head(&ours), &head(&theirs));
-    report.same("whole output", &(ours == theirs), &true);
+    for program in programs {
+        let ours = listing(&image.bytes, program.choice);
+        let theirs = printed(program.path, &image.bytes)?;
+        let name = program.path.display();
+        report.same(
+            &format!("{name}: first lines"),
+            &head(&ours),
+            &head(&theirs),
+        );
+        report.same(&format!("{name}: whole output"), &(ours == theirs), &true);
+    }
     report.end(&image.bytes);
     Ok(())
 }
 
-/// Whether an image is one for the program: at most 65,536 bytes, or one of the few that are just too long.
+/// Whether an image is one for the programs: at most 65,536 bytes, or one of the few that are just too long.
 pub fn is_listed(seed: u64, number: u64) -> bool {
     image(seed, number).bytes.len() <= LISTED + 1
 }

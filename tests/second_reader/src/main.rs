@@ -30,6 +30,8 @@ mod tests;
 mod times;
 mod writer;
 
+use answers::Choice;
+use lists::Program;
 use report::Report;
 use std::error::Error;
 use std::io::Write;
@@ -37,10 +39,11 @@ use std::path::Path;
 use std::process::ExitCode;
 
 const USAGE: &str = "second_reader list FILE
+second_reader listall FILE
 second_reader make SEED COUNT FOLDER
 second_reader cases SEED COUNT FOLDER
 second_reader agree SEED COUNT
-second_reader lists SEED COUNT PROGRAM
+second_reader lists SEED COUNT LIST LISTALL
 second_reader writes SEED COUNT
 second_reader kills SEED COUNT FOLDER
 second_reader steps SEED COUNT FOLDER
@@ -64,24 +67,25 @@ fn main() -> ExitCode {
 
 fn run(words: &[&str]) -> Outcome {
     match words {
-        ["list", file] => list(Path::new(file)),
+        ["list", file] => list(Path::new(file), Choice::NotVoid),
+        ["listall", file] => list(Path::new(file), Choice::All),
         ["make", seed, count, folder] => make(seed.parse()?, count.parse()?, Path::new(folder)),
         ["cases", seed, count, folder] => cases(seed.parse()?, count.parse()?, Path::new(folder)),
-        ["lists", seed, count, program] => lists(seed.parse()?, count.parse()?, Path::new(program)),
+        ["lists", seed, count, programs @ ..] => lists(seed.parse()?, count.parse()?, programs),
         ["writes", seed, count] => writes(seed.parse()?, count.parse()?),
         ["time", rest @ ..] => times::run(rest),
         _ => linked_run(words),
     }
 }
 
-/// Prints what the program `list` prints of a file.
-fn list(file: &Path) -> Outcome {
+/// Prints what the program `list` or `listall` prints of a file.
+fn list(file: &Path, choice: Choice) -> Outcome {
     let image = std::fs::read(file)?;
-    std::io::stdout().write_all(&answers::listing(&image))?;
+    std::io::stdout().write_all(&answers::listing(&image, choice))?;
     Ok(true)
 }
 
-/// Writes images NAME.aff with what `list` must print of them, NAME.out, and an index.
+/// Writes images NAME.aff with what `list` and `listall` must print of them, NAME.list and NAME.listall, and an index.
 fn make(seed: u64, count: u64, folder: &Path) -> Outcome {
     std::fs::create_dir_all(folder)?;
     let mut index = format!("seed {seed}\n");
@@ -89,8 +93,10 @@ fn make(seed: u64, count: u64, folder: &Path) -> Outcome {
         let image = images::image(seed, number);
         let name = format!("s{seed}-{number:05}");
         std::fs::write(folder.join(format!("{name}.aff")), &image.bytes)?;
-        let out = answers::listing(&image.bytes);
-        std::fs::write(folder.join(format!("{name}.out")), out)?;
+        for (program, choice) in [("list", Choice::NotVoid), ("listall", Choice::All)] {
+            let out = answers::listing(&image.bytes, choice);
+            std::fs::write(folder.join(format!("{name}.{program}")), out)?;
+        }
         index += &format!("{name} {} bytes  {}\n", image.bytes.len(), image.what);
     }
     std::fs::write(folder.join("INDEX.txt"), index)?;
@@ -122,13 +128,20 @@ fn linked_run(words: &[&str]) -> Outcome {
     }
 }
 
-/// Compares a program `list` with this reader.
-fn lists(seed: u64, count: u64, program: &Path) -> Outcome {
+/// Compares the programs `list` and `listall` with this reader.
+fn lists(seed: u64, count: u64, programs: &[&str]) -> Outcome {
+    let [list, listall] = programs else {
+        return Err(USAGE.into());
+    };
+    let programs = [
+        Program::new(list, Choice::NotVoid),
+        Program::new(listall, Choice::All),
+    ];
     println!("seed {seed}, {count} images");
     let mut report = Report::default();
     let numbers = (0..).filter(|number| lists::is_listed(seed, *number));
     for number in numbers.take(count as usize) {
-        lists::compare(seed, number, program, &mut report)?;
+        lists::compare(seed, number, &programs, &mut report)?;
     }
     Ok(report.finish())
 }

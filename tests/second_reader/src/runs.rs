@@ -1,7 +1,7 @@
 //! Random runs of the writer: the model's images beside the tree that the calls describe, cut after any number of stores,
 //! and beside the library's writer where it is linked.
 
-use crate::answers::{decoded, judged, Lent, Reader};
+use crate::answers::{decoded, judged, Choice, Lent, Reader};
 use crate::format::{Edition, Kind, MOST};
 use crate::images::subkey;
 use crate::open::open;
@@ -238,7 +238,7 @@ fn shows(buffer: &[u8], form: &[u8], tree: &[Described], report: &mut Report) {
 /// The numbers that listing order writes, each once.
 fn order_length(reader: &Reader) -> u64 {
     let mut area = vec![0; reader.nodes() as usize + 1];
-    let written = reader.order_into(&mut area).unwrap_or(0);
+    let written = reader.order_into(Choice::All, &mut area).unwrap_or(0);
     area.sort_unstable();
     area.dedup();
     written.min(area.len() as u64)

@@ -1,15 +1,25 @@
-//! Document 01's worked file and cases, request C-11's symbol tables, and the generator's images beside what their maker knows.
+//! Document 01's worked file and cases, request C-11's symbol tables, request C-12's listings, and the generator's images beside what
+//! their maker knows.
 
-use crate::answers::{decoded, judged, listing, Element, Lent};
+use crate::answers::{decoded, judged, listing, Choice, Element, Lent, LISTED};
 use crate::format::{form_for, is_path, is_subkey, Edition, Kind, Refusal};
-use crate::images::{image, Draft};
-use crate::open::{open, Span};
+use crate::images::{image, Draft, Node, DATA, SYMBOLS, TREE};
+use crate::open::{open, Opened, Span};
 use crate::report::Report;
 use crate::runs::{play, worked_calls, Call};
 use crate::writer::{Writer, TEXT_AREA, TREE_AREA};
 
 fn desk(buffer: usize) -> Writer {
     Writer::passed(vec![0; buffer], vec![0; TEXT_AREA], vec![0; TREE_AREA])
+}
+
+fn passed<'a>(image: &'a [u8], opened: &'a Opened) -> Lent<'a> {
+    Lent {
+        image,
+        record: opened.record,
+        strings: &opened.strings,
+        entries: &opened.entries,
+    }
 }
 
 #[test]
@@ -19,7 +29,8 @@ fn worked_file() {
     assert_eq!(answers, [Ok(1), Ok(1), Ok(2), Ok(4), Ok(210)]);
     assert_eq!(&desk.buffer[168..176], b"\xff\xff\xff\xbaa\0n\0");
     let lines = b"/ void 0\n/a void 0\n/a/n int 1\n";
-    assert_eq!(listing(&desk.buffer), lines);
+    assert_eq!(listing(&desk.buffer, Choice::All), lines);
+    assert_eq!(listing(&desk.buffer, Choice::NotVoid), b"/a/n int 1\n");
 }
 
 /// "`K refused 3 0` for 0 to 214, then `215 opened`."
@@ -53,12 +64,7 @@ fn cases_on_each_side() {
     let mut desk = desk(214);
     play(&mut desk, &worked_calls(), u64::MAX);
     let opened = open(&desk.buffer, &Edition::Two.form()).ok().unwrap();
-    let passed = Lent {
-        image: &desk.buffer,
-        record: opened.record,
-        strings: &opened.strings,
-        entries: &opened.entries,
-    };
+    let passed = passed(&desk.buffer, &opened);
     let reader = judged(&passed).ok().unwrap();
     assert_eq!(reader.lookup(b"/"), Ok(0));
     for path in [b"".as_slice(), b"//a", b"/a/", b"/9a"] {
@@ -213,6 +219,174 @@ fn symbols_not_ended() {
                 assert_eq!(opened(edition, &symbols, count, b""), Err((8, 0)));
                 assert_eq!(opened(edition, &symbols, count, BAD_TREE), Err((8, 0)));
             }
+        }
+    }
+}
+
+/// A node of a tree: its parent, name, kind and count.
+type Key<'a> = (u64, &'a str, Kind, u32);
+
+/// The image of a tree; all nodes have their data at the start of the data section.
+fn tree(edition: Edition, keys: &[Key]) -> Vec<u8> {
+    let (header, data) = (edition.header(), 64);
+    let mut strings: Vec<Vec<u8>> = keys.iter().map(|key| key.1.into()).collect();
+    strings.sort();
+    strings.dedup();
+    let node = |key: &Key| Node {
+        code: key.2.code(),
+        parent: key.0,
+        string: strings
+            .iter()
+            .position(|name| *name == key.1.as_bytes())
+            .unwrap() as u32,
+        count: key.3,
+        offset: header as u64,
+    };
+    let nodes: Vec<Node> = keys.iter().map(node).collect();
+    let mut draft = Draft {
+        edition,
+        records: [strings.len() as u64, nodes.len() as u64, 0],
+        strings,
+        nodes,
+        tail: Vec::new(),
+        cut: 0,
+        bytes: Vec::new(),
+        spans: [Span::default(); 3],
+    };
+    let mut at = header as u64;
+    let tables = [(SYMBOLS, draft.symbols().len()), (TREE, draft.tree().len())];
+    for (section, size) in [(DATA, data)].into_iter().chain(tables) {
+        let size = size as u64;
+        draft.spans[section] = Span { offset: at, size };
+        at += size;
+    }
+    draft.bytes = vec![0; at as usize];
+    draft.finish()
+}
+
+/// What `list` and `listall` print of a tree, in both editions alike.
+fn listings(keys: &[Key]) -> (String, String) {
+    let both = EDITIONS.map(|edition| {
+        let image = tree(edition, keys);
+        let text = |choice| String::from_utf8(listing(&image, choice)).unwrap();
+        (text(Choice::NotVoid), text(Choice::All))
+    });
+    assert_eq!(both[0], both[1]);
+    both[0].clone()
+}
+
+/// A chain of nodes of one name, Void but for the last.
+fn chain(nodes: usize, name: &str, last: Kind) -> Vec<Key<'_>> {
+    let void = (0..nodes as u64 - 1).map(|parent| (parent, name, Kind::Void, 0));
+    void.chain([(nodes as u64 - 1, name, last, u32::from(last != Kind::Void))])
+        .collect()
+}
+
+/// "`list` leaves out Void nodes, mostly folders, but still descends"; the order is by parents and numbers, not by numbers alone.
+#[test]
+fn void_nodes_left_out() {
+    let keys = [
+        (5, "x", Kind::Int, 1),
+        (1, "v", Kind::Void, 0),
+        (2, "d", Kind::Double, 2),
+        (0, "e", Kind::Char, 4),
+        (6, "f", Kind::Void, 0),
+        (0, "g", Kind::Void, 0),
+        (6, "y", Kind::Complex, 1),
+    ];
+    let short = "/e char 4\n/g/f/x int 1\n/g/f/x/v/d double 2\n/g/y complex 1\n";
+    let full = "/ void 0\n/e char 4\n/g void 0\n/g/f void 0\n/g/f/x int 1\n/g/f/x/v void 0\n/g/f/x/v/d double 2\n/g/y complex 1\n";
+    assert_eq!(listings(&keys), (short.into(), full.into()));
+}
+
+/// Nothing is printed, and that is no refusal.
+#[test]
+fn all_void() {
+    assert_eq!(listings(&[]), ("".into(), "/ void 0\n".into()));
+    let keys = [(0, "a", Kind::Void, 0), (1, "b", Kind::Void, 0)];
+    let full = "/ void 0\n/a void 0\n/a/b void 0\n";
+    assert_eq!(listings(&keys), ("".into(), full.into()));
+}
+
+/// A node of count 0 that has a type is not Void.
+#[test]
+fn no_element() {
+    let keys = [
+        (0, "c", Kind::Char, 0),
+        (0, "i", Kind::Int, 0),
+        (0, "d", Kind::Double, 0),
+        (0, "z", Kind::Complex, 0),
+    ];
+    let short = "/c char 0\n/i int 0\n/d double 0\n/z complex 0\n";
+    assert_eq!(
+        listings(&keys),
+        (short.into(), format!("/ void 0\n{short}"))
+    );
+}
+
+/// "21 looks only at the nodes listed": a path of 65,536 bytes is listed, one of 65,537 is not, unless its node is Void.
+#[test]
+fn long_paths() {
+    let (name, longer) = ("s".repeat(8191), "t".repeat(8192));
+    let refused = || "refused 21 0\n".to_string();
+    for last in [Kind::Void, Kind::Int] {
+        let listed = usize::from(last != Kind::Void);
+        let mut keys = chain(8, &name, last);
+        let (short, full) = listings(&keys);
+        let counts = (short.lines().count(), full.lines().count());
+        assert_eq!(counts, (listed, 9));
+        assert!(full.lines().last().unwrap().find(' ') == Some(LISTED) && full.ends_with(&short));
+        keys[7].1 = &longer;
+        let short = if listed == 0 {
+            String::new()
+        } else {
+            refused()
+        };
+        assert_eq!(listings(&keys), (short, refused()));
+    }
+    let mut beside = chain(8, &name, Kind::Void);
+    beside[7].1 = &longer;
+    beside.push((0, "n", Kind::Int, 1));
+    assert_eq!(listings(&beside), ("/n int 1\n".into(), refused()));
+}
+
+/// `refused N P` and `too long` are the same for both programs.
+#[test]
+fn refusals_of_both() {
+    for choice in [Choice::All, Choice::NotVoid] {
+        assert_eq!(listing(b"", choice), b"refused 2 0\n");
+        assert_eq!(listing(&[0; LISTED], choice), b"refused 3 0\n");
+        assert_eq!(listing(&[0; LISTED + 1], choice), b"too long\n");
+    }
+}
+
+/// The order into areas: as many places as there are nodes listed, and one fewer; what is after them stays.
+#[test]
+fn places_for_an_order() {
+    let keys = [
+        (2, "n", Kind::Int, 1),
+        (0, "a", Kind::Void, 0),
+        (0, "b", Kind::Char, 0),
+    ];
+    let image = tree(Edition::Two, &keys);
+    let opened = open(&image, &Edition::Two.form()).ok().unwrap();
+    let passed = passed(&image, &opened);
+    let reader = judged(&passed).ok().unwrap();
+    for (choice, order) in [
+        (Choice::All, vec![0, 2, 1, 3]),
+        (Choice::NotVoid, vec![1, 3]),
+    ] {
+        for places in 0..6 {
+            let mut area = vec![9; places];
+            let fits = order.len() <= places;
+            let answer = if fits {
+                Ok(order.len() as u64)
+            } else {
+                Err(21)
+            };
+            assert_eq!(reader.order_into(choice, &mut area), answer);
+            let written = if fits { order.as_slice() } else { &[] };
+            assert_eq!(area, [written, &vec![9; places - written.len()]].concat());
         }
     }
 }

@@ -2,7 +2,7 @@
 //! library's. A sample is the processor time of BATCH calls in a row, divided by BATCH; the median in seconds is printed. An answer
 //! that is not the expected one is an error. For Linux on 64 bits.
 
-use crate::answers::{decoded, judged, Element, Lent};
+use crate::answers::{decoded, judged, Choice, Element, Lent};
 use crate::format::{form_for, Edition, Kind, MOST};
 use crate::md5::md5;
 use crate::open::{open, Opened};
@@ -36,6 +36,7 @@ pub fn run(words: &[&str]) -> Outcome {
         ("lookup", [file, keys]) => lookup(&std::fs::read(file)?, &keys_of(keys)?, &times)?,
         ("whole", [file, keys]) => whole(&std::fs::read(file)?, &keys_of(keys)?, &times)?,
         ("order", [file, _]) => order(&std::fs::read(file)?, &times)?,
+        ("short", [file, keys]) => short(&std::fs::read(file)?, &keys_of(keys)?, &times)?,
         ("build", [tree, file]) => build(&tree_of(tree)?, file, &times)?,
         _ => return Err("time: see README.md".into()),
     }
@@ -175,17 +176,29 @@ fn whole(image: &[u8], keys: &[Key], times: &Times) -> Fallible<()> {
     })
 }
 
-/// Listing order into an area, with 24 judged again; it must be the order of the numbers.
+/// Listing order of all nodes; it must be the order of the numbers.
 fn order(image: &[u8], times: &Times) -> Fallible<()> {
+    let nodes = accepted(image)?.record.nodes as u32;
+    let numbers: Vec<u32> = (0..=nodes).collect();
+    listing(image, Choice::All, &numbers, times)
+}
+
+/// Listing order of the nodes that are not Void; they must be those of the keys, in their order.
+fn short(image: &[u8], keys: &[Key], times: &Times) -> Fallible<()> {
+    let numbers: Vec<u32> = keys.iter().map(|key| key.node as u32).collect();
+    listing(image, Choice::NotVoid, &numbers, times)
+}
+
+/// Listing order into an area, with 24 judged again.
+fn listing(image: &[u8], choice: Choice, numbers: &[u32], times: &Times) -> Fallible<()> {
     let opened = accepted(image)?;
     let passed = passed(image, &opened);
-    let nodes = opened.record.nodes;
     let mut area = vec![0; MOST + 1];
     times.print(|_| {
         area.fill(u32::MAX);
-        let reported = judged(black_box(&passed)).and_then(|reader| reader.order_into(&mut area));
-        let mut numbers = (0..=nodes as u32).zip(&area);
-        reported == Ok(nodes + 1) && numbers.all(|(number, listed)| number == *listed)
+        let reader = judged(black_box(&passed));
+        let reported = reader.and_then(|reader| reader.order_into(choice, &mut area));
+        reported == Ok(numbers.len() as u64) && area.starts_with(numbers)
     })
 }
 
@@ -283,5 +296,8 @@ mod tests {
         assert!(whole(&image, &[key(1, b"/a")], &times).is_ok());
         assert!(whole(&image, &[key(2, b"/a/b")], &times).is_err());
         assert!(order(&image, &times).is_ok());
+        assert!(short(&image, &[key(1, b"/a")], &times).is_ok());
+        assert!(short(&image, &[key(1, b"/a"), key(2, b"/a/b")], &times).is_err());
+        assert!(short(&image, &[key(2, b"/a/b")], &times).is_err());
     }
 }

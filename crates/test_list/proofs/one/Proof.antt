@@ -5,20 +5,9 @@ use lib.Seq.{length-take-le}
 use Rattle.test_list.proofs.one.Statement.{statement}
 use Rattle.test_list.proofs.one.Tie as tie
 
-slice-aggregate-print : tie.Need-slice-aggregate-print
-slice-aggregate-print c = sym (length-take-le _ _ (c .before .before .before .before .before .before .before .next-image .ensures))
-
 pub one-spec : {M : Type 1} → statement M
 one-spec =
     tie.close
-    (tie.spec
-    (λ c. search needs)
-    (λ c κs. search needs)
-    (λ c. search needs)
-    (λ c κs. search needs)
-    (λ c. search needs)
-    (λ c κs. search needs)
-    (λ c. search needs)
-    slice-aggregate-print
-    (λ c κs. search needs)
-    (λ c. search needs))
+    (tie.spec (λ c. search needs) (λ c κs. search needs) (λ c. search needs) (λ c. search needs)
+    (λ c. sym (length-take-le _ _ (c .before .before .before .before .next-image .ensures)))
+    (λ c κs. search needs) (λ c. search needs))

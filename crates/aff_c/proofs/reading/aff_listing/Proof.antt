@@ -6,22 +6,26 @@ use Prim.Native.Nat.{ℕ}
 use lib.ListN.{length}
 use Rattle.aff_format.specs.Answer.{Answer}
 use Rattle.aff_open.specs.declared.reader.Reader.{Reader}
-use Rattle.aff_c.specs.Reading.{numberBy, leftBy}
+use Rattle.aff_read.specs.ListingOrder.{listingOrder, listingAnswer}
+use Rattle.aff_read.specs.declared.choice.Choice.{Choice}
+use Rattle.aff_c.specs.Reading.{readerIn, numberBy, leftBy}
 use Rattle.aff_c.proofs.ReadingLaws.{front-by}
 use Rattle.aff_c.proofs.reading.aff_listing.Statement.{statement}
 use Rattle.aff_c.proofs.reading.aff_listing.Tie as tie
-use Rattle.aff_read.specs.ListingOrder.{listingOrder, listingAnswer}
 
 returns : tie.Need-returns
 returns c =
     let l = c .before .before .before .before in
-    let r = l .before .before in
+    let k = l .before .before in
+    let r = k .before in
     let a = r .before .before .before .before .before .args in
     let p = c .put-number .ensures in
-    let by : Reader → Answer ℕ = λ x. listingAnswer (a .image .now) x (a .strings .now) (a .entries .now) (length (a .output .now)) in
-    let text : Reader → List ℕ = λ x. listingOrder (a .image .now) x (a .strings .now) (a .entries .now) in
-    let e = l .listing .ensures .0 ∙ ap by (r .reader-of .ensures) in
-    (p .0 ∙ ap numberBy e, (l .listing .ensures .1 ∙ front-by e (ap text (r .reader-of .ensures)) _, p .1 ∙ ap (leftBy (λ (n : ℕ). n) _) e))
+    let by : Reader → Choice → Answer ℕ = λ x choice. listingAnswer (a .image .now) x (a .strings .now) (a .entries .now) choice (length (a .output .now)) in
+    let text : Reader → Choice → List ℕ = λ x choice. listingOrder (a .image .now) x (a .strings .now) (a .entries .now) choice in
+    let e = l .listing .ensures .0 ∙ ap (λ (x : Reader). by x (k .choice-of .result)) (r .reader-of .ensures) ∙ ap (by (readerIn (a .«record» .now))) (k .choice-of .ensures) in
+    let t = ap (λ (x : Reader). text x (k .choice-of .result)) (r .reader-of .ensures) ∙ ap (text (readerIn (a .«record» .now))) (k .choice-of .ensures) in
+    (p .0 ∙ ap numberBy e, (l .listing .ensures .1 ∙ front-by e t _, p .1 ∙ ap (leftBy (λ (n : ℕ). n) _) e))
 
 pub aff-listing-spec : {M : Type 1} → statement M
-aff-listing-spec = tie.close (tie.spec (λ c κs. search needs) (λ c κs. search needs) (λ c κs. search needs) (λ c. search needs) returns)
+aff-listing-spec =
+    tie.close (tie.spec (λ c κs. search needs) (λ c κs. search needs) (λ c κs. search needs) (λ c κs. search needs) (λ c. search needs) returns)

@@ -13,18 +13,19 @@ begin-spec =
     let o = t .before .before .before .before .before .before .before in
     let f = o .before .before .before .before in
     let e = o .«open» .ensures in
-    begun-belongs _ _ _ (f .before .before .before .before .args .order .now) (o .«open» .result) (f .form-for .ensures) (e .0) (e .1 .1 .0) (e .1 .1 .1) (t .enum-told .given .1))
+    let a = f .before .before .before .before .args in
+    begun-belongs _ (a .choice) _ _ (a .order .now) (o .«open» .result) (f .form-for .ensures) (e .0) (e .1 .1 .0) (e .1 .1 .1) (t .enum-told .given .1))
     (λ c. search needs) (λ c. search needs)
     (λ c.
     let v = c .before in
     let o = v .before .before .before .before .before .before .before in
     let e = o .«open» .ensures in
-    begun-refused _ _ _ _ (o .«open» .result) (o .before .before .before .before .form-for .ensures) (e .0) (e .1 .1 .0) (e .1 .1 .1) (e .1 .0) _ (v .verdict .given .1))
+    begun-refused _ _ _ _ _ (o .«open» .result) (o .before .before .before .before .form-for .ensures) (e .0) (e .1 .1 .0) (e .1 .1 .1) (e .1 .0) _ (v .verdict .given .1))
     (λ c. search needs) (λ c. search needs)
     (λ c.
     let t = c .before .before .before .before in
     let o = t .before .before .before .before .before .before .before in
     let e = o .«open» .ensures in
     let p = c .prepare in
-    begun-judged _ _ _ _ (o .«open» .result) (o .before .before .before .before .form-for .ensures) (e .0) (e .1 .1 .0) (e .1 .1 .1) (t .enum-told .given .1)
-    (p .result) (p .ensures .0) (p .ensures .1 .0) (p .ensures .1 .1)))
+    begun-judged _ _ _ _ _ (o .«open» .result) (o .before .before .before .before .form-for .ensures) (e .0) (e .1 .1 .0) (e .1 .1 .1) (t .enum-told .given .1)
+    (p .result) (p .ensures .0) (p .ensures .1 .0) (p .ensures .1 .1 .0) (p .ensures .1 .1 .1)))

@@ -12,12 +12,13 @@ first-lines-spec =
     (tie.spec (λ c κs. search needs) (λ c. search needs) (λ c κs. search needs) (λ c. search needs)
     (λ c κs.
     let b = c .before .before .before .before .before .before .before .begin in
-    (begun-ready _ _ _ _ (b .result) (b .ensures) (c .before .before .before .before .enum-told .given .1), omega arith))
+    let l = begun-ready _ _ _ _ _ (b .result) (b .ensures) (c .before .before .before .before .enum-told .given .1) in
+    (rw (l .ordered) (l .ready), l .few, omega arith))
     (λ c.
     let d = c .before .before .before .before .before .before in
     let b = d .begin in
     let s = d .before .before .before in (
-      first-refused _ _ _ _ (s .before .before .pre) (s .begin-arg .given .0 .1) (d .before .before .begin-arg2 .given .0 .1) (b .result) (b .ensures) _
+      first-refused _ _ _ _ _ (s .before .before .pre) (s .begin-arg .given .0 .1) (d .before .before .begin-arg2 .given .0 .1) (b .result) (b .ensures) _
           (c .before .before .before .verdict .given .1) (c .put-refusal .ensures),
       b .ensures .1,
     ))
@@ -25,7 +26,7 @@ first-lines-spec =
     let d = c .before .before .before .before .before .before .before .before in
     let b = d .begin in
     let s = d .before .before .before in (
-      first-accepted _ _ _ _ (s .before .before .pre) (s .begin-arg .given .0 .1) (d .before .before .begin-arg2 .given .0 .1) (b .result) (b .ensures)
+      first-accepted _ _ _ _ _ (s .before .before .pre) (s .begin-arg .given .0 .1) (d .before .before .begin-arg2 .given .0 .1) (b .result) (b .ensures)
           (c .before .before .before .before .before .enum-told .given .1) (c .fill .ensures),
       b .ensures .1,
     )))

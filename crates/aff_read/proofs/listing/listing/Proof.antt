@@ -1,13 +1,13 @@
--- `listing` meets its contract: one check after the other, then listing order.
+-- `listing` meets its contract: one check after the other, then listing order. Assumes nothing.
 use borrow.Author.Needs.{needs}
 use borrow.Author.Tests.{lt-ltb, le-ltb}
 use mathlib.Core.Path.{refl, ap, _∙_}
 use native.Mathlib.Omega.{arith}
-use Prim.Native.Nat.{_+_, _≤_, _<_}
+use Prim.Native.Nat.{_≤_, _<_}
 use lib.ListN.{length}
 use Rattle.aff_format.specs.Answer.{accepted}
 use Rattle.aff_open.proofs.BelongsLaws.{belongs-record}
-use Rattle.aff_read.specs.ListingOrder.{listingAnswer}
+use Rattle.aff_read.specs.ListingOrder.{listedCount, listingAnswer}
 use Rattle.aff_read.proofs.JudgeLaws.{refuted, granted}
 use Rattle.aff_read.proofs.listing.listing.Statement.{statement}
 use Rattle.aff_read.proofs.listing.listing.Tie as tie
@@ -18,19 +18,17 @@ listing-spec =
     tie.close
     (tie.spec (λ c κs. search needs)
     (λ c. (rw (refuted (c .before .belongs .ensures) (c .if1 .taken)), refl))
+    (λ c κs. belongs-record (granted (c .before .belongs .ensures) (c .if1 .left)) .few-nodes)
     (λ c.
-    let b = c .before .before in
-    let a = b .before .before .before .before .before .before .args in
-    let h : length (a .out .now) < a .reader .nodes + 1 = omega (arith, c .if2 .taken) in
-    (rw (granted (b .before .belongs .ensures) (b .if1 .left), lt-ltb _ _ h), refl))
-    (λ c κs. (belongs-record (granted (c .before .before .before .before .belongs .ensures) (c .before .before .before .if1 .left)), c .before .if2 .left))
+    let a = c .before .before .before .before .before .before .before .before .args in
+    let h : length (a .out .now) < listedCount (a .image .now) (a .reader) (a .strings .now) (a .entries .now) (a .choice) = omega (arith, c .if2 .taken, c .before .count-listed .ensures) in
+    (rw (granted (c .before .before .before .belongs .ensures) (c .before .before .if1 .left), lt-ltb _ _ h), refl))
+    (λ c κs. (belongs-record (granted (c .before .before .before .before .belongs .ensures) (c .before .before .before .if1 .left)), omega (arith, c .before .if2 .left, c .before .before .count-listed .ensures)))
     (λ c. search needs)
     (λ c.
-    let l = c .before .before in
-    let i = l .before .before in
-    let b = i .before .before in
-    let a = b .before .before .before .before .before .before .args in
-    let h : a .reader .nodes + 1 ≤ length (a .out .now) = omega (arith, i .if2 .left) in (
-      ap accepted (l .listing-of .ensures .0) ∙ rw (granted (b .before .belongs .ensures) (b .if1 .left), le-ltb _ _ h),
-      l .listing-of .ensures .1,
+    let l = c .before .before .listing-of in
+    let a = c .before .before .before .before .before .before .before .before .before .before .before .before .args in
+    let h : listedCount (a .image .now) (a .reader) (a .strings .now) (a .entries .now) (a .choice) ≤ length (a .out .now) = omega (arith, c .before .before .before .before .if2 .left, c .before .before .before .before .before .count-listed .ensures) in (
+      ap accepted (l .ensures .0) ∙ rw (granted (c .before .before .before .before .before .before .before .belongs .ensures) (c .before .before .before .before .before .before .if1 .left), le-ltb _ _ h),
+      l .ensures .1,
     )))

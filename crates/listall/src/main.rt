@@ -1,0 +1,6 @@
+// The lister of all nodes, for inventories: as `list`, with a line for every node, the root and the other Void nodes included.
+use aff_read::Choice;
+
+fn main() {
+    aff_list::run(Choice::AllNodes);
+}
