@@ -146,13 +146,24 @@ def refusals():
     yield "65,537 bytes of no text", bytes(LIMIT + 1), TOO_LONG
 
 
+def answers(places):
+    """What the listing call answers for an output with a place for each node listed, and with one place fewer."""
+    fewer = b"%d places: refused 21 0\n" % (places - 1) if places else b""
+    return b"%d places: %d\n" % (places, places) + fewer
+
+
+def calls(nodes):
+    """The answers of the listing call, for the nodes that are not Void and for all."""
+    return answers(sum(kind != VOID for _, _, kind, _ in nodes)), answers(len(nodes) + 1)
+
+
 def cases():
-    """What an image is, its bytes, and the lines that `list` and `listall` print of it."""
+    """What an image is, its bytes, the lines that `list` and `listall` print of it, and the answers of the listing call where it opens."""
     for what, ed, nodes, *by_hand in trees():
-        yield f"edition {ed}: {what}", make(ed, nodes), *(by_hand or (lines(nodes, False), lines(nodes)))
-    yield "65,536 bytes", padded(make(2, WORKED), LIMIT), lines(WORKED, False), lines(WORKED)
+        yield f"edition {ed}: {what}", make(ed, nodes), *(by_hand or (lines(nodes, False), lines(nodes))), *calls(nodes)
+    yield "65,536 bytes", padded(make(2, WORKED), LIMIT), lines(WORKED, False), lines(WORKED), *calls(WORKED)
     for what, image, line in refusals():
-        yield what, image, line, line
+        yield what, image, line, line, b"", b""
 
 
 def write(top, path, content):
@@ -165,9 +176,9 @@ def write(top, path, content):
 def main():
     top = destination(__doc__)
     stdin, out, index = b"", b"", "The images of crates/test_list/stdin, made by tests/make_listings.py.\n\n"
-    for k, (name, image, short, full) in enumerate(cases()):
+    for k, (name, image, short, full, by_short, by_full) in enumerate(cases()):
         stdin += struct.pack(">I", len(image)) + image
-        out += b"%d list\n%s%d listall\n%s" % (k, brief(short), k, brief(full))
+        out += b"%d list\n%s%s%d listall\n%s%s" % (k, brief(short), by_short, k, brief(full), by_full)
         index += "%d %s\n" % (k, name)
     write(top, "crates/test_list/stdin", stdin)
     write(top, "crates/test_list/stdout", out)
