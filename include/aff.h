@@ -94,8 +94,8 @@ uint32_t aff_lookup(AFF_OPENED, const uint8_t *path, size_t path_length, uint64_
 
 // Stores the numbers of nodes at the front of the output, each node before its children, these in number order and each child followed by its whole
 // subtree. With all true: every node, the root first. With all false: the same order without the Void nodes, so without the root; a node of another type
-// is listed also if it has no elements, and so are the nodes below a Void one. count is how many numbers were stored: record[10] + 1 with all true, at
-// most 2,048 with all false, and 0 if all nodes are Void. Returns 21 if the output has fewer places than that.
+// is listed also if it has no elements, and so are the nodes below a Void one. count is how many numbers were stored. With all true that is record[10] + 1;
+// with all false it is at most record[10], and 0 if all nodes are Void. Returns 21 if the output has fewer places than that.
 uint32_t aff_listing(AFF_OPENED, bool all, uint32_t *output, size_t output_length, uint64_t *count);
 
 // Finds a node's name: the size bytes at image + offset, not counting the zero byte that ends it there. The root's name is empty. Returns 15 for a

@@ -1,10 +1,10 @@
 #!/usr/bin/env python3
-"""Makes the images of the test program test_list, the inputs of list, listall and test_list_limit, and the sample of the README, with what must be
-printed.
+"""Makes the images of the test program test_list, the inputs of list, listall, test_list_blocks and test_list_limit, and the sample of the README, with
+what must be printed.
 
-What `list` and `listall` print is worked out here from the description of each tree, with no code of the library; the answers at the limits are said by
-hand. It writes crates/test_list/stdin (each image after its length in 4 bytes) and stdout, stdin and stdout of crates/list and crates/listall (65,536
-bytes) and of crates/test_list_limit (65,537 bytes), samples/worked.aff and tests/test_list.txt.
+What `list` and `listall` print is worked out here from the description of each tree, with no code of the library; the answers at the limits are written
+by hand. It writes crates/test_list/stdin (each image after its length in 4 bytes) and stdout, stdin and stdout of crates/list and crates/listall (65,536
+bytes), of crates/test_list_blocks (a text of more than one block) and of crates/test_list_limit (65,537 bytes), samples/worked.aff and tests/test_list.txt.
 
     tests/make_listings.py [FOLDER]      FOLDER: where these are written, the repository where none is given
 """
@@ -102,7 +102,7 @@ def full_block(size):
 
 
 def trees():
-    """What a tree is, its edition, its nodes, and what `list` and `listall` print where that is said by hand."""
+    """What a tree is, its edition, its nodes, and what `list` and `listall` print where that is written by hand."""
     for ed in (1, 2):
         yield "document 01's worked file", ed, WORKED, [b"/a/n int 1\n"], [b"/ void 0\n", b"/a void 0\n", b"/a/n int 1\n"]
         yield "every type, a parent above its children", ed, MIXED
@@ -186,6 +186,9 @@ def main():
     for program, void in (("list", False), ("listall", True)):
         write(top, f"crates/{program}/stdin", padded(make(2, WORKED), LIMIT))
         write(top, f"crates/{program}/stdout", b"".join(lines(WORKED, void)))
+    several = below(2, b"s" * 8000, [(b"n%d" % k, INT, 1) for k in range(9)])
+    write(top, "crates/test_list_blocks/stdin", make(2, several))
+    write(top, "crates/test_list_blocks/stdout", b"".join(lines(several)))
     write(top, "crates/test_list_limit/stdin", padded(make(2, WORKED), LIMIT + 1))
     write(top, "crates/test_list_limit/stdout", b"".join(TOO_LONG))
     write(top, "samples/worked.aff", make(2, WORKED))

@@ -69,8 +69,8 @@ module _ (image : List ℕ) (reader : Reader) (strings entries : List ℕ) where
     pub exist : Exist reader order
     pub fits : lowestFrom (λ k. pathTooLong (getD order k 0)) (length order) 0 ≡ Nothing
 
-  -- A block is filled from its front with the lines of some nodes from place `from` up to place `next`: as many as it has room for, and one at least
-  -- where one is left. The rest of it stays.
+  -- A block is filled from its front with the lines of some nodes from place `from` up to place `next`: as many as fit, and one at least where one is
+  -- left. The rest of it stays.
   pub record Fills (order : List ℕ) (from next used : ℕ) (before after : List ℕ) : Type 0 where
     pub more : from < length order → from < next
     pub most : next ≤ length order

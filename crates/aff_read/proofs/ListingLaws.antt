@@ -1,4 +1,4 @@
--- Laws of listing order over any `keep`, in the terms of the passes that write it. Assumes nothing.
+-- Laws of listing order, in the terms of the passes that write it; those of a node written are of the order of every node. Assumes nothing.
 use mathlib.Core.Path.{_≡_, refl, sym, ap, _∙_}
 use mathlib.Core.Bool.{Bool, true, false}
 use mathlib.Core.List.{List, [], _∷_, _++_, append-nil}

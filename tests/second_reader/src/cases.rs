@@ -32,7 +32,7 @@ pub fn sample(seed: u64, count: usize) -> Result<Sample, u32> {
     Ok(Sample { input, output })
 }
 
-/// The refusal, or a line for each node in listing order: the lister's, and after it the first elements.
+/// The refusal, or a line for each node in listing order, as `listall` prints it, and after it the first elements.
 fn answer(image: &[u8]) -> Result<Vec<u8>, u32> {
     match open(image, &form_for(image)) {
         Err((number, place)) => Ok(format!("refused {number} {place}\n").into_bytes()),

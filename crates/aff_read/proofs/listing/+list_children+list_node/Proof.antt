@@ -53,19 +53,19 @@ pub +list-children+list-node-spec : {M : Type 1} → statement M
     (λ c κs.
     let l = c .before .before .loop in
     let s = c .before .before .before .before .before in
-    let h = c .before .loop-test .taken in
+    let h : l .k ≤ s .args .nodes = omega (arith, c .before .loop-test .taken) in
     (omega (arith, s .pre .0), ((s .pre .1 .0 .0, h, s .pre .1 .0 .2), sibling-fits _ _ _ _ _ _ (s .pre .1 .1) (l .inv .0) h (l .inv .2 h) (l .inv .3))))
     (λ c κs. tt)
     (λ c.
     let l = c .before .before .before .before .before .loop in
     let s = c .before .before .before .before .before .before .before .before in
-    let h = c .before .before .before .before .loop-test .taken in
+    let h : l .k ≤ s .args .nodes = omega (arith, c .before .before .before .before .loop-test .taken) in
     let n : NextChild (parentIn (s .args .parents .now)) (s .args .nodes) (parentIn (s .args .parents .now) (l .k)) (l .k + 1) (c .place2 .result) = rw (c .place2 .ensures) (s .pre .1 .0 .2 .next-sibling _ (l .inv .0) h) in
     omega (arith, n .least, n .most, h))
     (λ c.
     let l = c .before .before .before .before .before .loop in
     let s = c .before .before .before .before .before .before .before .before in
-    let h = c .before .before .before .before .loop-test .taken in
+    let h : l .k ≤ s .args .nodes = omega (arith, c .before .before .before .before .loop-test .taken) in
     let n : NextChild (parentIn (s .args .parents .now)) (s .args .nodes) (parentIn (s .args .parents .now) (l .k)) (l .k + 1) (c .place2 .result) = rw (c .place2 .ensures) (s .pre .1 .0 .2 .next-sibling _ (l .inv .0) h) in (
       omega (arith, n .least),
       n .most,

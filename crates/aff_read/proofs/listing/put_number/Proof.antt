@@ -1,4 +1,4 @@
--- `put_number` stores one number.
+-- `put_number` stores one number. Assumes nothing.
 use borrow.Author.Needs.{needs}
 use Rattle.aff_read.proofs.WrittenLaws.{written-one}
 use Rattle.aff_read.proofs.listing.put_number.Statement.{statement}

@@ -1,0 +1,6 @@
+// The program `listall` again, run here on an image whose text takes more than one block.
+use aff_read::Choice;
+
+fn main() {
+    aff_list::run(Choice::AllNodes);
+}
