@@ -32,7 +32,7 @@ use Rattle.aff_write.specs.Put.{putAnswer}
 use Rattle.aff_read.specs.ListingOrder.{listedCount, listingAnswer}
 use Rattle.aff_read.specs.declared.choice.Choice.{Choice}
 
--- 21: an output has room for so many bytes or numbers.
+-- 21: an output has a place for so many bytes or numbers.
 abbrev pub fits : ℕ → ℕ → List Rule
 fits size limit = rule (size ≤ limit) (refusal 21) ∷ []
 

@@ -18,7 +18,7 @@ use Rattle.aff_read.specs.passes.Written.{textAnswer}
 use Rattle.aff_read.proofs.WrittenLaws.{text-accepted, text-refused}
 use Rattle.aff_list.specs.passes.Block.{endAfter, putAfter}
 
--- Text that has room, and text that has none.
+-- Text that fits, and text that does not.
 pub after-fits : (used : ℕ) (text o : List ℕ) → used + length text ≤ length o
     → (used + length text ≡ endAfter used text o) × (spliced used text o ≡ putAfter used text o)
 unfolding endAfter putAfter

@@ -116,8 +116,8 @@ pub fn begin(
     }
 }
 
-// Puts a node's line and a line feed after the first `used` bytes of a block, and returns where they end. A block that has no room for them
-// stays, and `used` is returned.
+// Puts a node's line and a line feed after the first `used` bytes of a block, and returns where they end. Where they do not fit, the
+// block stays, and `used` is returned.
 fn put_row(
     image: &[u8],
     reader: Reader,

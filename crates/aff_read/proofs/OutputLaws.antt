@@ -11,7 +11,7 @@ use Rattle.aff_format.specs.Answer.{Answer, accepted, Check, check, refusal, fi
 use Rattle.aff_format.proofs.AnswerLaws.{passed, passed-value, clear-both}
 use Rattle.aff_read.specs.Paths.{frontWritten, Output}
 
--- A text at the front of an output that has room for it.
+-- A text at the front of an output, where it fits.
 pub wrote : (a : Answer ℕ) (text out : List ℕ) → ((n : ℕ) → a ≡ accepted n → (n ≡ length text) × (length text ≤ length out)) → Output a text out (frontWritten a text out)
 wrote a text out fits = record { by-refusal = λ t h. rw h; by-acceptance = by-acceptance }
   where
