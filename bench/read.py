@@ -3,18 +3,18 @@
 listing order of all nodes and of those that are not Void.
 
 Two shapes of tree, each of 256 and of 2,048 nodes: all nodes children of the root, with a name each; and three levels, whose names come again below
-each parent. Besides, lookups in images that are made to be slow. Nodes with data hold 64 Doubles. Keys are taken at random, the last among
+each parent. Besides, lookups in images that are made to be slow, and 24 with a large symbol section. Nodes with data hold 64 Doubles. Keys are taken at random, the last among
 them. The run fails where an answer is not the expected one. In a round the two sizes take turns; bench/tools.py says how times are taken.
 
 Use, from anywhere: bench/read.py [ROUNDS].
-It needs rt, a C compiler as cc, Linux on x86-64, and 3 MB of disk below target/ in a folder that it removes again.
+It needs rt, a C compiler as cc, Linux on x86-64, and 70 MB of disk below target/ in folders that it removes again.
 """
 import os
 import random
 import tempfile
 
 from tools import OUT, Table, in_turns, measured, program, rounds, shown
-from trees import SIZES, chain, flat, levels
+from trees import SIZES, chain, flat, levels, one_string
 
 DRAWN = 1000
 LONG = 2**13
@@ -61,9 +61,15 @@ def long_absent(tree):
     return [(0, b"/x/" + b"a" * LONG)]
 
 
+def root(tree):
+    return [(0, b"/")]
+
+
+JUDGED = "24 alone: `view` of the root"
+
 # What is called, and for which keys.
 USUAL = [
-    ("24 alone: `view` of the root", "judge", last),
+    (JUDGED, "judge", last),
     ("`lookup`, keys at random", "lookup", drawn),
     ("`lookup`, the last key", "lookup", last),
     ("`lookup`, no such key", "lookup", absent),
@@ -80,6 +86,9 @@ SLOW = [
     ("a chain of one name of 8 KiB; `lookup` of `/x/` and that name, no such key", b"a" * LONG, long_absent),
 ]
 
+# Bytes of a symbol section that is one string without its zero.
+SECTIONS = (2**10, 2**26)
+
 
 def grown(rounds, benches, call, keys):
     """Cells: the times of a call at the two sizes, and the growth."""
@@ -95,7 +104,9 @@ def tables(rounds):
     slow = Table("slow lookups", "Image and key", "256 nodes", "2,048", "Growth")
     for what, name, keys in SLOW:
         slow.add(what, *grown(rounds, [Bench(chain(nodes, name)) for nodes in SIZES], "lookup", keys))
-    return [usual, slow]
+    large = Table("large symbol sections", "Call", "1 KiB", "64 MiB", "Growth")
+    large.add(JUDGED, *grown(rounds, [Bench(one_string(size)) for size in SECTIONS], "judge", root))
+    return [usual, slow, large]
 
 
 if __name__ == "__main__":

@@ -13,10 +13,10 @@ from make_images import DOUBLE, HEADER, INT, VOID, Image, entry  # noqa: E402
 
 
 class Tree:
-    """Nodes are added parents first. The bytes of an image of edition 2 are made at the end."""
+    """Nodes are added parents first. The bytes of an image of edition 2 are made at the end; where `ended` is false, the last string has no zero."""
 
-    def __init__(self):
-        self.strings, self.nodes, self.full = {}, [], []
+    def __init__(self, ended=True):
+        self.strings, self.nodes, self.full, self.ended = {}, [], [], ended
 
     def add(self, parent, name, full):
         self.strings.setdefault(name, len(self.strings))
@@ -49,7 +49,7 @@ class Tree:
                 data += data_of(node)
             else:
                 entries.append(entry(VOID, parent, string))
-        image = Image(2, strings=list(self.strings), data=data, entries=entries)
+        image = Image(2, strings=list(self.strings), data=data, entries=entries, ended=self.ended)
         image.count = {"data": len(self.full)}
         return image.bytes()
 
@@ -73,6 +73,13 @@ def levels(nodes):
             for c in range(wide[2]):
                 tree.add(middle, b"source_t%04d" % c, True)
     assert len(tree.nodes) == nodes
+    return tree
+
+
+def one_string(size):
+    """One node. Its name is all of the symbol section: so many bytes, and no zero."""
+    tree = Tree(ended=False)
+    tree.add(0, b"a" * size, False)
     return tree
 
 

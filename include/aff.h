@@ -35,7 +35,7 @@ enum {
     AFF_ERR_HEADER_SUM = 5,        // The header's MD5 sum is wrong.
     AFF_ERR_SECTION = 6,           // A section ends past the image. Place: 1 symbols, 2 tree, 3 data.
     AFF_ERR_SECTION_SUM = 7,       // A section's MD5 sum is wrong. Place: 1 symbols, 2 tree, 3 data.
-    AFF_ERR_SYMBOLS = 8,           // The symbol table is not empty, and its last byte is not zero.
+    AFF_ERR_SYMBOLS = 8,           // No file gets this number any more, as the last string need not end in a zero. It will be withdrawn.
     AFF_ERR_TREE = 9,              // A tree entry is cut short, of no type, or the 2,049th. Place: the entry; 0 if their number is not the header's.
     AFF_ERR_NODE = 10,             // A node's parent or string does not exist, or its name is malformed. Place: the lowest such node.
     AFF_ERR_CYCLE = 11,            // A node's parents do not lead to the root. Place: the lowest such node.
@@ -74,7 +74,9 @@ bool aff_form_for(const uint8_t *image, size_t image_length, uint8_t *output, si
 // calls take. record[0] is the place of a refusal (else 0), [1] the image's length, [2] the edition, [3] and [4] offset and size of the symbol
 // section, [5] and [6] of the tree section, [7] and [8] of the data section, [9] the number of strings, [10] of nodes without the root, [11] of data
 // records as the header has it.
-// The faults are looked for in the order 1 to 8, 25 to 27, 9 to 13, and the first found is the number. The place is that of a section, a string, an entry
+// The strings of the symbol section are separated by zero bytes: each ends at its zero. If the section's last byte is not zero, the bytes after its last
+// zero are one more string, which ends at the section's end. 25 to 27 count and compare the strings so.
+// The faults are looked for in the order 1 to 7, 25 to 27, 9 to 13, and the first found is the number. The place is that of a section, a string, an entry
 // or a node, by the number. After 1 the work areas are unchanged, after another refusal they are all zero; record[1] to record[11] are 0 after every
 // refusal. Returns 255 and changes nothing if the record has fewer than 12 numbers.
 uint32_t aff_open_image(const uint8_t *image, size_t image_length, const uint8_t *form, size_t form_length, uint32_t *strings,
@@ -83,8 +85,9 @@ uint32_t aff_open_image(const uint8_t *image, size_t image_length, const uint8_t
 // ---- Reading
 
 // What every reading call takes first: the image, the record (12 numbers) and the work areas, as the opening left them. A node is a number: 0 is the
-// root, the others go from 1 to record[10]. Each call first validates all of that, in time proportional to the file's tables, and returns 24 if it
-// does not belong together. A refused call leaves its outputs unchanged.
+// root, the others go from 1 to record[10]. Each call first validates all of that, in time proportional to the number of strings and nodes, and returns 24 if it
+// does not belong together. Of a string it validates that it begins inside the recorded symbol section, before the section's end; it ends at the first
+// zero from there on, or at the section's end. A refused call leaves its outputs unchanged.
 #define AFF_OPENED                                                                                                                     \
     const uint8_t *image, size_t image_length, const uint64_t *record, const uint32_t *strings, size_t strings_length,                \
         const uint32_t *entries, size_t entries_length
@@ -98,7 +101,8 @@ uint32_t aff_lookup(AFF_OPENED, const uint8_t *path, size_t path_length, uint64_
 // with all false it is at most record[10], and 0 if all nodes are Void. Returns 21 if the output has fewer places than that.
 uint32_t aff_listing(AFF_OPENED, bool all, uint32_t *output, size_t output_length, uint64_t *count);
 
-// Finds a node's name: the size bytes at image + offset, not counting the zero byte that ends it there. The root's name is empty. Returns 15 for a
+// Finds a node's name: the size bytes at image + offset. A zero byte follows it, which is not counted; but the last name of the symbol section may end at
+// the section's end, and then any byte may follow, or none: use size, and no function that looks for a zero. The root's name is empty. Returns 15 for a
 // number of no node.
 uint32_t aff_name(AFF_OPENED, uint64_t node, uint64_t *offset, uint64_t *size);
 
@@ -114,9 +118,9 @@ uint32_t aff_count(AFF_OPENED, uint64_t node, uint64_t *count);
 
 // Stores a node's path at the front of the output, with no zero after it, and its length in size. Returns 15 for a number of no node, 21 if the
 // output is too short; no call reports the length needed, so double the output and call again.
-// A path has at most record[10] * record[4] bytes (1 for the root): at most 2,048 components, each a '/' and one string of the symbol table. A file
-// of this library's writer has paths of at most 2,048 * 32,768 bytes, 64 MiB. A file from elsewhere may come near 2,048 * 2,147,483,647 bytes, 4 TiB,
-// as a long string can name every node of a chain; so set a limit of your own.
+// A path has at most record[10] * (record[4] + 1) bytes (1 for the root): at most 2,048 components, each a '/' and one string of the symbol section, which
+// may be all of it. A file of this library's writer has paths of at most 2,048 * 32,768 bytes, 64 MiB. A file from elsewhere may come near 2,048 *
+// 2,147,483,647 bytes, 4 TiB, as a long string can name every node of a chain; so set a limit of your own.
 uint32_t aff_path(AFF_OPENED, uint64_t node, uint8_t *output, size_t output_length, uint64_t *size);
 
 // Reads one element as a number. A Char (0 to 255) and an Int are exact. A Double has the stored value and sign: signed zeros, subnormal numbers and

@@ -1,12 +1,13 @@
-// Calls the library through include/aff.h and compares what it returns and leaves with what the header says: `c_calls samples/worked.aff`.
+// Calls the library through include/aff.h and compares what it returns and leaves with what the header says: `c_calls samples/worked.aff samples/unended.aff`.
 // It makes document 01's worked file with every total allowance from 0 to 216, tries each refusal of the writer with every other value of the record
-// unchanged, passes null pointers with length 0, and reads special numbers. It prints counts; the exit status is 1 where anything differs.
+// unchanged, passes null pointers with length 0, reads a file whose last string has no zero, and reads special numbers. It prints counts; the exit status
+// is 1 where anything differs.
 #include "aff.h"
 #include <stdio.h>
 #include <stdlib.h>
 #include <string.h>
 
-enum { WORKED = 214, STORES = 215, BUFFER = 400 };
+enum { WORKED = 214, UNENDED = 213, STORES = 215, BUFFER = 400 };
 
 static const uint8_t form[AFF_FORM] = {0, 64, 2, 53, 4, 0, 3, 253, 0, 0, 0, 168};
 static const uint8_t seventy[4] = {0xff, 0xff, 0xff, 0xba};
@@ -295,6 +296,50 @@ static void outputs(const uint8_t *worked) {
     CHECK(aff_path(OPENED(worked, WORKED), 3, path, 5, &n) == AFF_ERR_NOT_FOUND && n == 4);
 }
 
+// ---- The last string without its zero
+
+// All that is asked of node 2, whose name begins at some place: its name, its path, and lookup of it. The name is the expected one.
+static void named(const uint8_t *image, size_t length, uint64_t place, const char *name) {
+    uint64_t n = 77, offset = 77, size = 77;
+    uint8_t path[8] = "xxxxxxx", expected[8] = "/a/";
+    size_t letters = strlen(name), whole = letters + 3;
+    memcpy(expected + 3, name, letters);
+    CHECK(aff_name(OPENED(image, length), 2, &offset, &size) == AFF_OK && offset == place && size == letters);
+    CHECK(aff_path(OPENED(image, length), 2, path, whole - 1, &n) == AFF_ERR_SPACE && n == 77 && path[0] == 'x');
+    CHECK(aff_path(OPENED(image, length), 2, path, 7, &n) == AFF_OK && n == whole && memcmp(path, expected, whole) == 0 && path[whole] == 'x');
+    CHECK(aff_lookup(OPENED(image, length), expected, whole, &n) == AFF_OK && n == 2);
+    expected[whole] = 'b';
+    CHECK(aff_lookup(OPENED(image, length), expected, whole + 1, &n) == AFF_ERR_NOT_FOUND && n == 2);
+}
+
+// The worked file without its last zero: the symbol section is from 172 to 174, and the tree table follows at once. Then the worked file again, with
+// another byte in place of that zero and another place or size recorded: the name ends at the section's end, and a string that begins there is 24.
+static void unended_names(const uint8_t *worked, const uint8_t *unended) {
+    static uint8_t image[WORKED];
+    uint64_t n = 77, size = 77;
+    CHECK(open_image(unended, UNENDED) == AFF_OK && record[3] == 172 && record[4] == 3 && record[5] == 175 && record[9] == 2 && strings[1] == 174);
+    named(unended, UNENDED, 174, "n");
+    memcpy(image, worked, WORKED);
+    CHECK(open_image(image, WORKED) == AFF_OK && record[4] == 4);
+    named(image, WORKED, 174, "n");
+    image[175] = 'a';
+    named(image, WORKED, 174, "na");
+    record[4] = 3;
+    named(image, WORKED, 174, "n");
+    strings[1] = 175;
+    CHECK(aff_name(OPENED(image, WORKED), 2, &n, &size) == AFF_ERR_MISMATCH && aff_name(OPENED(image, WORKED), 0, &n, &size) == AFF_ERR_MISMATCH);
+    record[4] = 4;
+    named(image, WORKED, 175, "a");
+    strings[1] = 176;
+    CHECK(aff_name(OPENED(image, WORKED), 2, &n, &size) == AFF_ERR_MISMATCH);
+    CHECK(aff_lookup(OPENED(image, WORKED), (const uint8_t *)"/a", 2, &n) == AFF_ERR_MISMATCH);
+    strings[1] = 174;
+    record[4] = 2;
+    CHECK(aff_name(OPENED(image, WORKED), 1, &n, &size) == AFF_ERR_MISMATCH);
+    record[4] = 0;
+    CHECK(aff_name(OPENED(image, WORKED), 1, &n, &size) == AFF_ERR_MISMATCH && n == 77 && size == 77);
+}
+
 static void special_numbers(void) {
     static const uint64_t exact[] = {
         0, (uint64_t)1 << 63, 1, 0x000fffffffffffff, 0x8000000000000001, 0x7ff0000000000000, 0xfff0000000000000, 0x3ff0000000000000, 0xffefffffffffffff};
@@ -325,15 +370,22 @@ static void special_numbers(void) {
     CHECK(aff_decode(AFF_CHAR, seventy, 4, 3, &value, &imaginary) == AFF_OK && value == 186 && imaginary == 0);
 }
 
+// The bytes of a file, as many as there are or one more than expected.
+static size_t loaded(const char *path, uint8_t *bytes, size_t most) {
+    FILE *file = fopen(path, "rb");
+    size_t got = file == NULL ? 0 : fread(bytes, 1, most, file);
+    if (file != NULL) {
+        fclose(file);
+    }
+    return got;
+}
+
 int main(int argc, char **argv) {
-    static uint8_t worked[WORKED + 1];
-    FILE *file = argc == 2 ? fopen(argv[1], "rb") : NULL;
-    if (file == NULL) {
-        fputs("usage: c_calls samples/worked.aff\n", stderr);
+    static uint8_t worked[WORKED + 1], unended[UNENDED + 1];
+    if (argc != 3 || loaded(argv[1], worked, sizeof worked) != WORKED || loaded(argv[2], unended, sizeof unended) != UNENDED) {
+        fputs("usage: c_calls samples/worked.aff samples/unended.aff\n", stderr);
         return 2;
     }
-    CHECK(fread(worked, 1, sizeof worked, file) == WORKED);
-    fclose(file);
     drill(worked);
     refusals_of_writer();
     stops_of_writer();
@@ -342,6 +394,7 @@ int main(int argc, char **argv) {
     null_writing();
     listings(worked);
     outputs(worked);
+    unended_names(worked, unended);
     special_numbers();
     printf("%lu checks, %lu failed\n", checks, failures);
     return failures != 0;

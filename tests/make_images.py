@@ -1,8 +1,8 @@
 #!/usr/bin/env python3
 """Makes the images of the test program test_open: lawful odd files, and damaged ones on both sides of each boundary.
 
-It shares no code with the library: it is written from source document 003, document 01 and request C-11, and what each
-image must be answered with is said here by hand. It writes crates/test_open/stdin (each
+It shares no code with the library: it is written from source document 003, document 01 and requests C-11 and C-13, and what
+each image must be answered with is said here by hand. It writes crates/test_open/stdin (each
 image after its length in 4 bytes), crates/test_open/stdout and tests/test_open.txt.
 
     tests/make_images.py [FOLDER]      FOLDER: where these are written, the repository where none is given
@@ -39,15 +39,25 @@ def entry(kind, parent, string, count=0, offset=0):
     return b if kind == VOID else b + struct.pack(">IQ", count, offset)
 
 
-class Image:
-    """A file in parts. Each field that is None is worked out when the bytes are asked for."""
+def strings_of(table):
+    """The strings of a symbol table (request C-13): each ends at its zero; bytes after the last zero are one more string."""
+    parts = table.split(b"\0")
+    return parts if parts[-1] else parts[:-1]
 
-    def __init__(self, ed, strings=(b"a", b"n"), data=b"\xff\xff\xff\xba", entries=None, tail=b""):
+
+class Image:
+    """A file in parts. Each field that is None is worked out when the bytes are asked for. Where `ended` is false, the last string
+    has no zero. `order` is how the sections follow each other."""
+
+    def __init__(self, ed, strings=(b"a", b"n"), data=b"\xff\xff\xff\xba", entries=None, tail=b"", ended=True, order=("data", "symbol", "tree")):
         self.ed = ed
         self.text = TEXT[ed]
         self.form = form(ed)
         self.data = data
         self.symbols = b"".join(s + b"\0" for s in strings)
+        if not ended:
+            self.symbols = self.symbols[:-1]
+        self.order = order
         self.nstrings = len(strings)
         self.tail = tail
         if entries is None:
@@ -59,20 +69,14 @@ class Image:
         self.count = {}   # section -> record count
         self.sums = {}    # section -> sum
         self.sum = None
-        self.body = None
 
     def bytes(self):
         h = HEADER[self.ed]
-        body = self.body
-        if body is None:
-            body = self.data + self.gap + self.symbols + self.gap + self.tree + self.tail
-        d = len(self.data)
-        g = len(self.gap)
-        usual = {
-            "data": (h, d),
-            "symbol": (h + d + g, len(self.symbols)),
-            "tree": (h + d + g + len(self.symbols) + g, len(self.tree)),
-        }
+        parts = {"data": self.data, "symbol": self.symbols, "tree": self.tree}
+        body, usual = b"", {}
+        for s in self.order:
+            usual[s] = (h + len(body), len(parts[s]))
+            body += parts[s] + (self.gap if s != self.order[-1] else self.tail)
         at = {s: self.at.get(s, usual[s]) for s in usual}
         count = {"symbol": self.nstrings, "tree": self.nnodes, "data": 1}
         count.update(self.count)
@@ -102,8 +106,9 @@ def case(name, image, expect):
     CASES.append((name, image.bytes() if isinstance(image, Image) else image, expect, image))
 
 
-def opened(image):
-    return ("opened", image)
+def opened(image, strings=None):
+    """Opened; with so many strings, where that is said by hand."""
+    return ("opened", image, strings)
 
 
 def refused(n, p=0):
@@ -111,14 +116,14 @@ def refused(n, p=0):
 
 
 def changed(ed, **kw):
-    i = Image(ed, **{k: kw.pop(k) for k in ("strings", "data", "entries", "tail") if k in kw})
+    i = Image(ed, **{k: kw.pop(k) for k in ("strings", "data", "entries", "tail", "ended", "order") if k in kw})
     for k, v in kw.items():
         setattr(i, k, v)
     return i
 
 
-def node_file(ed, nodes, strings=None, data=b"\xff\xff\xff\xba"):
-    return Image(ed, strings=strings or [b"a", b"b", b"c", b"d", b"e"], entries=nodes, data=data)
+def node_file(ed, nodes, strings=None, data=b"\xff\xff\xff\xba", ended=True):
+    return Image(ed, strings=strings or [b"a", b"b", b"c", b"d", b"e"], entries=nodes, data=data, ended=ended)
 
 
 def lawful():
@@ -218,9 +223,6 @@ def symbol_faults():
     many = [b"s%d" % k for k in range(2049)]
     one = [entry(VOID, 0, 0)]
     for ed in (1, 2):
-        i = Image(ed)
-        i.symbols = b"a\0n"
-        case(f"edition {ed}: the last string has no zero", i, refused(8))
         for names, place in (
             ([b"a", b"n", b"a"], 2),
             ([b"a", b"n", b"x", b"x"], 3),
@@ -255,7 +257,7 @@ def symbol_faults():
 
 
 def symbol_faults_together():
-    """Two faults or more, of which the first in the order 7, 8, 25, 26, 27, 9 is reported."""
+    """Two faults or more, of which the first in the order 7, 25, 26, 27, 9 is reported."""
     many = [b"s0", b"s0"] + [b"s%d" % k for k in range(2, 2049)]
     twice = [b"a", b"n", b"a"]
     one = [entry(VOID, 0, 0)]
@@ -272,17 +274,102 @@ def symbol_faults_together():
         case(f"edition {ed}: strings {twice} and a node count of 3 for 2", i, refused(27, 2))
         i = Image(ed, strings=twice, entries=[entry(VOID, 9, 0)])
         case(f"edition {ed}: strings {twice} and a node whose parent does not exist", i, refused(27, 2))
-        i = Image(ed, strings=many, entries=one)
-        i.symbols = i.symbols[:-1]
-        case(f"edition {ed}: 2,049 strings, the last without its zero", i, refused(8))
-        i = Image(ed, strings=[b"s%d" % k for k in range(3000)], entries=one)
-        i.symbols = i.symbols[:-1]
-        case(f"edition {ed}: 3,000 strings, the last without its zero", i, refused(8))
-        i = changed(ed, strings=twice, count={"symbol": 9})
-        i.symbols = i.symbols[:-1]
-        case(f"edition {ed}: strings {twice}, the count wrong, the last without its zero", i, refused(8))
+        i = Image(ed, strings=many, entries=one, ended=False)
+        case(f"edition {ed}: 2,049 strings, the first two equal, the last without its zero", i, refused(25, 2048))
+        i = Image(ed, strings=[b"s%d" % k for k in range(3000)], entries=one, ended=False)
+        case(f"edition {ed}: 3,000 strings, the last without its zero", i, refused(25, 2048))
+        i = changed(ed, strings=twice, count={"symbol": 9}, ended=False)
+        case(f"edition {ed}: strings {twice}, the count wrong, the last without its zero", i, refused(26) if ed == 2 else refused(27, 2))
         i = changed(ed, strings=twice, sums={"data": bytes(16)})
         case(f"edition {ed}: strings {twice} and the data's sum wrong", i, refused(7, 3))
+
+
+def unended():
+    """The last string has no zero (request C-13). What is after the section is no part of it."""
+    many = [b"s%d" % k for k in range(2049)]
+    one = [entry(VOID, 0, 0)]
+    last = [entry(VOID, 0, 0), entry(VOID, 1, 1)]
+    for ed in (1, 2):
+        i = changed(ed, ended=False)
+        case(f"edition {ed}: the worked file, its last string without a zero", i, opened(i, 2))
+        for table, n in (
+            (b"a", 1), (b"\xff", 1), (b"a\0n", 2), (b"\0a", 2), (b"a\0\0n", 3), (b"a\0\0", 2), (b"aa\0a", 2), (b"a\0aa", 2), (b"a\0A", 2), (b"\0\1", 2),
+        ):
+            i = changed(ed, strings=[], entries=[], data=b"", symbols=table, nstrings=n)
+            case(f"edition {ed}: the symbol table {table!r}, no node", i, opened(i, n))
+        i = Image(ed, strings=[b"a"], entries=one, ended=False)
+        case(f"edition {ed}: one string of one byte, without a zero, and a node with it", i, opened(i, 1))
+        i = Image(ed, strings=many[:2048], entries=one, ended=False)
+        case(f"edition {ed}: 2,048 strings, the last without its zero", i, opened(i, 2048))
+        case(f"edition {ed}: 2,049 strings, the last without its zero", Image(ed, strings=many, entries=one, ended=False), refused(25, 2048))
+        for names, place in (
+            ([b"a", b"n", b"a"], 2),
+            ([b"a", b"a"], 1),
+            ([b"a", b"n", b"n"], 2),
+            ([b"a", b"b", b"b", b"a"], 2),
+            ([b"", b"", b"a"], 1),
+            ([b"eightlet", b"eightlet"], 1),
+        ):
+            case(f"edition {ed}: strings {names}, the last without its zero", changed(ed, strings=names, ended=False), refused(27, place))
+        i = Image(ed, strings=[b""] * 2047 + [b"a"], entries=[], data=b"", ended=False)
+        case(f"edition {ed}: 2,047 empty strings and one without a zero", i, refused(27, 1))
+        i = Image(ed, strings=[b""] * 2048 + [b"a"], entries=[], data=b"", ended=False)
+        case(f"edition {ed}: 2,048 empty strings and one without a zero", i, refused(25, 2048))
+        i = Image(ed, strings=many[:2047] + [b"s0"], entries=one, ended=False)
+        case(f"edition {ed}: string 2,047 equals string 0 and has no zero", i, refused(27, 2047))
+        i = Image(ed, strings=many[:2048] + [b"s0"], entries=one, ended=False)
+        case(f"edition {ed}: string 2,048 equals string 0 and has no zero", i, refused(25, 2048))
+        i = changed(ed, ended=False)
+        i.tree = i.tree[:-1]
+        case(f"edition {ed}: no last zero, and a tree table cut short", i, refused(9, 2))
+        # What is directly after the section, in the data section or in the tree table, would make another name or an equal one.
+        for names, nodes, after in (
+            ([b"a", b"n"], last, b"bc"),
+            ([b"a", b"n"], last, b"/x\0"),
+            ([b"a", b"n"], last, b"\xff\0"),
+            ([b"a", b"n"], last, b"\0"),
+            ([b"an", b"a"], last, b"n\0"),
+            ([b"n", b"a"], last, b"\0n"),
+            ([b"an", b"a"], [entry(VOID, 0, 0), entry(VOID, 0, 1)], b"n\0"),
+            ([b"eightletters", b"eightlet"], [entry(VOID, 0, 0), entry(VOID, 0, 1)], b"ters\0"),
+        ):
+            i = Image(ed, strings=names, entries=nodes, data=after, ended=False, order=("symbol", "data", "tree"))
+            case(f"edition {ed}: strings {names}, no last zero, then the data {after!r}", i, opened(i, 2))
+        i = changed(ed, ended=False, order=("data", "tree", "symbol"))
+        case(f"edition {ed}: no last zero, the symbol table at the image's end", i, opened(i, 2))
+        # A string that is no subkey: 10 where a node has it. The last byte of the section is a byte of the name.
+        for name in (b"9a", b"a b", b"a/", b"a@", b"@", b"a\xff"):
+            i = node_file(ed, last, [b"a", name], ended=False)
+            case(f"edition {ed}: the name {name!r} without a zero", i, refused(10, 2))
+            i = node_file(ed, one, [b"a", name], ended=False)
+            case(f"edition {ed}: the unused string {name!r} without a zero", i, opened(i, 2))
+        case(f"edition {ed}: string 2 of 2, the last without its zero", node_file(ed, [entry(VOID, 0, 2)], [b"a", b"n"], ended=False), refused(10, 1))
+        i = node_file(ed, [entry(VOID, 0, 1), entry(VOID, 0, 0), entry(VOID, 0, 1)], [b"a", b"n"], ended=False)
+        case(f"edition {ed}: two siblings of the name that has no zero", i, refused(12, 3))
+        i = node_file(ed, [entry(VOID, 0, 1), entry(VOID, 1, 1), entry(VOID, 2, 1)], [b"a", b"n"], ended=False)
+        case(f"edition {ed}: a chain of the name that has no zero", i, opened(i, 2))
+        # Over the signature: its text has spaces, and no zero before byte 20. "LHPC" alone is a subkey.
+        for size, n in ((4, 1), (20, 1), (21, 1), (22, 2)):
+            i = changed(ed, strings=[], entries=[], data=b"", at={"symbol": (0, size)}, nstrings=n)
+            case(f"edition {ed}: the symbol table is the first {size} bytes of the file, {n} unused", i, opened(i, n))
+        for size, subkey in ((2, True), (4, True), (5, False), (20, False)):
+            i = changed(ed, strings=[], entries=one, data=b"", at={"symbol": (0, size)}, nstrings=1)
+            case(f"edition {ed}: the symbol table is the first {size} bytes of the file, a node's name", i, opened(i, 1) if subkey else refused(10, 1))
+    for n in (0, 1, 3, 2**32 + 2, 2**64 - 1):
+        case(f"edition 2: a string count of {n} for 2, the last without its zero", changed(2, ended=False, count={"symbol": n}), refused(26))
+    for n in (0, 2):
+        case(f"edition 2: a string count of {n} for one without a zero", changed(2, strings=[b"a"], entries=one, ended=False, count={"symbol": n}), refused(26))
+    for n in (2, 4):
+        i = changed(2, strings=[b"a", b"n", b"a"], ended=False, count={"symbol": n})
+        case(f"edition 2: a string count of {n} for a, n, a, the last without its zero", i, refused(26))
+    for n in (2047, 2049):
+        i = Image(2, strings=many[:2048], entries=one, ended=False)
+        i.count = {"symbol": n}
+        case(f"edition 2: a string count of {n} for 2,048, the last without its zero", i, refused(26))
+    for n in (2048, 2050):
+        i = Image(2, strings=many, entries=one, ended=False)
+        i.count = {"symbol": n}
+        case(f"edition 2: a string count of {n} for 2,049, the last without its zero", i, refused(25, 2048))
 
 
 def tree_faults():
@@ -369,9 +456,10 @@ def expected(image, expect, source):
     if expect[0] == "refused":
         return f"refused {expect[1]} {expect[2]} areas 0 0"
     i = source
-    h = HEADER[i.ed]
     places, at = [], i.where["symbol"][0]
-    for s in i.symbols.split(b"\0")[:-1]:
+    strings = strings_of(image[at:at + i.where["symbol"][1]])
+    assert expect[2] in (None, len(strings)), (strings, expect[2])
+    for s in strings:
         places.append(at)
         at += len(s) + 1
     nodes, at = [], i.where["tree"][0]
@@ -390,6 +478,7 @@ def main():
     section_faults()
     symbol_faults()
     symbol_faults_together()
+    unended()
     tree_faults()
     node_faults()
     crate = os.path.join(top, "crates", "test_open")

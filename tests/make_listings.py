@@ -1,10 +1,11 @@
 #!/usr/bin/env python3
-"""Makes the images of the test program test_list, the inputs of list, listall, test_list_blocks and test_list_limit, and the sample of the README, with
+"""Makes the images of the test program test_list, the inputs of list, listall, test_list_blocks and test_list_limit, and the samples of the README, with
 what must be printed.
 
 What `list` and `listall` print is worked out here from the description of each tree, with no code of the library; the answers at the limits are written
 by hand. It writes crates/test_list/stdin (each image after its length in 4 bytes) and stdout, stdin and stdout of crates/list and crates/listall (65,536
-bytes), of crates/test_list_blocks (a text of more than one block) and of crates/test_list_limit (65,537 bytes), samples/worked.aff and tests/test_list.txt.
+bytes), of crates/test_list_blocks (a text of more than one block) and of crates/test_list_limit (65,537 bytes), samples/worked.aff, samples/unended.aff and
+tests/test_list.txt.
 
     tests/make_listings.py [FOLDER]      FOLDER: where these are written, the repository where none is given
 """
@@ -20,8 +21,9 @@ BLOCK = 131072
 BRIEF = 1024
 
 
-def make(ed, nodes):
-    """The image of a tree: a node is (parent, name, kind, count), numbered from 1."""
+def make(ed, nodes, ended=True, after=None):
+    """The image of a tree: a node is (parent, name, kind, count), numbered from 1. Where `ended` is false, the last string has no zero (request C-13).
+    `after`: bytes of no section that follow the symbol section, which is then the last; where it is not given, the tree table follows it."""
     strings, data, entries = [], b"", []
     for parent, name, kind, count in nodes:
         if name not in strings:
@@ -29,8 +31,10 @@ def make(ed, nodes):
         entries.append(entry(kind, parent, strings.index(name), count, HEADER[ed] + len(data)))
         if kind != VOID:
             data += b"\xff\xff\xff\xba" * (count * SIZE[kind] // 4) + b"x" * (count * SIZE[kind] % 4)
-    image = Image(ed, strings=strings, entries=entries, data=data)
+    image = Image(ed, strings=strings, entries=entries, data=data, ended=ended)
     image.count = {"data": sum(kind != VOID for _, _, kind, _ in nodes)}
+    if after is not None:
+        image.order, image.tail = ("data", "tree", "symbol"), after
     return image.bytes()
 
 
@@ -75,6 +79,8 @@ def padded(image, size):
 
 
 WORKED = [(0, b"a", VOID, 0), (1, b"n", INT, 1)]
+# What `list` and `listall` print of it, by hand.
+WORKED_SHORT, WORKED_FULL = [b"/a/n int 1\n"], [b"/ void 0\n", b"/a void 0\n", b"/a/n int 1\n"]
 # Parents above their children, every type, count 0, siblings in number order.
 MIXED = [(3, b"x", CHAR, 3), (3, b"y", DOUBLE, 2), (0, b"b", VOID, 0), (0, b"a", COMPLEX, 1), (4, b"x", INT, 0), (1, b"deep.er", VOID, 0), (0, b"_:", CHAR, 10)]
 # Void nodes above, between and below nodes with data, and parents above their children.
@@ -104,7 +110,7 @@ def full_block(size):
 def trees():
     """What a tree is, its edition, its nodes, and what `list` and `listall` print where that is written by hand."""
     for ed in (1, 2):
-        yield "document 01's worked file", ed, WORKED, [b"/a/n int 1\n"], [b"/ void 0\n", b"/a void 0\n", b"/a/n int 1\n"]
+        yield "document 01's worked file", ed, WORKED, WORKED_SHORT, WORKED_FULL
         yield "every type, a parent above its children", ed, MIXED
         yield "no node", ed, [], [], [b"/ void 0\n"]
         yield "all nodes Void", ed, VOIDS, [], [b"/ void 0\n", b"/b void 0\n", b"/b/a void 0\n", b"/a void 0\n", b"/a/a void 0\n"]
@@ -131,6 +137,19 @@ def trees():
     yield "2,048 nodes, paths up to 206,848 bytes, an Int at the end", 2, chain(2048, b"s" * 100, kind=INT), REFUSED_21, REFUSED_21
 
 
+def unended():
+    """Trees whose last string has no zero: what it is, its edition, its nodes, what follows the symbol section (by default the tree table), and what
+    `list` and `listall` print. No byte after the section belongs to the name."""
+    deep = [(0, b"x.y", CHAR, 3), (1, b"last:one", VOID, 0), (2, b"last:one", DOUBLE, 1), (0, b"last:one", INT, 0)]
+    for ed in (1, 2):
+        yield "document 01's worked file", ed, WORKED, None, WORKED_SHORT, WORKED_FULL
+        for after in (b"", b"bc", b"\0", b"/x", b"n\0"):
+            yield f"the worked file, the symbol table before {after!r} at the end", ed, WORKED, after, WORKED_SHORT, WORKED_FULL
+        yield "several nodes of that name, before letters", ed, deep, b"one"
+    yield "one node", 2, [(0, b"n", INT, 1)], b"nn\0", [b"/n int 1\n"], [b"/ void 0\n", b"/n int 1\n"]
+    yield "2,048 strings", 2, [(0, b"k%d" % k, INT if k % 7 == 5 else VOID, int(k % 7 == 5)) for k in range(100, 2148)], b"0"
+
+
 def refusals():
     """What an input is, its bytes, and the line that both programs print."""
     worked = make(2, WORKED)
@@ -140,7 +159,9 @@ def refusals():
     yield "strings a, n, a", changed(2, strings=[b"a", b"n", b"a"]).bytes(), [b"refused 27 2\n"]
     yield "a string count of 3 for 2", changed(2, count={"symbol": 3}).bytes(), [b"refused 26 0\n"]
     yield "2,049 strings", changed(2, strings=[b"s%d" % k for k in range(2049)]).bytes(), [b"refused 25 2048\n"]
-    yield "the last string without its zero", changed(2, symbols=b"a\0n").bytes(), [b"refused 8 0\n"]
+    yield "strings a, n, a, the last without its zero", changed(2, strings=[b"a", b"n", b"a"], ended=False).bytes(), [b"refused 27 2\n"]
+    yield "a string count of 1 for 2, the last without its zero", changed(2, ended=False, count={"symbol": 1}).bytes(), [b"refused 26 0\n"]
+    yield "the name 9n without its zero", make(2, [(0, b"a", VOID, 0), (1, b"9n", INT, 1)], ended=False), [b"refused 10 2\n"]
     yield "its own parent", make(2, [(1, b"a", VOID, 0)]), [b"refused 11 1\n"]
     yield "65,537 bytes", padded(worked, LIMIT + 1), TOO_LONG
     yield "65,537 bytes of no text", bytes(LIMIT + 1), TOO_LONG
@@ -161,6 +182,9 @@ def cases():
     """What an image is, its bytes, the lines that `list` and `listall` print of it, and the answers of the listing call where it opens."""
     for what, ed, nodes, *by_hand in trees():
         yield f"edition {ed}: {what}", make(ed, nodes), *(by_hand or (lines(nodes, False), lines(nodes))), *calls(nodes)
+    for what, ed, nodes, after, *by_hand in unended():
+        image = make(ed, nodes, ended=False, after=after)
+        yield f"edition {ed}, no last zero: {what}", image, *(by_hand or (lines(nodes, False), lines(nodes))), *calls(nodes)
     yield "65,536 bytes", padded(make(2, WORKED), LIMIT), lines(WORKED, False), lines(WORKED), *calls(WORKED)
     for what, image, line in refusals():
         yield what, image, line, line, b"", b""
@@ -192,6 +216,7 @@ def main():
     write(top, "crates/test_list_limit/stdin", padded(make(2, WORKED), LIMIT + 1))
     write(top, "crates/test_list_limit/stdout", b"".join(TOO_LONG))
     write(top, "samples/worked.aff", make(2, WORKED))
+    write(top, "samples/unended.aff", make(2, WORKED, ended=False))
     print(k + 1, "images")
 
 

@@ -7,7 +7,8 @@ PROGRAM is list or listall. What it must print is NAME.list or NAME.listall, whe
 node, as `listall` prints; for `list` the lines of the Void nodes are taken out of it.
 
 CHANGED is a file of the outputs that requests have changed since the folder was made: lines 'NAME PROGRAM OUTPUT', each in place of the folder's file.
-PROGRAM is then list, listall or both; where there is no OUTPUT, nothing is printed. For the sample images made elsewhere it is tests/vectors_changed.txt.
+PROGRAM is then list, listall or both; ' | ' is between two lines of an OUTPUT; where there is no OUTPUT, nothing is printed. For the sample images made
+elsewhere it is tests/vectors_changed.txt.
 
 `rt check list listall` builds the programs. The last line is 'N agree, M differ'; the exit status is 0 only if there is an image, each NAME of CHANGED is
 one, and none differs.
@@ -28,7 +29,8 @@ def changes(path):
     for words in lines:
         if len(words) < 2 or words[1] not in (*PROGRAMS, "both"):
             sys.exit(f"{path}: {' '.join(words)} is no line 'NAME PROGRAM OUTPUT'")
-    return [(words[0], words[1], (words[2].strip() + "\n").encode() if words[2:] else b"") for words in lines]
+    outputs = ["".join(line + "\n" for line in words[2].strip().split(" | ")) if words[2:] else "" for words in lines]
+    return [(words[0], words[1], output.encode()) for words, output in zip(lines, outputs)]
 
 
 def content(path):

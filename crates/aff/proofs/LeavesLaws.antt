@@ -54,7 +54,7 @@ body-others : (e : Edition) (image : List ℕ) → Others 1 (bodyChecks e image 
 body-others e image =
     others-both 1 (sectionChecks e image) (tableChecks e image ++ nodesChecked e image) (refl, (refl, (refl, (refl, (refl, (refl, tt))))))
     (others-both 1 (tableChecks e image) (nodesChecked e image)
-    (refl, (refl, (refl, others-lowest 1 27 refl (lowestFrom (repeats (stringsIn e image)) (length (stringsIn e image)) 0) (treeChecked e image) (refl, (refl, tt)))))
+    (refl, (refl, others-lowest 1 27 refl (lowestFrom (repeats (stringsIn e image)) (length (stringsIn e image)) 0) (treeChecked e image) (refl, (refl, tt))))
     (node-others e (sectionOffset e Data image) (sectionSize e Data image) (contentsIn e image)))
 
 later-others : (image form : List ℕ) → Others 1 (headerChecks image form ++ (bodyChecks (editionIn image) image ++ nodesChecked (editionIn image) image))

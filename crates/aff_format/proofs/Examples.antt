@@ -1,4 +1,4 @@
--- Document 01's worked file, computed from the definitions.
+-- Document 01's worked file and the strings of short symbol tables, computed from the definitions.
 use mathlib.Core.Path.{_≡_, refl}
 use mathlib.Core.List.{List, [], _∷_}
 use Prim.Native.Nat.{ℕ}
@@ -8,26 +8,52 @@ use Rattle.aff_format.specs.Number.{beOf, beBytes}
 use Rattle.aff_format.specs.Element.{decoded, elementAt}
 use Rattle.aff_format.specs.Subkey.{subkeyFrom, restOfSubkey, narrowFirst, narrowNext}
 use Rattle.aff_format.specs.Path.{pathGrammar, partsFrom, betweenSlashes}
-use Rattle.aff_format.specs.Strings.{stringsOf, placesOf}
+use Rattle.aff_format.specs.Strings.{stringsOf, endsInZero, withLastZero, placesOf}
 use Rattle.aff_format.specs.Entry.{entryOf, fieldsOf, entryBytes}
 use Rattle.aff_format.specs.declared.edition.Edition.the-variants.{Two}
 use Rattle.aff_format.specs.declared.kind.Kind.the-variants as kind
 use Rattle.aff_format.specs.declared.subkey.Grammar.the-variants.{Sound}
 use Rattle.aff_format.specs.declared.entry.FoundEntry.the-variants.{Whole, Broken}
 
--- The symbol table of the worked file, `a` and `n`, is at 172.
-strings : stringsOf (97 ∷ 0 ∷ 110 ∷ 0 ∷ []) ≡ (97 ∷ []) ∷ (110 ∷ []) ∷ []
-unfolding stringsOf
-strings = refl
-
+-- The symbol table of the worked file, `a` and `n`, is at 172. (Its strings: `two`.)
 places : placesOf 172 (stringsOf (97 ∷ 0 ∷ 110 ∷ 0 ∷ [])) ≡ 172 ∷ 174 ∷ []
 unfolding stringsOf placesOf
 places = refl
 
--- Bytes after the last zero are one more string; a final zero opens none.
-unended : stringsOf (97 ∷ 0 ∷ 0 ∷ 110 ∷ []) ≡ (97 ∷ []) ∷ [] ∷ (110 ∷ []) ∷ []
+-- Bytes after the last zero are one more string; a final zero opens none; a run of no bytes has none. Of each pair below, the first lacks the zero of its
+-- last string.
+no-byte : stringsOf [] ≡ []
 unfolding stringsOf
-unended = refl
+no-byte = refl
+
+only-zero : stringsOf (0 ∷ []) ≡ [] ∷ []
+unfolding stringsOf
+only-zero = refl
+
+one : (stringsOf (97 ∷ []) ≡ (97 ∷ []) ∷ []) × (stringsOf (97 ∷ 0 ∷ []) ≡ (97 ∷ []) ∷ [])
+unfolding stringsOf
+one = (refl, refl)
+
+two : (stringsOf (97 ∷ 0 ∷ 110 ∷ []) ≡ (97 ∷ []) ∷ (110 ∷ []) ∷ []) × (stringsOf (97 ∷ 0 ∷ 110 ∷ 0 ∷ []) ≡ (97 ∷ []) ∷ (110 ∷ []) ∷ [])
+unfolding stringsOf
+two = (refl, refl)
+
+then-empty : stringsOf (97 ∷ 0 ∷ 0 ∷ []) ≡ (97 ∷ []) ∷ [] ∷ []
+unfolding stringsOf
+then-empty = refl
+
+empty-between : stringsOf (97 ∷ 0 ∷ 0 ∷ 110 ∷ []) ≡ (97 ∷ []) ∷ [] ∷ (110 ∷ []) ∷ []
+unfolding stringsOf
+empty-between = refl
+
+-- The zero that is put after a run, and where none is.
+zero-put : withLastZero (97 ∷ 0 ∷ 110 ∷ []) ≡ 97 ∷ 0 ∷ 110 ∷ 0 ∷ []
+unfolding withLastZero endsInZero
+zero-put = refl
+
+none-put : (withLastZero [] ≡ []) × (withLastZero (97 ∷ 0 ∷ []) ≡ 97 ∷ 0 ∷ [])
+unfolding withLastZero endsInZero
+none-put = (refl, refl)
 
 -- Its tree table: `a` of the root is Void, `n` of `a` an Int of one element at 168.
 tree : List ℕ

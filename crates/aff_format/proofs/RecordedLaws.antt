@@ -28,13 +28,19 @@ module _ (image : List ℕ) (end at : ℕ) where
   unfolding nameFrom upToZero
   ends-on h f n = rw (part-cons image at end, ne-eqb (getD image at 0) 0) (omega arith)
 
+-- It ends no later than the section.
+pub name-ends : (image : List ℕ) (end from : ℕ) → from ≤ end → end ≤ length image → from + length (nameFrom image end from) ≤ end
+unfolding nameFrom
+name-ends image end from h f =
+    omega (arith, length-upToZero (part from (end - from) image), length-part from (end - from) image (omega arith))
+
 pub name-part : (image : List ℕ) (end from to : ℕ) → from ≤ end → end ≤ length image → to ≡ from + length (nameFrom image end from)
     → part from (to - from) image ≡ nameFrom image end from
 unfolding nameFrom
 name-part image end from to h f e =
     let run : List ℕ = part from (end - from) image in
     let n : to - from ≡ length (upToZero run) = omega arith in
-    let few : length (upToZero run) ≤ end - from = omega (arith, length-upToZero run, length-part from (end - from) image (omega arith)) in
+    let few : length (upToZero run) ≤ end - from = omega (arith, name-ends image end from h f) in
     rw (n, ← take-take (length (upToZero run)) (end - from) (drop from image) few) (take-upToZero run)
 
 -- The entry of a node is the one found.

@@ -1,5 +1,5 @@
--- Strings and runs of bytes, there and back: a run that ends in zero is the text of its strings, so each law of strings is proved of texts,
--- by induction on the strings, and read off for runs.
+-- Strings and runs of bytes, there and back: a run, with a zero put after it where its last byte is not zero, is the text of its strings
+-- (`text-ended`), so each law of strings is proved of texts, by induction on the strings, and read off for runs.
 use mathlib.Core.Path.{_≡_, refl, sym, ap, _∙_}
 use mathlib.Core.Bool.{Bool, true, false, cond, _||_, true≢false}
 use mathlib.Core.List.{List, [], _∷_, _++_, append-assoc, append-nil}
@@ -9,12 +9,12 @@ use native.Mathlib.Numerals.{add-one}
 use native.Mathlib.Omega.{arith}
 use lib.Dec.{eqb, ltb, leb·suc-suc}
 use lib.ListN.{length, getD, take, drop, length-append}
-use lib.Seq.{drop-append-add, drop-append-le, getD-drop, take-append-seam, getD-append-seam, drop-drop}
+use lib.Seq.{drop-append-add, drop-append-le, drop-drop}
 use borrow.Author.Tests.{eqb-true, ltb-true, ltb-false, lt-ltb}
 use Rattle.aff_format.specs.Bytes.{part, sameBytes, Without, EachWithout}
 use Rattle.aff_format.specs.Path.{ahead}
 use Rattle.aff_format.proofs.BytesLaws.{drop-take}
-use Rattle.aff_format.specs.Strings.{stringsOf, lastOr, endsInZero, placesOf, textOf, upToZero, zerosIn, isIn, indexIn}
+use Rattle.aff_format.specs.Strings.{stringsOf, lastOr, endsInZero, withLastZero, placesOf, textOf, upToZero, zerosIn, isIn, indexIn}
 use Rattle.aff_format.proofs.SameLaws.{same-eq, same-refl, same-ne, ne-same}
 
 -- The last byte.
@@ -54,6 +54,11 @@ pub endsInZero-textOf : (ss : List (List ℕ)) → endsInZero (textOf ss) ≡ tr
 unfolding endsInZero textOf
 endsInZero-textOf [] = refl
 endsInZero-textOf (s ∷ ss) = endsInZero-append s 0 (textOf ss) ∙ endsInZero-textOf ss
+
+-- A text has its last zero.
+pub withLastZero-textOf : (ss : List (List ℕ)) → withLastZero (textOf ss) ≡ textOf ss
+unfolding withLastZero
+withLastZero-textOf ss = rw (endsInZero-textOf ss, append-nil)
 
 -- Texts.
 
@@ -107,9 +112,9 @@ unfolding textOf
 text-ahead x y l [] h = absurd (let z : _≡_ {A = ℕ} 0 1 = cc in omega arith)
 text-ahead x y l (s ∷ ss) h = ap (λ (r : List ℕ). x ∷ r) h
 
--- The zero that a run lacks, if it does, makes it the text of its strings.
-text-ended : (l : List ℕ) → textOf (stringsOf l) ≡ l ++ cond (endsInZero l) [] (0 ∷ [])
-unfolding stringsOf textOf endsInZero
+-- A run with its last zero is the text of its strings.
+pub text-ended : (l : List ℕ) → textOf (stringsOf l) ≡ withLastZero l
+unfolding stringsOf textOf endsInZero withLastZero
 text-ended [] = refl
 text-ended (x ∷ l) = go l (eqb x 0) refl (text-ended l)
   where
@@ -120,10 +125,21 @@ text-ended (x ∷ l) = go l (eqb x 0) refl (text-ended l)
     go (y ∷ l) false q ih = text-ahead x y (l ++ cond (endsInZero (y ∷ l)) [] (0 ∷ [])) (stringsOf (y ∷ l)) ih
 
 pub textOf-stringsOf : (l : List ℕ) → endsInZero l ≡ true → textOf (stringsOf l) ≡ l
+unfolding withLastZero
 textOf-stringsOf l h = text-ended l ∙ rw (h, append-nil)
 
 pub textOf-unended : (l : List ℕ) → endsInZero l ≡ false → textOf (stringsOf l) ≡ l ++ (0 ∷ [])
+unfolding withLastZero
 textOf-unended l h = text-ended l ∙ rw h
+
+-- So a run has the strings of the text that it is with its last zero: no other strings without a zero byte have that text.
+pub strings-with-last-zero : (l : List ℕ) (ss : List (List ℕ)) → withLastZero l ≡ textOf ss → EachWithout 0 ss → stringsOf l ≡ ss
+strings-with-last-zero l ss is w =
+    sym (stringsOf-textOf (stringsOf l) (strings-without-zero l)) ∙ ap stringsOf (text-ended l ∙ is) ∙ stringsOf-textOf ss w
+
+-- The zero of the last string may be there or not: a run that is not empty and does not end in zero has the same strings with one zero after it.
+pub last-zero-optional : (l : List ℕ) → endsInZero l ≡ false → stringsOf (l ++ (0 ∷ [])) ≡ stringsOf l
+last-zero-optional l h = ap stringsOf (sym (textOf-unended l h)) ∙ stringsOf-textOf (stringsOf l) (strings-without-zero l)
 
 pub stringsOf-append : (s t : List ℕ) → endsInZero s ≡ true → stringsOf (s ++ t) ≡ stringsOf s ++ stringsOf t
 stringsOf-append s t h =
@@ -228,12 +244,6 @@ text-at (s ∷ ss) back zero h = append-assoc s (0 ∷ textOf ss) back
 text-at (s ∷ ss) back (suc k) h =
     rw (length-append s (0 ∷ textOf (take k ss)), append-assoc s (0 ∷ textOf ss) back, drop-append-add) (text-at ss back k (omega arith))
 
-text-within : (ss : List (List ℕ)) (k : ℕ) → k < length ss → length (textOf (take k ss)) + length (getD ss k []) < length (textOf ss)
-unfolding textOf
-text-within [] k h = absurd (omega arith)
-text-within (s ∷ ss) zero h = omega (arith, length-textOf s ss)
-text-within (s ∷ ss) (suc k) h = omega (arith, length-textOf s ss, length-textOf s (take k ss), text-within ss k (omega arith))
-
 pub each-at : (x : ℕ) (ss : List (List ℕ)) (k : ℕ) → EachWithout x ss → Without x (getD ss k [])
 each-at x [] k w = tt
 each-at x (s ∷ ss) zero w = w .0
@@ -256,25 +266,12 @@ string-begins (x ∷ l) k h = go (eqb x 0) (stringsOf l) k h (string-begins l)
     go false (s ∷ ss) (suc k) h ih =
         omega (arith, placesOf-at (0 + suc (length s) + 1) ss k (omega arith), placesOf-at (0 + length s + 1) ss k (omega arith), ih (suc k) (omega arith))
 
-string-within : (l : List ℕ) (k : ℕ) → k < length (stringsOf l) → getD (placesOf 0 (stringsOf l)) k 0 + length (getD (stringsOf l) k []) < length (l ++ cond (endsInZero l) [] (0 ∷ []))
-string-within l k h = rw (← text-ended l) (omega (arith, placesOf-at 0 (stringsOf l) k h, text-within (stringsOf l) k h))
-
-pub string-ends : (l : List ℕ) (k : ℕ) → endsInZero l ≡ true → k < length (stringsOf l) → getD (placesOf 0 (stringsOf l)) k 0 + length (getD (stringsOf l) k []) < length l
-string-ends l k e h = rw (e, append-nil) at (string-within l k h)
-
-pub string-reaches : (l : List ℕ) (k : ℕ) → k < length (stringsOf l) → getD (placesOf 0 (stringsOf l)) k 0 + length (getD (stringsOf l) k []) ≤ length l
-string-reaches l k h = go (endsInZero l) (string-within l k h)
-  where
-    go : (b : Bool) → getD (placesOf 0 (stringsOf l)) k 0 + length (getD (stringsOf l) k []) < length (l ++ cond b [] (0 ∷ []))
-        → getD (placesOf 0 (stringsOf l)) k 0 + length (getD (stringsOf l) k []) ≤ length l
-    go true w = omega (arith, length-append l [])
-    go false w = omega (arith, length-append l (0 ∷ []))
-
 upToZero-ended : (s : List ℕ) (b : Bool) → upToZero (s ++ cond b [] (0 ∷ [])) ≡ upToZero s
 upToZero-ended s true = rw append-nil
 upToZero-ended s false = upToZero-append s []
 
 pub string-at : (l : List ℕ) (k : ℕ) → k < length (stringsOf l) → upToZero (drop (getD (placesOf 0 (stringsOf l)) k 0) l) ≡ getD (stringsOf l) k []
+unfolding withLastZero
 string-at l k h =
     let ss : List (List ℕ) = stringsOf l in
     let p : ℕ = getD (placesOf 0 ss) k 0 in
@@ -287,29 +284,6 @@ string-at l k h =
     ∙ ap upToZero (sym (drop-append-le p l z w) ∙ t)
     ∙ upToZero-one (getD ss k []) (textOf (drop (suc k) ss) ++ []) (each-at 0 ss k (strings-without-zero l))
 
--- A string of a run that ends in zero and is at place at of an image: its bytes, with a zero after them.
-module _ (image front l back : List ℕ) (at k : ℕ) (is : image ≡ front ++ (l ++ back)) (begins : length front ≡ at) (ended : endsInZero l ≡ true)
-    (exists : k < length (stringsOf l)) where
-  pub string-from : drop (getD (placesOf at (stringsOf l)) k 0) image ≡ getD (stringsOf l) k [] ++ (0 ∷ (textOf (drop (suc k) (stringsOf l)) ++ back))
-  string-from =
-      let ss : List (List ℕ) = stringsOf l in
-      let q : getD (placesOf at ss) k 0 ≡ length front + length (textOf (take k ss)) = placesOf-at at ss k exists ∙ omega arith in
-      let t : image ≡ front ++ (textOf ss ++ back) = is ∙ ap (λ (r : List ℕ). front ++ (r ++ back)) (sym (textOf-stringsOf l ended)) in
-      ap (drop (getD (placesOf at ss) k 0)) t
-      ∙ ap (λ (n : ℕ). drop n (front ++ (textOf ss ++ back))) q
-      ∙ drop-append-add front (textOf ss ++ back) (length (textOf (take k ss)))
-      ∙ text-at ss back k exists
-
-  pub string-read : upToZero (drop (getD (placesOf at (stringsOf l)) k 0) image) ≡ getD (stringsOf l) k []
-  string-read = rw string-from (upToZero-one (getD (stringsOf l) k []) _ (each-at 0 (stringsOf l) k (strings-without-zero l)))
-
-  pub string-bytes : part (getD (placesOf at (stringsOf l)) k 0) (length (getD (stringsOf l) k [])) image ≡ getD (stringsOf l) k []
-  string-bytes = rw string-from (take-append-seam _ _)
-
-  pub string-zero : getD image (getD (placesOf at (stringsOf l)) k 0 + length (getD (stringsOf l) k [])) 0 ≡ 0
-  string-zero = rw (← getD-drop (getD (placesOf at (stringsOf l)) k 0) image (length (getD (stringsOf l) k [])) 0, string-from) (getD-append-seam (getD (stringsOf l) k []) 0 (textOf (drop (suc k) (stringsOf l)) ++ back) 0)
-
--- A string of a section of an image.
 -- A string of a section that need not end in zero, read up to the section's end.
 pub string-in-section : (image : List ℕ) (at n k : ℕ) → k < length (stringsOf (part at n image))
     → let p = getD (placesOf at (stringsOf (part at n image))) k 0 in upToZero (part p (at + n - p) image) ≡ getD (stringsOf (part at n image)) k []

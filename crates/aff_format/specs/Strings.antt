@@ -1,4 +1,4 @@
--- Strings of a run of bytes: document 01, 'Layout of a file', the symbol table. The reader takes them from the symbol section, the
+-- Strings of a run of bytes: document 01, 'Layout of a file', the symbol table, with request C-13. The reader takes them from the symbol section, the
 -- writer from the used part of its text area.
 use mathlib.Core.Bool.{Bool, false, cond, _||_}
 use mathlib.Core.List.{List, [], _∷_, _++_}
@@ -8,7 +8,8 @@ use lib.ListN.{length}
 use Rattle.aff_format.specs.Bytes.{sameBytes}
 use Rattle.aff_format.specs.Path.{ahead}
 
--- The strings of a run: each ends at its zero; bytes after the last zero are one more string. A run of no bytes has none.
+-- The strings of a run: each ends at its zero; if the last byte is not zero, the bytes after the last zero are one more string. A final zero opens no
+-- further string; a run of no bytes has none. (Examples by computation: proofs/Examples.antt.)
 unfoldable pub stringsOf : List ℕ → List (List ℕ)
 stringsOf [] = []
 stringsOf (x ∷ l) = cond (eqb x 0) ([] ∷ stringsOf l) (ahead x (stringsOf l))
@@ -21,6 +22,10 @@ lastOr d (x ∷ l) = lastOr x l
 -- Whether each string has its zero: there is no byte, or the last is zero.
 unfoldable pub endsInZero : List ℕ → Bool
 endsInZero l = eqb (lastOr 0 l) 0
+
+-- A run with a zero put after it where its last byte is not zero.
+unfoldable pub withLastZero : List ℕ → List ℕ
+withLastZero l = l ++ cond (endsInZero l) [] (0 ∷ [])
 
 -- Where each of some strings begins, a zero between two, the first at place at.
 unfoldable pub placesOf : ℕ → List (List ℕ) → List ℕ

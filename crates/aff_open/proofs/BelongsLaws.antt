@@ -32,8 +32,8 @@ use Rattle.aff_format.specs.Recorded.{foundEntry, recordedEntry, recordedString
 use Rattle.aff_open.specs.Sections.{isKnown}
 use Rattle.aff_open.specs.declared.reader.Span.{Span}
 use Rattle.aff_open.specs.declared.reader.Reader.{Reader}
-use Rattle.aff_open.proofs.LostLaws.{Kept, stringEnd, string-kept, kept-string, name-until, name-zero, entry-kept, kept-entry}
-use Rattle.aff_format.proofs.RecordedLaws.{recorded-found}
+use Rattle.aff_open.proofs.LostLaws.{Kept, string-asks, entry-kept, kept-entry}
+use Rattle.aff_format.proofs.RecordedLaws.{recorded-found, name-ends}
 use Rattle.aff_tables.proofs.ParentLaws.{copied-climbs, copied-linked}
 
 known : (f : FoundEdition) → isKnown f ≡ true → (e : Edition) × (f ≡ Known e)
@@ -91,10 +91,10 @@ sections-hold image reader h =
 
 -- ---- Strings and nodes, where the lowest that is lost is none.
 
-pub strings-kept : (image : List ℕ) (symbols : Span) (strings : List ℕ) (count : ℕ) → lowestFrom (stringLost image symbols strings) count 0 ≡ Nothing
-    → (i : ℕ) → i < count → (symbols .offset ≤ getD strings i 0) × (stringEnd image symbols strings i < symbols .offset + symbols .size)
-strings-kept image symbols strings count none i l =
-    string-kept image symbols strings i (none-holds (stringLost image symbols strings) count 0 none i (omega arith) (omega arith))
+strings-kept : (symbols : Span) (strings : List ℕ) (count : ℕ) → lowestFrom (stringLost symbols strings) count 0 ≡ Nothing
+    → (i : ℕ) → i < count → (symbols .offset ≤ getD strings i 0) × (getD strings i 0 < symbols .offset + symbols .size)
+strings-kept symbols strings count none i l =
+    string-asks symbols strings i .0 (none-holds (stringLost symbols strings) count 0 none i (omega arith) (omega arith))
 
 module _ (image : List ℕ) (strings nodes : ℕ) (entries : List ℕ) (none : lowestFrom (nodeLost image strings nodes entries) nodes 1 ≡ Nothing) where
   -- Each entry is whole and has no fault.
@@ -136,12 +136,12 @@ belongs-record {image} {reader} {strings} {entries} h =
     let p = both (sizesBelong image reader strings entries) (sectionsInside image reader && tablesBelong image reader strings entries)
     (sym (belongs-parts image reader strings entries) ∙ h) in
     let q = both (sectionsInside image reader) (tablesBelong image reader strings entries) (p .1) in
-    let t = both (noneFrom (stringLost image (reader .symbols) strings) (reader .strings) 0) (nodesBelong image reader entries) (q .1) in
+    let t = both (noneFrom (stringLost (reader .symbols) strings) (reader .strings) 0) (nodesBelong image reader entries) (q .1) in
     let n = both (noneFrom (nodeLost image (reader .strings) (reader .nodes) entries) (reader .nodes) 1) (climbsBelong image reader entries) (t .1) in
     let s = sizes-hold image reader strings entries (p .0) in
     let e = known (editionOf (reader .edition)) (s .6) in
     let d = sections-hold image reader (q .0) in
-    let string = strings-kept image (reader .symbols) strings (reader .strings) (none-at _ (not-true _ (t .0))) in
+    let string = strings-kept (reader .symbols) strings (reader .strings) (none-at _ (not-true _ (t .0))) in
     let node = nodes-kept image (reader .strings) (reader .nodes) entries (none-at _ (not-true _ (n .0))) in
     record {
       length-recorded = s .0;
@@ -156,12 +156,7 @@ belongs-record {image} {reader} {strings} {entries} h =
       tree-inside = d .1;
       data-inside = d .2;
       string-begins = λ i l. string i l .0;
-      string-zero = λ i l. (
-        stringEnd image (reader .symbols) strings i,
-        omega arith,
-        string i l .1,
-        name-zero image (reader .symbols .offset + reader .symbols .size) (getD strings i 0) (d .0) (string i l .1),
-      );
+      string-before-end = λ i l. string i l .1;
       entry-whole = λ k l m. node k l m .0;
       parent-exists = λ k l m. node k l m .1 .parent;
       string-exists = λ k l m. node k l m .1 .string;
@@ -180,12 +175,10 @@ module _ {image : List ℕ} {reader : Reader} {strings entries : List ℕ} (b : 
   unfolding sectionsInside spanInside
   sections-true = rw (le-leb _ _ (b .symbols-inside), le-leb _ _ (b .tree-inside), le-leb _ _ (b .data-inside))
 
-  strings-none : lowestFrom (stringLost image (reader .symbols) strings) (reader .strings) 0 ≡ Nothing
+  strings-none : lowestFrom (stringLost (reader .symbols) strings) (reader .strings) 0 ≡ Nothing
   strings-none =
       holds-none _ (reader .strings) 0
-      (λ i l m.
-      let z = b .string-zero i (omega arith) in
-      kept-string image (reader .symbols) strings i (b .symbols-inside) (b .string-begins i (omega arith)) (z .0) (z .1) (z .2) (z .3))
+      (λ i l m. string-asks (reader .symbols) strings i .1 (b .string-begins i (omega arith), b .string-before-end i (omega arith)))
 
   nodes-none : lowestFrom (nodeLost image (reader .strings) (reader .nodes) entries) (reader .nodes) 1 ≡ Nothing
   unfolding nodeLost
@@ -212,19 +205,11 @@ none-belongs image strings entries = sizes-decide image noReader strings entries
 -- ---- What a call that passes 24 knows.
 
 module _ {image : List ℕ} {reader : Reader} {strings entries : List ℕ} (b : ReaderBelongs image reader strings entries) where
-  -- A string ends, and so begins, before the end of the symbol section, which is inside the image (`symbols-inside`). There is a zero.
+  -- No byte of a string is outside the symbol section, which is inside the image (`symbols-inside`).
   pub string-within : (i : ℕ) → i < reader .strings
-      → getD strings i 0 + length (recordedString image (reader .symbols .offset + reader .symbols .size) strings i) < reader .symbols .offset + reader .symbols .size
+      → getD strings i 0 + length (recordedString image (reader .symbols .offset + reader .symbols .size) strings i) ≤ reader .symbols .offset + reader .symbols .size
   string-within i l =
-      let z = b .string-zero i l in
-      omega (arith, name-until image (reader .symbols .offset + reader .symbols .size) (getD strings i 0) (b .symbols-inside) (z .0) (z .1) (z .2) (z .3))
-
-  pub place-within : (i : ℕ) → i < reader .strings → getD strings i 0 < reader .symbols .offset + reader .symbols .size
-  place-within i l = omega (arith, string-within i l)
-
-  pub string-ended : (i : ℕ) → i < reader .strings
-      → getD image (getD strings i 0 + length (recordedString image (reader .symbols .offset + reader .symbols .size) strings i)) 0 ≡ 0
-  string-ended i l = name-zero image (reader .symbols .offset + reader .symbols .size) (getD strings i 0) (b .symbols-inside) (string-within i l)
+      name-ends image (reader .symbols .offset + reader .symbols .size) (getD strings i 0) (omega (arith, b .string-before-end i l)) (b .symbols-inside)
 
   -- An entry lies inside the image.
   pub entry-within : (k : ℕ) → 0 < k → k ≤ reader .nodes → getD entries (k - 1) 0 + entrySize (recordedEntry image entries k .kind) ≤ length image

@@ -15,7 +15,6 @@ use Rattle.aff_format.specs.Bytes.{part, sameBytes}
 use Rattle.aff_format.specs.Edition.{headerSize, headerSumAt, hasCounts, signatureText}
 use Rattle.aff_format.specs.Limits.{imageLimit, stringLimit, nodeLimit}
 use Rattle.aff_format.specs.Lowest.{lowestFrom, isAt}
-use Rattle.aff_format.specs.Strings.{stringsOf, endsInZero, textOf}
 use Rattle.aff_format.specs.declared.section.Section.{Section}
 use Rattle.aff_format.specs.declared.section.Section.the-variants.{Symbol, Tree, Data}
 use Rattle.aff_format.specs.declared.edition.Edition.{Edition}
@@ -24,14 +23,13 @@ use Rattle.aff_format.specs.declared.refusal.RefusalCode.{RefusalCode}
 use Rattle.aff_format.proofs.ClimbLaws.{reaches-within}
 use Rattle.aff_format.proofs.LowestLaws.{none-holds, holds-none, none-at}
 use Rattle.aff_format.proofs.SameLaws.{same-eq, same-refl, ne-same}
-use Rattle.aff_format.proofs.StringsLaws.{endsInZero-textOf, textOf-stringsOf}
 use Rattle.aff_format.specs.Rule.{Rule, AllHold, FirstFails, Settled}
 use Rattle.aff_open.specs.Rules.{Inside, Summed, Counted, Unrepeated, FirstRepeat, Linked, Climbs, NameFree, DataInside}
 use Rattle.aff_open.specs.Faults.{nodeRules, treeRules, rulesFrom27, symbolRules, sectionRules, editionRules, rulesBefore27, rules}
 use Rattle.aff_tables.specs.Tables.{nodeEntry, isEmpty, countDiffers, repeats}
 use Rattle.aff_tables.specs.Nodes.{Contents, contentsOf, linkWrong, climbEndless, nameTaken, sameSite, dataOutside}
 use Rattle.aff_open.specs.Opening.{lengthsWrong, nodesChecked, tableChecks, formChecks, bodyChecks, upToTables, openChecks, openAnswer, readerFor, entryIn, contentsIn}
-use Rattle.aff_open.specs.Sections.{textEdition, isKnown, editionIn, sectionOffset, sectionSize, sectionRecords, sectionBytes, headerSumWrong, endsPast, sumWrong, stringsIn, nodesIn, bytesAfterNodes}
+use Rattle.aff_open.specs.Sections.{textEdition, isKnown, editionIn, sectionOffset, sectionSize, sectionRecords, headerSumWrong, endsPast, sumWrong, stringsIn, nodesIn, bytesAfterNodes}
 use Rattle.aff_open.specs.declared.reader.Reader.{Reader}
 use Rattle.aff_tables.proofs.LinkLaws.{link-asks, repeat-asks, repeat-found}
 use Rattle.aff_format.proofs.EntryLaws.{data-asks}
@@ -85,10 +83,7 @@ module _ (e : Edition) (s : Section) (image : List ℕ) where
       go true = (λ h q. eqb-true _ _ (not-false _ h), λ h. rw (eq-eqb _ _ (h refl)))
       go false = (λ h q. absurd (true≢false (sym q)), λ h. refl)
 
--- ---- The tables: 8, 25 to 27, 9.
-
-ends-asks : (l : List ℕ) → (not (endsInZero l) ≡ false) ↔ (l ≡ textOf (stringsOf l))
-ends-asks l = (λ h. sym (textOf-stringsOf l (not-false _ h)), λ h. ap not (ap endsInZero h ∙ endsInZero-textOf (stringsOf l)))
+-- ---- The tables: 25 to 27, 9.
 
 empty-asks : (l : List ℕ) → (not (isEmpty l) ≡ false) ↔ (l ≡ [])
 empty-asks l = (λ h. empty-is l (not-false _ h), λ h. rw h)
@@ -151,14 +146,13 @@ module _ (e : Edition) (image : List ℕ) where
 
   tables-ask : AskFor (tableChecks e image ++ nodesChecked e image) from-tables
   tables-ask =
-      one (ends-asks (sectionBytes e Symbol image))
-      (λ h. one (below-asks stringLimit (length (stringsIn e image)))
+      one (below-asks stringLimit (length (stringsIn e image)))
       (λ h. one (count-asks e Symbol image (length (stringsIn e image)))
       (λ h. each 27 (repeats (stringsIn e image)) (Unrepeated (stringsIn e image)) (length (stringsIn e image)) 0
       (λ k lo hi. repeat-asks (stringsIn e image) k (omega arith))
       (λ h. one (empty-asks (bytesAfterNodes e image))
       (λ h. one (count-asks e Tree image (length (nodesIn e image)))
-      (λ h. nodes-ask))))))
+      (λ h. nodes-ask)))))
 
   sections-ask : AskFor (bodyChecks e image ++ nodesChecked e image) (sectionRules e image ++ from-tables)
   sections-ask =
@@ -213,11 +207,11 @@ module _ (image form : List ℕ) (strings entries : ℕ) where
   repeats-reported e ss es k =
       let n = length es in
       each-reported 27 k (Unrepeated ss) (treeRules e image es ++ nodeRules e image ss es) (rulesBefore27 image form strings entries) (length ss) 0
-      (refl, (refl, (refl, (refl, (refl, (refl, (refl, (refl, (refl, (refl, (refl, (refl, (refl, (refl, (refl, tt)))))))))))))))
+      (refl, (refl, (refl, (refl, (refl, (refl, (refl, (refl, (refl, (refl, (refl, (refl, (refl, (refl, tt))))))))))))))
       (refl, (refl, other-each 27 10 refl _ _ n 1 (other-each 27 11 refl _ _ n 1 (other-each 27 12 refl _ _ n 1 (other-each 27 13 refl _ [] n 1 tt)))))
 
   -- So an opening is refused by 27 at string k exactly when that string equals an earlier one and no lower string does, and none of the rules before
-  -- fails, those of 8, 25 and 26 among them.
+  -- fails, those of 25 and 26 among them.
   pub refused-27 : (k : ℕ) → (openAnswer image form strings entries ≡ refused (refusalAt 27 k))
       ↔ (AllHold (rulesBefore27 image form strings entries) × FirstRepeat (stringsIn (editionIn image) image) k)
   unfolding rules

@@ -1,6 +1,7 @@
 -- An opening is accepted exactly where the file obeys the format: the rules in document 01's order are those of `Obeys`. Where a file obeys, the
 -- strings and entries that `Obeys` speaks of are those of its tables. Assumes nothing.
 use mathlib.Core.Path.{_≡_, refl, sym, ap, _∙_}
+use mathlib.Core.Bool.{false}
 use mathlib.Core.List.{List, [], _∷_, _++_}
 use Prim.Native.Nat.{ℕ, zero, suc, _≤_, _<_}
 use native.Mathlib.Omega.{arith}
@@ -10,14 +11,14 @@ use Rattle.aff_format.specs.Answer.{accepted}
 use Rattle.aff_format.specs.Bytes.{Without, EachWithout, Octets}
 use Rattle.aff_format.specs.Edition.{signatureText}
 use Rattle.aff_format.specs.Limits.{stringLimit, nodeLimit}
-use Rattle.aff_format.specs.Strings.{stringsOf}
+use Rattle.aff_format.specs.Strings.{stringsOf, endsInZero}
 use Rattle.aff_format.specs.declared.section.Section.{Section}
 use Rattle.aff_format.specs.declared.section.Section.the-variants.{Symbol, Tree, Data}
 use Rattle.aff_format.specs.declared.edition.Edition.{Edition}
 use Rattle.aff_format.specs.declared.entry.Entry.{Entry}
 use Rattle.aff_format.proofs.BytesLaws.{length-part, octets-part}
 use Rattle.aff_format.proofs.EditionLaws.{header-least}
-use Rattle.aff_format.proofs.StringsLaws.{stringsOf-textOf, strings-without-zero, each-at}
+use Rattle.aff_format.proofs.StringsLaws.{text-ended, strings-without-zero, strings-with-last-zero, last-zero-optional, each-at}
 use Rattle.aff_format.specs.Rule.{Rule, AllHold, eachFrom}
 use Rattle.aff_open.specs.Rules.{Inside, Summed, Unrepeated, Distinct, Linked, Climbs, NameFree, DataInside}
 use Rattle.aff_open.specs.Faults.{nodeRules, treeRules, rulesFrom27, symbolRules, sectionRules, rules}
@@ -102,7 +103,7 @@ hold-obeys image form o h =
     let e = editionIn image in
     let ((_, _, _, size), (_, ((d, text), (whole, (form-is, (sum, sections)))))) = h in
     let (in-symbol, (in-tree, (in-data, (sum-symbol, (sum-tree, (sum-data, tables)))))) = sections in
-    let (symbols, (few, (count, more))) = tables in
+    let (few, (count, more)) = tables in
     let (distinct, (rest, (number, nodes))) = strings-hold e image (stringsIn e image) (nodesIn e image) more in
     let (linked, climbs, free, inside) = nodes-hold e image (stringsIn e image) (nodesIn e image) nodes in
     record {
@@ -115,7 +116,7 @@ hold-obeys image form o h =
       inside = of-section (λ s. Inside e s image) in-symbol in-tree in-data;
       sums = of-section (λ s. Summed e s image) sum-symbol sum-tree sum-data;
       strings = stringsIn e image;
-      symbol-table = symbols;
+      symbol-table = sym (text-ended (sectionBytes e Symbol image));
       no-zero = λ i k l. without-at (getD (stringsIn e image) i []) (each-at 0 (stringsIn e image) i (strings-without-zero (sectionBytes e Symbol image))) k;
       few-strings = few;
       string-count = count;
@@ -144,7 +145,8 @@ module _ {image form : List ℕ} (o : Obeys image form) where
   edition-found = ap orTwo (known-text (o .edition) image (o .text))
 
   pub strings-found : stringsIn (o .edition) image ≡ o .strings
-  strings-found = ap stringsOf (o .symbol-table) ∙ stringsOf-textOf (o .strings) (each-without (o .strings) (o .no-zero))
+  strings-found =
+      strings-with-last-zero (sectionBytes (o .edition) Symbol image) (o .strings) (o .symbol-table) (each-without (o .strings) (o .no-zero))
 
   tree-found : (nodesIn (o .edition) image ≡ o .entries) × (bytesAfterNodes (o .edition) image ≡ [])
   tree-found = rw (o .tree-table) (bytes-tree (o .entries) nodeLimit (o .storable) (o .few-nodes))
@@ -166,7 +168,7 @@ module _ {image form : List ℕ} (o : Obeys image form) where
         λ k lo hi. o .data-inside k lo (omega arith),
       ) in
       let more = hold-strings (o .edition) image (o .strings) (o .entries) (o .distinct) (tree-found .1, (o .node-count, nodes)) in
-      rw (strings-found, entries-found) (o .symbol-table, (o .few-strings, (o .string-count, more)))
+      rw (strings-found, entries-found) (o .few-strings, (o .string-count, more))
 
   sections-hold : AllHold (sectionRules (o .edition) image ++ from-tables)
   sections-hold = (o .inside Symbol, (o .inside Tree, (o .inside Data, (o .sums Symbol, (o .sums Tree, (o .sums Data, tables-hold))))))
@@ -178,6 +180,16 @@ module _ {image form : List ℕ} (o : Obeys image form) where
       let long : 144 ≤ length image = omega (arith, header-least (o .edition)) in
       let twelve : length form ≡ 12 = ap length (sym (o .number-form)) ∙ length-part 20 12 image (omega arith) in
       rw edition-found ((twelve, refl, refl, o .size), (long, ((o .edition, o .text), (whole, (o .number-form, (o .header-sum, sections-hold))))))
+
+-- ---- The zero of the last string is no part of what a file shows.
+
+-- A file whose symbol table does not end in zero, and a file with that table and one zero after it, have the same strings. (So each table that is not
+-- empty may be written in two ways; the other sections, sums and offsets may be anything that obeys.)
+pub same-strings : {image ended form form-ended : List ℕ} (o : Obeys image form) (p : Obeys ended form-ended)
+    → endsInZero (sectionBytes (o .edition) Symbol image) ≡ false
+    → sectionBytes (p .edition) Symbol ended ≡ sectionBytes (o .edition) Symbol image ++ (0 ∷ []) → p .strings ≡ o .strings
+same-strings {image} o p h is =
+    sym (strings-found p) ∙ ap stringsOf is ∙ last-zero-optional (sectionBytes (o .edition) Symbol image) h ∙ strings-found o
 
 -- ---- An opening is accepted exactly where the file obeys.
 
@@ -194,7 +206,7 @@ unfolding rules
 accepted-nodes image form strings entries h =
     let (_, (_, (_, (_, (_, (_, sections)))))) = accepted-hold image form strings entries h in
     let (_, (_, (_, (_, (_, (_, tables)))))) = sections in
-    let (_, (_, (_, more))) = tables in
+    let (_, (_, more)) = tables in
     let e = editionIn image in
     let (_, (_, (_, nodes))) = strings-hold e image (stringsIn e image) (nodesIn e image) more in
     nodes-hold e image (stringsIn e image) (nodesIn e image) nodes

@@ -30,9 +30,8 @@ use Rattle.aff_open.specs.passes.Opening.{Readable, StringsLaid, Entries
 use Rattle.aff_open.specs.Sections.{editionIn, sectionOffset, sectionSize, sectionBytes, stringsIn, nodesIn}
 use Rattle.aff_open.specs.declared.reader.Reader.{Reader}
 use Rattle.aff_open.proofs.BelongsLaws.{record-belongs}
-use Rattle.aff_open.proofs.LostLaws.{name-zero}
 use Rattle.aff_open.proofs.OpeningLaws.{checked-by}
-use Rattle.aff_open.proofs.TablesLaws.{lengths-right, section-inside, tables-lengths, tables-readable, tables-ended, strings-filled, entries-filled, tables-strings, tables-entries}
+use Rattle.aff_open.proofs.TablesLaws.{lengths-right, section-inside, tables-lengths, tables-readable, strings-filled, entries-filled, tables-strings, tables-entries}
 
 abbrev zeros : List ℕ → List ℕ
 zeros area = replicate (length area) 0
@@ -109,9 +108,6 @@ module _ (image form strings entries : List ℕ) {r : Reader} (h : openAnswer im
   abbrev end : ℕ
   end = sectionOffset e Symbol image + sectionSize e Symbol image
 
-  abbrev text : ℕ → List ℕ
-  text = recordedString image end ss
-
   abbrev node : ℕ → Entry
   node = recordedEntry image es
 
@@ -127,13 +123,12 @@ module _ (image form strings entries : List ℕ) {r : Reader} (h : openAnswer im
       (checked-by laid-strings laid-entries (spanOf e Symbol image) (spanOf e Data image) refl refl (tt {0})
       ∙ clear-accepts (nodesChecked e image) (tt {0}) (clear .1))
 
-  placed : (i : ℕ) → i < n
-      → (sectionOffset e Symbol image ≤ getD ss i 0) × (getD ss i 0 + length (text i) < end)
+  placed : (i : ℕ) → i < n → (sectionOffset e Symbol image ≤ getD ss i 0) × (getD ss i 0 < end)
   unfolding sectionBytes
   placed i l =
       rw strings-after
       (string-placed image (sectionOffset e Symbol image) (sectionSize e Symbol image) (zeros strings) (omega (arith, laid-strings .placed .few, strings-long))
-      (tables-ended image form strings entries found) (section-inside Symbol readable) i l)
+      (section-inside Symbol readable) i l)
 
   entries-whole : (k : ℕ) → 0 < k → k ≤ m → foundEntry image es k ≡ Whole (node k)
   unfolding sectionBytes
@@ -161,12 +156,7 @@ module _ (image form strings entries : List ℕ) {r : Reader} (h : openAnswer im
         tree-inside = section-inside Tree readable;
         data-inside = data-end;
         string-begins = λ i l. placed i l .0;
-        string-zero = λ i l. (
-          getD ss i 0 + length (text i),
-          omega arith,
-          placed i l .1,
-          name-zero image end (getD ss i 0) (section-inside Symbol readable) (placed i l .1),
-        );
+        string-before-end = λ i l. placed i l .1;
         entry-whole = entries-whole;
         parent-exists = λ k lo hi. link k lo hi .0;
         string-exists = λ k lo hi. link k lo hi .1;

@@ -12,7 +12,7 @@ use Rattle.aff_format.specs.Answer.{Answer, accepted, refused, firstWrong, Clea
 use Rattle.aff_format.specs.Bytes.{part, laidOver}
 use Rattle.aff_format.specs.Edition.{headerSize}
 use Rattle.aff_format.specs.Refusal.{codeOfRefusal}
-use Rattle.aff_format.specs.Strings.{stringsOf, endsInZero}
+use Rattle.aff_format.specs.Strings.{stringsOf}
 use Rattle.aff_format.specs.declared.section.Section.{Section}
 use Rattle.aff_format.specs.declared.section.Section.the-variants.{Symbol, Tree}
 use Rattle.aff_format.specs.declared.edition.Edition.{Edition}
@@ -88,7 +88,7 @@ strings-laid e image area strings n r h long is =
     let from = sectionOffset e Symbol image in
     let size = sectionSize e Symbol image in
     let l : List ℕ = part from size image in
-    let (_, f, distinct) = symbols-clear e (sectionRecords e Symbol image) l (passed (symbolsChecked e image) (length (stringsIn e image)) h) in
+    let (f, distinct) = symbols-clear e (sectionRecords e Symbol image) l (passed (symbolsChecked e image) (length (stringsIn e image)) h) in
     let c : length (stringsOf l) ≡ n = passed-value (symbolsChecked e image) (length (stringsIn e image)) h in
     record {
       counted = sym c;
@@ -216,9 +216,6 @@ module _ (image form strings entries : List ℕ) {s : TableSizes} (h : tablesAns
   tables-readable =
       readable-by e image (header-clear image e form (clear-accepts (headerChecks image form) e (headers .0)) .1)
       (lengths-right image form (length strings) (length entries) tables-lengths .3) (clear-accepts (sectionChecks e image) (tt {0}) (sections .0))
-
-  pub tables-ended : endsInZero (sectionBytes e Symbol image) ≡ true
-  tables-ended = symbols-clear e (sectionRecords e Symbol image) (sectionBytes e Symbol image) (symbols .0) .0
 
   strings-long : length (zeros strings) ≡ 2048
   strings-long = length-replicate {A = ℕ} (length strings) 0 ∙ lengths-right image form (length strings) (length entries) tables-lengths .1

@@ -1,4 +1,5 @@
--- 24 for the reader: document 01, 'Numbers handed back', the paragraph after the table. All that is recorded is judged, and nothing else.
+-- 24 for the reader: document 01, 'Numbers handed back', the paragraph after the table, with request C-13. All that is recorded is judged, and
+-- nothing else.
 use mathlib.Core.Path.{_≡_}
 use mathlib.Core.Bool.{Bool, true, false, _&&_, _||_}
 use mathlib.Core.List.{List}
@@ -16,7 +17,7 @@ use Rattle.aff_format.specs.declared.entry.FoundEntry.{FoundEntry}
 use Rattle.aff_format.specs.declared.entry.FoundEntry.the-variants.{Whole, Broken}
 use Rattle.aff_format.specs.Entry.{noParent, noString, outside}
 use Rattle.aff_tables.specs.Nodes.{climbEndless}
-use Rattle.aff_format.specs.Recorded.{foundEntry, recordedEntry, recordedString}
+use Rattle.aff_format.specs.Recorded.{foundEntry, recordedEntry}
 use Rattle.aff_open.specs.Sections.{isKnown}
 use Rattle.aff_open.specs.declared.reader.Span.{Span}
 use Rattle.aff_open.specs.declared.reader.Reader.{Reader}
@@ -37,11 +38,9 @@ sizesBelong image reader strings entries =
 unfoldable pub spanInside : List ℕ → Span → Bool
 spanInside image span = leb (span .offset + span .size) (length image)
 
--- String i does not begin, or has no zero from there on, inside the symbol section.
-unfoldable pub stringLost : List ℕ → Span → List ℕ → ℕ → Bool
-stringLost image symbols strings i =
-    ltb (getD strings i 0) (symbols .offset)
-    || leb (symbols .offset + symbols .size) (getD strings i 0 + length (recordedString image (symbols .offset + symbols .size) strings i))
+-- String i does not begin inside the symbol section. It ends at its first zero from there on, or at the section's end (`recordedString`).
+unfoldable pub stringLost : Span → List ℕ → ℕ → Bool
+stringLost symbols strings i = ltb (getD strings i 0) (symbols .offset) || leb (symbols .offset + symbols .size) (getD strings i 0)
 
 -- An entry falls outside the image or its type does not exist; its parent or string number does not exist; its data fall outside the image.
 abbrev pub entryLost : ℕ → ℕ → ℕ → FoundEntry → Bool
@@ -57,7 +56,7 @@ placesBelong image reader strings entries =
     spanInside image (reader .symbols)
     && (spanInside image (reader .tree)
     && (spanInside image (reader .«data»)
-    && (noneFrom (stringLost image (reader .symbols) strings) (reader .strings) 0
+    && (noneFrom (stringLost (reader .symbols) strings) (reader .strings) 0
     && noneFrom (nodeLost image (reader .strings) (reader .nodes) entries) (reader .nodes) 1)))
 
 -- No climb takes more steps than there are nodes.
@@ -85,10 +84,9 @@ pub record ReaderBelongs (image : List ℕ) (reader : Reader) (strings entries :
   pub symbols-inside : reader .symbols .offset + reader .symbols .size ≤ length image
   pub tree-inside : reader .tree .offset + reader .tree .size ≤ length image
   pub data-inside : reader .«data» .offset + reader .«data» .size ≤ length image
-  -- Each string begins inside the symbol section, and a zero is there from it on.
+  -- Each string begins inside the symbol section: not before its start, and before its end.
   pub string-begins : (i : ℕ) → i < reader .strings → reader .symbols .offset ≤ getD strings i 0
-  pub string-zero : (i : ℕ) → i < reader .strings
-      → (z : ℕ) × (getD strings i 0 ≤ z) × (z < reader .symbols .offset + reader .symbols .size) × (getD image z 0 ≡ 0)
+  pub string-before-end : (i : ℕ) → i < reader .strings → getD strings i 0 < reader .symbols .offset + reader .symbols .size
   -- Each entry is one of the image, with a type that exists; its parent and its string exist; its data lie inside the image.
   pub entry-whole : (k : ℕ) → 0 < k → k ≤ reader .nodes → foundEntry image entries k ≡ Whole (recordedEntry image entries k)
   pub parent-exists : (k : ℕ) → 0 < k → k ≤ reader .nodes → recordedEntry image entries k .parent ≤ reader .nodes

@@ -11,12 +11,11 @@ use Rattle.aff_format.specs.Bytes.{part}
 use Rattle.aff_format.specs.Edition.{headerSize, headerSumAt, signatureText}
 use Rattle.aff_format.specs.Limits.{imageLimit, stringLimit, nodeLimit}
 use Rattle.aff_format.specs.Rule.{Rule, rule, eachFrom}
-use Rattle.aff_format.specs.Strings.{textOf}
 use Rattle.aff_format.specs.declared.section.Section.the-variants.{Symbol, Tree, Data}
 use Rattle.aff_format.specs.declared.edition.Edition.{Edition}
 use Rattle.aff_format.specs.declared.entry.Entry.{Entry}
 use Rattle.aff_open.specs.Rules.{Inside, Summed, Counted, Unrepeated, Linked, Climbs, NameFree, DataInside}
-use Rattle.aff_open.specs.Sections.{editionIn, sectionBytes, stringsIn, nodesIn, bytesAfterNodes}
+use Rattle.aff_open.specs.Sections.{editionIn, stringsIn, nodesIn, bytesAfterNodes}
 
 -- 1, then 2, text 3. `strings` and `entries` are the lengths of the areas passed.
 abbrev pub textRules : List ℕ → List ℕ → ℕ → ℕ → List Rule
@@ -45,11 +44,10 @@ sectionRules e image =
     ∷ rule (Summed e Data image) (refusalAt 7 3)
     ∷ []
 
--- 8, 25 and 26, of the symbol table. 25 reports the first string beyond the limit: strings are numbered from 0.
+-- 25 and 26, of the symbol table. 25 reports the first string beyond the limit: strings are numbered from 0.
 abbrev pub symbolRules : Edition → List ℕ → List (List ℕ) → List Rule
 symbolRules e image strings =
-    rule (sectionBytes e Symbol image ≡ textOf strings) (refusal 8)
-    ∷ rule (length strings ≤ stringLimit) (refusalAt 25 stringLimit)
+    rule (length strings ≤ stringLimit) (refusalAt 25 stringLimit)
     ∷ rule (Counted e Symbol image (length strings)) (refusal 26)
     ∷ []
 
@@ -79,7 +77,7 @@ abbrev pub rulesFrom27 : Edition → List ℕ → List (List ℕ) → List Entry
 rulesFrom27 e image strings entries =
     eachFrom 27 (Unrepeated strings) (length strings) 0 (treeRules e image entries ++ nodeRules e image strings entries)
 
--- Order: 1, then 2, text 3, edition 2's length 2, then 4 to 8, 25 to 27, 9 to 13.
+-- Order: 1, then 2, text 3, edition 2's length 2, then 4 to 7, 25 to 27, 9 to 13.
 unfoldable pub rules : List ℕ → List ℕ → ℕ → ℕ → List Rule
 rules image form strings entries =
     rulesBefore27 image form strings entries

@@ -9,7 +9,7 @@ use Rattle.aff_format.specs.Bytes.{part}
 use Rattle.aff_format.specs.Edition.{headerSize, headerSumAt, signatureText}
 use Rattle.aff_format.specs.Entry.{Storable}
 use Rattle.aff_format.specs.Limits.{imageLimit, stringLimit, nodeLimit}
-use Rattle.aff_format.specs.Strings.{textOf}
+use Rattle.aff_format.specs.Strings.{textOf, withLastZero}
 use Rattle.aff_format.specs.declared.section.Section.{Section}
 use Rattle.aff_format.specs.declared.section.Section.the-variants.{Symbol, Tree}
 use Rattle.aff_format.specs.declared.edition.Edition.{Edition}
@@ -29,9 +29,9 @@ pub record Obeys (image form : List ℕ) : Type 0 where
   -- The sections, which may be anywhere and overlap.
   pub inside : (s : Section) → Inside edition s image
   pub sums : (s : Section) → Summed edition s image
-  -- The symbol table: a run of strings, each ended by a zero byte; no string occurs twice.
+  -- The symbol table: a run of strings, each ended by a zero byte, which the last one may lack (request C-13); no string occurs twice.
   pub strings : List (List ℕ)
-  pub symbol-table : sectionBytes edition Symbol image ≡ textOf strings
+  pub symbol-table : withLastZero (sectionBytes edition Symbol image) ≡ textOf strings
   pub no-zero : (i k : ℕ) → i < length strings → k < length (getD strings i []) → getD (getD strings i []) k 0 ≡ 0 → ⊥
   pub few-strings : length strings ≤ stringLimit
   pub string-count : Counted edition Symbol image (length strings)

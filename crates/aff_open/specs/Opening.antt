@@ -66,7 +66,7 @@ sumChecks e image =
 abbrev pub sectionChecks : Edition → List ℕ → List Check
 sectionChecks e image = insideChecks e image ++ sumChecks e image
 
--- Of the two tables: 8 and 25 to 27, then 9.
+-- Of the two tables: 25 to 27, then 9.
 abbrev pub symbolsChecked : Edition → List ℕ → List Check
 symbolsChecked e image = symbolChecks e (sectionRecords e Symbol image) (sectionBytes e Symbol image)
 
@@ -76,7 +76,7 @@ treeChecked e image = treeChecks e (sectionRecords e Tree image) (sectionBytes e
 abbrev pub tableChecks : Edition → List ℕ → List Check
 tableChecks e image = symbolsChecked e image ++ treeChecked e image
 
--- 6 to 8, 25 to 27, 9: all that is asked after the header and before the nodes.
+-- 6, 7, 25 to 27, 9: all that is asked after the header and before the nodes.
 abbrev pub bodyChecks : Edition → List ℕ → List Check
 bodyChecks e image = sectionChecks e image ++ tableChecks e image
 
@@ -94,12 +94,12 @@ contentsIn e image = contentsOf (stringsIn e image) (nodesIn e image)
 abbrev pub nodesChecked : Edition → List ℕ → List Check
 nodesChecked e image = nodeChecks e (sectionOffset e Data image) (sectionSize e Data image) (contentsIn e image)
 
--- 1, then 2, text 3, edition 2's length 2, then 4 to 8, 25 to 27, 9: up to the tables.
+-- 1, then 2, text 3, edition 2's length 2, then 4 to 7, 25 to 27, 9: up to the tables.
 unfoldable pub upToTables : List ℕ → List ℕ → ℕ → ℕ → List Check
 upToTables image form strings entries =
     check (lengthsWrong image form strings entries) (refusal 1) ∷ (headerChecks image form ++ bodyChecks (editionIn image) image)
 
--- Order: 1, then 2, text 3, edition 2's length 2, then 4 to 8, 25 to 27, 9 to 13.
+-- Order: 1, then 2, text 3, edition 2's length 2, then 4 to 7, 25 to 27, 9 to 13.
 unfoldable pub openChecks : List ℕ → List ℕ → ℕ → ℕ → List Check
 openChecks image form strings entries = upToTables image form strings entries ++ nodesChecked (editionIn image) image
 

@@ -1,4 +1,4 @@
-// Whether a record belongs to what is passed with it (24). Linear in the symbol section, the strings and the nodes.
+// Whether a record belongs to what is passed with it (24). Linear in the strings and the nodes; no byte of the symbol section is read.
 use crate::reader::Reader;
 use crate::reader::Span;
 use aff_format::Edition;
@@ -19,7 +19,7 @@ ghost use Rattle.aff_format.specs.Lowest.{lowestFrom};
 ghost use Rattle.aff_format.specs.declared.entry.FoundEntry.the-variants.{Whole};
 ghost use Rattle.aff_format.specs.declared.lowest.Lowest.the-variants.{Nothing};
 ghost use Rattle.aff_open.specs.Belongs.{readerBelongs as belongsOf, sizesBelong, spanInside, stringLost, entryLost, nodeLost};
-ghost use Rattle.aff_open.specs.passes.Belongs.{sectionsInside, nodesBelong, tablesBelong, LastZero, placeOutside, ParentsCopied};
+ghost use Rattle.aff_open.specs.passes.Belongs.{sectionsInside, nodesBelong, tablesBelong, ParentsCopied};
 ghost use Rattle.aff_format.specs.Recorded.{recordedEntry};
 ghost use Rattle.aff_open.specs.Sections.{isKnown};
 
@@ -83,29 +83,16 @@ fn sections_inside(image: &[u8], reader: Reader) -> bool
     span_inside(image, data)
 }
 
-// The place after the last zero from `from` to `end`; `from` where there is none. One pass backwards, up to that zero.
-fn after_zero(image: &[u8], from: usize, end: usize) -> usize
-    requires { ⌜ (from ≤ end) × (end ≤ length (now image)) ⌝ }
-    ensures { λ r. ⌜ LastZero (now (image .entry)) from end r ⌝ }
+// The lowest string that does not begin inside the symbol section. Two comparisons a string; it ends at its zero or at the section's end.
+fn lost_string(symbols: Span, strings: &[u32], count: usize) -> Lowest
+    requires { ⌜ symbols .offset + symbols .size ≤ imageLimit ⌝ }
+    ensures { λ r. ⌜ r ≡ lowestFrom (stringLost symbols (now (strings .entry))) count 0 ⌝ }
 {
-    let mut at = end;
-    while from < at {
-        let before = at - 1;
-        if image[before] == 0 {
-            return at;
-        }
-        at = before;
-    }
-    at
-}
-
-// The lowest of the first `count` places that is not one from `from` on and below `end`. Two comparisons a place.
-fn outside_place(places: &[u32], count: usize, from: usize, end: usize) -> Lowest
-    ensures { λ r. ⌜ r ≡ lowestFrom (placeOutside from end (now (places .entry))) count 0 ⌝ }
-{
+    let from = symbols.offset;
+    let end = from + symbols.size;
     let mut i: usize = 0;
     while i < count {
-        let place = recorded::place(places, i);
+        let place = recorded::place(strings, i);
         if place < from {
             return Lowest::At(i);
         }
@@ -115,16 +102,6 @@ fn outside_place(places: &[u32], count: usize, from: usize, end: usize) -> Lowes
         i += 1;
     }
     Lowest::Nothing
-}
-
-// The lowest string that begins outside the symbol section or after its last zero. That zero is searched once.
-fn lost_string(image: &[u8], symbols: Span, strings: &[u32], count: usize) -> Lowest
-    requires { ⌜ symbols .offset + symbols .size ≤ length (now image) ⌝ }
-    ensures { λ r. ⌜ r ≡ lowestFrom (stringLost (now (image .entry)) symbols (now (strings .entry))) count 0 ⌝ }
-{
-    let from = symbols.offset;
-    let end = after_zero(image, from, from + symbols.size);
-    outside_place(strings, count, from, end)
 }
 
 // Whether an entry's parent or string does not exist, or its data fall outside the first `size` bytes.
@@ -192,14 +169,13 @@ fn tables_belong(image: &[u8], reader: Reader, strings: &[u32], entries: &[u32])
     ensures { λ r. ⌜ r ≡ tablesBelong (now (image .entry)) reader (now (strings .entry)) (now (entries .entry)) ⌝ }
 {
     let symbols = reader.symbols;
-    match lost_string(image, symbols, strings, reader.strings) {
+    match lost_string(symbols, strings, reader.strings) {
         Lowest::At(_) => false,
         Lowest::Nothing => nodes_belong(image, reader, entries),
     }
 }
 
-// 24: over all that is recorded, whatever the record and the areas hold. One pass over the symbol section at most, one over the strings,
-// one over the nodes, and their climbs.
+// 24: over all that is recorded, whatever the record and the areas hold. One pass over the strings, one over the nodes, and their climbs.
 pub fn belongs(image: &[u8], reader: Reader, strings: &[u32], entries: &[u32]) -> bool
     ensures { λ r. ⌜ r ≡ belongsOf (now (image .entry)) reader (now (strings .entry)) (now (entries .entry)) ⌝ }
 {

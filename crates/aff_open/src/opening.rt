@@ -108,7 +108,7 @@ fn with_tables(image: &[u8], sizes: TableSizes, strings: &mut [u32], entries: &m
 
 // Validates a complete file image in memory and fills the two work areas. `form` has the 12 bytes expected after the signature text (`form_for` has
 // those of our programs); `strings` and `entries` are two areas of 2,048 numbers, which an accepted opening fills with the places of the strings and
-// of the entries. A refusal's numbers are, in this order, 1 to 8, 25 to 27 (what is wrong with the strings of the symbol table) and 9 to 13; 1 changes
+// of the entries. A refusal's numbers are, in this order, 1 to 7, 25 to 27 (what is wrong with the strings of the symbol table) and 9 to 13; 1 changes
 // nothing, another leaves both areas all zero.
 pub fn open(image: &[u8], form: &[u8], strings: &mut [u32], entries: &mut [u32]) -> Opening
     ensures answer { λ r. ⌜ answerOfOpening r ≡ openAnswer (now (image .entry)) (now (form .entry)) (length (now (strings .entry))) (length (now (entries .entry))) ⌝ }

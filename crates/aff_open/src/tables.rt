@@ -1,4 +1,4 @@
-// Opening up to the tables: 1 to 9, with 25 to 27 after 8.
+// Opening up to the tables: 1 to 7, 25 to 27, 9.
 use crate::header;
 use crate::header::HeaderResult;
 use crate::sections;
@@ -63,7 +63,7 @@ pub fn clear(area: &mut [u32])
     }
 }
 
-// 8 and 25 to 27, of the image's symbol section.
+// 25 to 27, of the image's symbol section.
 fn symbol_table(image: &[u8], edition: Edition, strings: &mut [u32]) -> Symbols
     requires { ⌜ Readable edition (now image) × (length (now strings) ≡ 2048) ⌝ }
     ensures { λ r. ⌜ r ≡ symbolsIn edition (now (image .entry)) ⌝ }
@@ -102,7 +102,7 @@ fn with_strings(image: &[u8], edition: Edition, strings: usize, entries: &mut [u
     }
 }
 
-// After the sums: 8 and 25 to 27, then 9.
+// After the sums: 25 to 27, then 9.
 fn with_sections(
     image: &[u8],
     edition: Edition,
@@ -168,7 +168,7 @@ fn in_cleared(image: &[u8], form: &[u8], strings: &mut [u32], entries: &mut [u32
     }
 }
 
-// Reads the tables of an image and fills the two areas with the places of its strings and of its entries. A refusal's numbers are 1 to 9 and 25 to 27.
+// Reads the tables of an image and fills the two areas with the places of its strings and of its entries. A refusal's numbers are 1 to 7, 25 to 27 and 9.
 // Nothing is asked of the nodes, so their parents and strings may not exist. 1 changes nothing; another refusal leaves both areas all zero.
 pub fn open_tables(
     image: &[u8],

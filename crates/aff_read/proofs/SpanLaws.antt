@@ -9,7 +9,7 @@ use borrow.Author.Tests.{eq-eqb, ne-eqb}
 use mathlib.Core.Logic.{⊎-elim}
 use Rattle.aff_format.proofs.ClimbLaws.{absurd-bool, at-zero}
 use Rattle.aff_format.specs.Recorded.{nameFrom, recordedEntry}
-use Rattle.aff_open.proofs.BelongsLaws.{place-within, string-within}
+use Rattle.aff_open.proofs.BelongsLaws.{string-within}
 use Rattle.aff_format.specs.Bytes.{part}
 use Rattle.aff_format.specs.Kind.{elementSize, isVoid}
 use Rattle.aff_format.specs.declared.entry.Entry.{Entry}
@@ -59,7 +59,7 @@ module _ {image : List ℕ} {reader : Reader} {strings entries : List ℕ} (b : 
 
   -- The name's place and its end.
   pub name-from : 0 < node → getD strings (recordedEntry image entries node .string) 0 ≤ symbolsEnd reader
-  name-from h = let p = place-within b (recordedEntry image entries node .string) (b .string-exists node h there) in omega arith
+  name-from h = let p = b .string-before-end (recordedEntry image entries node .string) (b .string-exists node h there) in omega arith
 
   pub name-within : nameSpan image reader strings entries node .offset + nameSpan image reader strings entries node .size ≤ length image
   unfolding nameSpan nameAt

@@ -80,7 +80,7 @@ pub fn data_span(
     }
 }
 
-// The name of a node: where it is in the image, without its zero. The root's is empty.
+// The name of a node: where it is in the image, up to its zero or to the symbol section's end. The root's is empty.
 pub fn name_bounds(
     image: &[u8],
     reader: Reader,

@@ -15,7 +15,7 @@ use Rattle.aff_format.specs.Bytes.{part, spliced}
 use Rattle.aff_format.specs.Edition.{signatureText}
 use Rattle.aff_format.specs.Kind.{isVoid}
 use Rattle.aff_format.specs.Number.{beOf, beBytes}
-use Rattle.aff_format.specs.Strings.{textOf}
+use Rattle.aff_format.specs.Strings.{textOf, withLastZero}
 use Rattle.aff_format.specs.Tree.{Tree, treeNode, reachesBy}
 use Rattle.aff_format.specs.declared.section.Section.{Section}
 use Rattle.aff_format.specs.declared.section.Section.the-variants.{Symbol, Data}
@@ -24,7 +24,7 @@ use Rattle.aff_format.specs.declared.edition.Edition.the-variants.{Two}
 use Rattle.aff_format.proofs.BytesLaws.{laid, length-part, length-spliced, drop-take, spliced-more}
 use Rattle.aff_format.proofs.EditionLaws.{length-signatureText}
 use Rattle.aff_format.proofs.NumberLaws.{length-beBytes, beOf-beBytes}
-use Rattle.aff_format.proofs.StringsLaws.{each-at}
+use Rattle.aff_format.proofs.StringsLaws.{each-at, withLastZero-textOf}
 use Rattle.aff_open.proofs.ObeysLaws.{without-at, edition-found, strings-found, entries-found}
 use Rattle.aff_open.specs.Obeys.{Obeys}
 use Rattle.aff_tables.specs.Tables.{nodeEntry, treeBytes}
@@ -309,7 +309,7 @@ module _ (s : State) (tree : Tree) (g : Invariant s tree) where
         inside = inside;
         sums = λ t. sum-is t ∙ ap md5 (sym (bytes-are t));
         strings = names;
-        symbol-table = bytes-are Symbol;
+        symbol-table = ap withLastZero (bytes-are Symbol) ∙ withLastZero-textOf names;
         no-zero = λ i k l m. without-at (getD names i []) (each-at 0 names i (clean s tree g)) k m;
         few-strings = g .strings-few;
         string-count = λ c. count-is Symbol;

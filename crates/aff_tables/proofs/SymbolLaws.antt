@@ -1,24 +1,24 @@
 -- The strings that begin at the places of a section's strings are its strings; and what the symbol table answers. Assumes nothing.
-use mathlib.Core.Path.{_≡_, refl, sym, ap, _∙_}
-use mathlib.Core.Bool.{Bool, true, false, cond, not}
+use mathlib.Core.Path.{_≡_, refl, sym, _∙_}
+use mathlib.Core.Bool.{Bool, true, false, cond}
 use mathlib.Core.List.{List, [], _∷_, map}
 use Prim.Native.Nat.{ℕ, suc, _+_, _≤_, _<_}
 use native.Mathlib.Omega.{arith}
 use lib.Dec.{leb, ltb}
 use lib.ListN.{length, getD, take}
-use borrow.Author.Tests.{leb-true, leb-false, lt-ltb, le-ltb, ltb-false, not-false}
+use borrow.Author.Tests.{leb-true, leb-false, lt-ltb, le-ltb, ltb-false}
 use Rattle.aff_format.specs.Answer.{accepted, firstWrong, Clear}
 use Rattle.aff_format.specs.Bytes.{part, laidOver}
 use Rattle.aff_format.specs.Limits.{stringLimit}
 use Rattle.aff_format.specs.Lowest.{lowestFrom}
-use Rattle.aff_format.specs.Strings.{stringsOf, endsInZero, placesOf}
+use Rattle.aff_format.specs.Strings.{stringsOf, placesOf}
 use Rattle.aff_format.specs.declared.edition.Edition.{Edition}
 use Rattle.aff_format.specs.declared.lowest.Lowest.{Lowest}
 use Rattle.aff_format.specs.declared.lowest.Lowest.the-variants.{Nothing, At}
 use Rattle.aff_format.proofs.AnswerLaws.{not-both}
 use Rattle.aff_format.proofs.BytesLaws.{length-part}
 use Rattle.aff_format.proofs.LowestLaws.{clear-lowest}
-use Rattle.aff_format.proofs.StringsLaws.{length-placesOf, placesOf-from, string-begins, string-ends, string-in-section}
+use Rattle.aff_format.proofs.StringsLaws.{length-placesOf, placesOf-from, string-begins, string-in-section}
 use Rattle.aff_tables.specs.passes.Distinct.{Places}
 use Rattle.aff_tables.specs.Tables.{symbolChecks, countDiffers, namesAt, repeats}
 use Rattle.aff_tables.specs.passes.Results.{splitOf, answerOfSymbols, countedOf, symbolsOf}
@@ -66,16 +66,15 @@ module _ (image : List ℕ) (from size : ℕ) where
               (omega (arith, placesOf-from from strings k h, string-begins (part from size image) k h, length-part from size image b));
         }
 
-    -- Of a section that ends in zero each string begins and ends inside it.
-    pub string-placed : endsInZero (part from size image) ≡ true → from + size ≤ length image → (i : ℕ) → i < length strings
-        → (from ≤ getD (laidOver area (placesOf from strings)) i 0)
-        × (getD (laidOver area (placesOf from strings)) i 0 + length (recordedString image (from + size) (laidOver area (placesOf from strings)) i) < from + size)
-    string-placed e b i h =
+    -- Each string begins inside the section.
+    pub string-placed : from + size ≤ length image → (i : ℕ) → i < length strings
+        → (from ≤ getD (laidOver area (placesOf from strings)) i 0) × (getD (laidOver area (placesOf from strings)) i 0 < from + size)
+    string-placed b i h =
         let p = laid-at area (placesOf from strings) i (rw length-placesOf h) (omega arith) in
         let q = placesOf-from from strings i h in
-        let z = string-ends (part from size image) i e h in
+        let z = string-begins (part from size image) i h in
         let n = length-part from size image b in
-        (rw p (omega arith), rw (string-recorded i h, p) (omega arith))
+        (rw p (omega arith), rw p (omega arith))
 
 -- The answers of the symbol table.
 
@@ -96,23 +95,22 @@ split-few limit n m = go (leb n limit) refl
 -- The first fault is the refusal of the first check that finds something wrong.
 pub symbols-reported : (e : Edition) (records : ℕ) (section : List ℕ)
     → answerOfSymbols (symbolsOf e records section) ≡ firstWrong (symbolChecks e records section) (length (stringsOf section))
-symbols-reported e records section = go _ refl _ refl _ refl _ refl
+symbols-reported e records section = go _ refl _ refl _ refl
   where
-    go : (unended : Bool) → not (endsInZero section) ≡ unended → (many : Bool) → ltb stringLimit (length (stringsOf section)) ≡ many
+    go : (many : Bool) → ltb stringLimit (length (stringsOf section)) ≡ many
         → (differs : Bool) → countDiffers e records (length (stringsOf section)) ≡ differs
         → (low : Lowest) → lowestFrom (repeats (stringsOf section)) (length (stringsOf section)) 0 ≡ low
         → answerOfSymbols (symbolsOf e records section) ≡ firstWrong (symbolChecks e records section) (length (stringsOf section))
-    go true h many k differs m low q = rw h
-    go false h true k differs m low q = rw (h, k)
-    go false h false k true m low q = rw (h, k, m)
-    go false h false k false m Nothing q = rw (h, k, m, q)
-    go false h false k false m (At j) q = rw (h, k, m, q)
+    go true k differs m low q = rw k
+    go false k true m low q = rw (k, m)
+    go false k false m Nothing q = rw (k, m, q)
+    go false k false m (At j) q = rw (k, m, q)
 
 -- What holds of a table with which nothing is wrong.
 pub symbols-clear : (e : Edition) (records : ℕ) (section : List ℕ) → Clear (symbolChecks e records section)
-    → (endsInZero section ≡ true) × (length (stringsOf section) ≤ stringLimit) × (lowestFrom (repeats (stringsOf section)) (length (stringsOf section)) 0 ≡ Nothing)
-symbols-clear e records section (ended, (many, (_, repeated))) =
-    (not-false _ ended, ltb-false _ _ many, clear-lowest _ (lowestFrom (repeats (stringsOf section)) (length (stringsOf section)) 0) [] repeated .0)
+    → (length (stringsOf section) ≤ stringLimit) × (lowestFrom (repeats (stringsOf section)) (length (stringsOf section)) 0 ≡ Nothing)
+symbols-clear e records section (many, (_, repeated)) =
+    (ltb-false _ _ many, clear-lowest _ (lowestFrom (repeats (stringsOf section)) (length (stringsOf section)) 0) [] repeated .0)
 
 -- What the table of a section reports, and its area where it accepts.
 module _ (e : Edition) (records : ℕ) (image : List ℕ) (from size : ℕ) (area₀ area : List ℕ) where
@@ -121,15 +119,9 @@ module _ (e : Edition) (records : ℕ) (image : List ℕ) (from size : ℕ) (are
       (r ≡ symbolsOf e records (part from size image))
       × ((n : ℕ) → answerOfSymbols r ≡ accepted n → area ≡ laidOver area₀ (placesOf from (stringsOf (part from size image))))
 
-module _ (e : Edition) (records : ℕ) (image : List ℕ) (from size : ℕ) (area₀ area : List ℕ) {b : Bool} (ends : b ≡ endsInZero (sliced image from size)) where
+module _ (e : Edition) (records : ℕ) (image : List ℕ) (from size : ℕ) (area₀ area : List ℕ) where
   abbrev names : List (List ℕ)
   names = stringsOf (part from size image)
-
-  ends-is : endsInZero (part from size image) ≡ b
-  ends-is = ap endsInZero (sym (sliced-part image from size)) ∙ sym ends
-
-  pub table-unterminated : b ≡ false → SymbolTable e records image from size area₀ area symbols.Unterminated
-  table-unterminated h = (rw (ends-is, h), λ n q. not-both q)
 
   module _ (long : length area₀ ≡ 2048) {p : SplitResult} (parts : p ≡ splitOf (length area₀) (length (stringsOf (sliced image from size))))
       (laid : area ≡ laidOver area₀ (placesOf from (stringsOf (sliced image from size)))) where
@@ -139,8 +131,8 @@ module _ (e : Edition) (records : ℕ) (image : List ℕ) (from size : ℕ) (are
     area-is : area ≡ laidOver area₀ (placesOf from names)
     area-is = laid ∙ rw (sliced-part image from size)
 
-    pub table-many : b ≡ true → p ≡ parted.TooMany → SymbolTable e records image from size area₀ area symbols.TooMany
-    table-many h q = (rw (ends-is, h, lt-ltb 2048 (length names) (split-many 2048 (length names) (parts-are ∙ q))), λ n q. not-both q)
+    pub table-many : p ≡ parted.TooMany → SymbolTable e records image from size area₀ area symbols.TooMany
+    table-many q = (rw (lt-ltb 2048 (length names) (split-many 2048 (length names) (parts-are ∙ q))), λ n q. not-both q)
 
     module _ {n : ℕ} (few : p ≡ parted.Strings n) where
       number : (n ≡ length names) × (length names ≤ 2048)
@@ -162,6 +154,6 @@ module _ (e : Edition) (records : ℕ) (image : List ℕ) (from size : ℕ) (are
       found : namesAt image (from + size) (take n area) ≡ names
       found = rw front (names-are image from size)
 
-      pub table-counted : {reported : Symbols} → b ≡ true → reported ≡ countedOf e records (namesAt image (from + size) (take n area)) n
+      pub table-counted : {reported : Symbols} → reported ≡ countedOf e records (namesAt image (from + size) (take n area)) n
           → SymbolTable e records image from size area₀ area reported
-      table-counted h q = let f = number in (q ∙ rw (found, f .0, ends-is, h, le-ltb 2048 (length names) (f .1)), λ k a. area-is)
+      table-counted q = let f = number in (q ∙ rw (found, f .0, le-ltb 2048 (length names) (f .1)), λ k a. area-is)

@@ -1,5 +1,5 @@
--- Symbol table and tree table, of the bytes of their sections: document 01, 'Layout of a file', and 'Numbers handed back', 8, 25 to 27
--- (request C-11) and 9.
+-- Symbol table and tree table, of the bytes of their sections: document 01, 'Layout of a file', and 'Numbers handed back', 25 to 27
+-- (requests C-11 and C-13) and 9.
 use mathlib.Core.Bool.{Bool, true, false, not, _&&_}
 use mathlib.Core.List.{List, [], _∷_, _++_, map}
 use Prim.Native.Nat.{ℕ, zero, suc, _+_}
@@ -12,7 +12,7 @@ use Rattle.aff_format.specs.Kind.{entrySize}
 use Rattle.aff_format.specs.Limits.{nodeLimit, stringLimit}
 use Rattle.aff_format.specs.Lowest.{lowestFrom, checkLowest}
 use Rattle.aff_format.specs.Recorded.{nameFrom}
-use Rattle.aff_format.specs.Strings.{stringsOf, isIn, endsInZero}
+use Rattle.aff_format.specs.Strings.{stringsOf, isIn}
 use Rattle.aff_format.specs.declared.edition.Edition.{Edition}
 use Rattle.aff_format.specs.declared.entry.Entry.{Entry}
 use Rattle.aff_format.specs.declared.entry.FoundEntry.{FoundEntry}
@@ -64,12 +64,11 @@ nodeEntry entries k = getD (noEntry ∷ entries) k noEntry
 unfoldable pub countDiffers : Edition → ℕ → ℕ → Bool
 countDiffers e records n = hasCounts e && not (eqb records n)
 
--- Of the bytes of a symbol section: 8, it is not empty and its last byte is not zero; 25, more than 2,048 strings, with the first beyond; 26, another count;
--- 27, a string that equals an earlier one, with the lowest such string. Strings are numbered from 0.
+-- Of the bytes of a symbol section: 25, more than 2,048 strings, with the first beyond; 26, another count; 27, a string that equals an earlier one, with
+-- the lowest such string. Strings are numbered from 0. The last one need not have its zero (`stringsOf`).
 abbrev pub symbolChecks : Edition → ℕ → List ℕ → List Check
 symbolChecks e records section =
-    check (not (endsInZero section)) (refusal 8)
-    ∷ check (ltb stringLimit (length (stringsOf section))) (refusalAt 25 stringLimit)
+    check (ltb stringLimit (length (stringsOf section))) (refusalAt 25 stringLimit)
     ∷ check (countDiffers e records (length (stringsOf section))) (refusal 26)
     ∷ checkLowest 27 (lowestFrom (repeats (stringsOf section)) (length (stringsOf section)) 0)
     ∷ []

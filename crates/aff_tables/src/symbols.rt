@@ -8,7 +8,7 @@ ghost use Prim.Native.Nat.{ℕ, _+_, _≤_, _<_};
 ghost use lib.ListN.{length, take};
 ghost use Rattle.aff_format.specs.Answer.{accepted};
 ghost use Rattle.aff_format.specs.Bytes.{part, laidOver};
-ghost use Rattle.aff_format.specs.Strings.{stringsOf, endsInZero, placesOf};
+ghost use Rattle.aff_format.specs.Strings.{stringsOf, placesOf};
 ghost use Rattle.aff_tables.specs.Tables.{namesAt};
 ghost use Rattle.aff_tables.specs.passes.Distinct.{Places};
 ghost use Rattle.aff_tables.specs.passes.Results.{splitOf, answerOfSymbols, countedOf, symbolsOf};
@@ -22,7 +22,7 @@ pub enum SplitResult {
 // The first fault of a symbol table, or how many strings it has.
 pub enum Symbols {
     Strings(usize),
-    // 8.
+    // 8: no table gets it since request C-13.
     Unterminated,
     // 25.
     TooMany,
@@ -32,7 +32,8 @@ pub enum Symbols {
     Repeated(usize),
 }
 
-// Stores where each string of a section begins; the section begins at place `first` of the image. One pass over its bytes.
+// Stores where each string of a section begins; the section begins at place `first` of the image. Bytes after the last zero are one more string.
+// One pass over the section.
 fn split(section: &[u8], first: usize, places: &mut [u32]) -> SplitResult
     requires { ⌜ first + length (now section) < 2147483648 ⌝ }
     ensures { λ r. ⌜ r ≡ splitOf (length (now (places .entry))) (length (stringsOf (now (section .entry)))) ⌝ }
@@ -63,17 +64,6 @@ fn split(section: &[u8], first: usize, places: &mut [u32]) -> SplitResult
     SplitResult::Strings(n + 1)
 }
 
-// Whether there is no byte, or the last is zero.
-fn ended(section: &[u8]) -> bool
-    ensures { λ r. ⌜ r ≡ endsInZero (now (section .entry)) ⌝ }
-{
-    let n = section.len();
-    if n == 0 {
-        return true;
-    }
-    section[n - 1] == 0
-}
-
 // After the split: the count, then equal strings.
 fn counted(
     image: &[u8],
@@ -95,8 +85,8 @@ fn counted(
     }
 }
 
-// 8 and 25 to 27, of the symbol section, `size` bytes from `from` on, with the record count of its header: the table's first fault, or how many
-// strings it has, with where each begins stored.
+// 25 to 27, of the symbol section, `size` bytes from `from` on, with the record count of its header: the table's first fault, or how many strings it
+// has, with where each begins stored. The last string ends at its zero or, where it has none, at the section's end.
 pub fn symbol_table(
     image: &[u8],
     edition: Edition,
@@ -110,9 +100,6 @@ pub fn symbol_table(
     ensures { λ r. ⌜ ((n : ℕ) → answerOfSymbols r ≡ accepted n → now (places .exit) ≡ laidOver (now (places .entry)) (placesOf from (stringsOf (part from size (now (image .entry)))))) ⌝ }
 {
     let end = from + size;
-    if !ended(&image[from..end]) {
-        return Symbols::Unterminated;
-    }
     match split(&image[from..end], from, places) {
         SplitResult::TooMany => Symbols::TooMany,
         SplitResult::Strings(n) => counted(image, edition, records, end, places, n),

@@ -56,8 +56,7 @@ fn opened(
             report.same("entries", &opened.entries, &second);
         }
         Err((number, _)) => {
-            // "A refused opening from 2 to 13 leaves both work areas all zero"; 25 to 27 "clear the work areas as 8 does" (C-11);
-            // 1 changes nothing.
+            // "A refused opening from 2 to 13 leaves both work areas all zero"; 25 to 27 clear them too (C-11); 1 changes nothing.
             let left = |before: u32| if number == 1 { before } else { 0 };
             report.same("record", &Record::default(), &record);
             report.same("strings", &vec![left(77); strings], &first);
@@ -302,14 +301,17 @@ fn altered(random: &Random, passed: &Lent, report: &mut Report) {
     let mut strings = passed.strings.to_vec();
     let mut entries = passed.entries.to_vec();
     for _ in 0..random.between(1, 3) {
-        match random.below(9) {
+        match random.below(12) {
             0 => alter_record(random, &mut record),
             1 => alter_area(random, &mut strings, record.strings, image.len()),
             2 => alter_area(random, &mut entries, record.nodes, image.len()),
             3 => alter_length(random, &mut image, &mut strings, &mut entries),
             4..=5 => alter_part(random, &mut image, record.symbols),
             6..=7 => alter_entry(random, &mut image, &entries, record.nodes),
-            _ => alter_part(random, &mut image, record.data),
+            8 => alter_part(random, &mut image, record.data),
+            9 => alter_string(random, &image, &record, &mut strings),
+            10 => alter_symbols(random, &mut record, &strings),
+            _ => alter_end(random, &mut image, record.symbols),
         }
     }
     let passed = Lent {
@@ -368,6 +370,69 @@ fn alter_area(random: &Random, area: &mut [u32], used: u64, length: usize) {
         4 => length as u32 - random.below(26).min(length) as u32,
         _ => random.next() as u32,
     };
+}
+
+/// The start and end of a recorded section, if it lies inside the image.
+fn bounds(image: &[u8], part: Span) -> Option<(usize, usize)> {
+    let end = part.offset.checked_add(part.size)?;
+    (end <= image.len() as u64).then_some((part.offset as usize, end as usize))
+}
+
+/// Another place for a string in use: at the section's start, last zero or end, just beside one of them, or anywhere in the section.
+fn alter_string(random: &Random, image: &[u8], record: &Record, strings: &mut [u32]) {
+    let used = strings.len().min(record.strings as usize);
+    let Some((start, end)) = bounds(image, record.symbols) else {
+        return;
+    };
+    if used == 0 {
+        return;
+    }
+    let zero = image[start..end].iter().rposition(|byte| *byte == 0);
+    let zero = zero.map_or(start, |place| start + place);
+    let any = random.between(start, end);
+    let place = random.pick(&[start, zero, zero + 1, end, end, end, any]) as u32;
+    strings[random.below(used)] = random.pick(&[place, place, place.wrapping_sub(1), place + 1]);
+}
+
+/// The recorded symbol section is empty, ends at or inside a string, or goes on after its end. Some records lose the strings that are then outside,
+/// or their nodes, too.
+fn alter_symbols(random: &Random, record: &mut Record, strings: &[u32]) {
+    let used = strings.len().min(record.strings as usize);
+    let string = random.pick(&[used.saturating_sub(1), random.below(used)]);
+    let place = strings.get(string).map_or(0, |place| u64::from(*place));
+    let begin = place.wrapping_sub(record.symbols.offset);
+    let size = record.symbols.size;
+    let cut = begin.wrapping_add(random.below(6) as u64);
+    record.symbols.size = random.pick(&[
+        0,
+        begin,
+        begin.wrapping_add(1),
+        cut,
+        cut,
+        size.wrapping_sub(1),
+        size.wrapping_add(1),
+        size.wrapping_add(random.below(30) as u64),
+    ]);
+    match random.below(6) {
+        0 => record.strings = string as u64,
+        1 => record.strings = string as u64 + 1,
+        2 => (record.strings, record.nodes) = (random.below(2) as u64, 0),
+        _ => (),
+    }
+}
+
+/// Other last bytes of the symbol section: the last string has no zero, or ends before; and other bytes directly after it.
+fn alter_end(random: &Random, image: &mut [u8], symbols: Span) {
+    let Some((start, end)) = bounds(image, symbols) else {
+        return;
+    };
+    let last = random.between(1, 3);
+    for place in image[start..end].iter_mut().rev().take(last) {
+        *place = random.pick(b"ab9.-:/ \0");
+    }
+    for place in image[end..].iter_mut().take(random.below(4)) {
+        *place = random.pick(b"ab/\0");
+    }
 }
 
 /// An area or the image is one longer or shorter.

@@ -1,4 +1,4 @@
-//! The answers of an opened image, from document 01, "Reading keys", "Numbers handed back" and "The lister", and request C-12.
+//! The answers of an opened image, from document 01, "Reading keys", "Numbers handed back" and "The lister", and requests C-12 and C-13.
 
 use crate::format::{big, form_for, is_path, Edition, Entry, Kind, LONGEST_IMAGE, MOST};
 use crate::open::{open, reaches_root, until_zero, Record, Span};
@@ -79,7 +79,8 @@ fn whole(image: &[u8]) -> Span {
     }
 }
 
-/// "a string does not begin, or has no zero from there on, inside the symbol section": otherwise the strings, without zeros.
+/// "a string does not begin ... inside the symbol section": otherwise the strings, without zeros. C-13: "24 takes the section's end as the end of
+/// its last string", so a string ends at the first zero from its place on, or at the section's end. A place at the section's end begins none.
 fn names_of(passed: &Lent) -> Option<Vec<Span>> {
     let symbols = passed.record.symbols;
     let end = (symbols.offset + symbols.size) as usize;
@@ -89,12 +90,8 @@ fn names_of(passed: &Lent) -> Option<Vec<Span>> {
         if !symbols.holds(offset, 1) {
             return None;
         }
-        let rest = &passed.image[*place as usize..end];
-        let size = until_zero(rest).len();
-        (size < rest.len()).then_some(Span {
-            offset,
-            size: size as u64,
-        })
+        let size = until_zero(&passed.image[*place as usize..end]).len() as u64;
+        Some(Span { offset, size })
     };
     places.iter().map(name).collect()
 }

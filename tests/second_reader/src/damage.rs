@@ -1,9 +1,12 @@
-//! Damaged images: each kind of damage aims at one refusal from 2 to 13 or from 25 to 27, with the sums made right again where the
-//! fault lies after them. The base is a lawful image whose sections do not overlap, so that number and place are known beforehand.
+//! Damaged images: each kind of damage aims at one refusal from 2 to 7, from 9 to 13 or from 25 to 27, with the sums made right again where
+//! the fault lies after them. The base is a lawful image whose sections do not overlap, so that number and place are known beforehand.
+//! A symbol table that lost its last zero may still be lawful (request C-13); then the image is aimed at being accepted.
 
-use crate::format::{big, Edition, Kind, MOST, SIGNATURE, TEXT};
+use crate::format::{big, is_subkey, Edition, Kind, MOST, SIGNATURE, TEXT};
 use crate::images::{apart, image, Aim, Draft, Image, Node, DATA, NO_SUBKEYS, SYMBOLS, TREE};
-use crate::images::{draft, new_name, plain, sum_again, sum_header, tables, with_data};
+use crate::images::{
+    draft, insert_string, new_name, plain, sum_again, sum_header, tables, with_data,
+};
 use crate::md5::md5;
 use crate::open::Span;
 use crate::random::Random;
@@ -11,7 +14,7 @@ use std::collections::HashSet;
 
 type Damage = fn(&Random) -> Image;
 
-const DAMAGES: [(&str, Damage); 20] = [
+const DAMAGES: [(&str, Damage); 21] = [
     ("short", short),
     ("text", text),
     ("form", form),
@@ -19,7 +22,8 @@ const DAMAGES: [(&str, Damage); 20] = [
     ("header sum", header_sum),
     ("section outside", outside),
     ("section sum", section_sum),
-    ("symbols not ended", not_ended),
+    ("last zero", last_zero),
+    ("name not ended", name_not_ended),
     ("too many strings", many_strings),
     ("symbol count", symbol_count),
     ("repeated string", repeated_string),
@@ -278,38 +282,121 @@ fn no_numbers(random: &Random, draft: &mut Draft) {
     }
 }
 
-/// 8: "the last byte of a table that is not empty isn't zero". The last zero is left out of the section, or changed. The last string
-/// is not empty, so a section without the zero ends with a byte of that string. Faults of 25, 26 and 27 are checked later.
-fn not_ended(random: &Random) -> Image {
+/// The last zero of a whole table is taken away. The section is one byte shorter: then the last string has no zero or, where it was the
+/// empty one, it is gone, and edition 2's count differs: 26. Or the zero is another byte, which the last string then has at its end: it may be an
+/// earlier string, 27, or no subkey, 10 if a node has it. The counts are those of the table before.
+fn last_zero(random: &Random) -> Image {
     let mut draft = tables(random);
-    match random.below(6) {
-        0 => grow(random, &mut draft),
-        1 => {
-            repeat_string(random, &mut draft);
-        }
-        _ => (),
+    draft.unended = false;
+    if draft.strings.is_empty() || (random.one_in(4) && draft.strings.len() < MOST) {
+        let empty = !draft.strings.contains(&Vec::new()) && random.one_in(2);
+        let string = if empty {
+            Vec::new()
+        } else {
+            new_name(random, &draft.strings)
+        };
+        draft.strings.push(string);
+        draft.records[SYMBOLS] = draft.strings.len() as u64;
     }
-    draft.strings.push(new_name(random, &draft.strings));
-    let strings = draft.strings.len();
-    draft.records[SYMBOLS] = any_count(random, (strings - random.below(2)) as u64);
-    later_fault(random, &mut draft);
     let mut draft = placed(random, draft);
-    let edition = draft.edition;
-    let shorter = random.one_in(2);
-    draft.spans[SYMBOLS].size -= u64::from(shorter);
+    let (edition, last) = (draft.edition, draft.strings.len() - 1);
+    if random.one_in(2) {
+        draft.spans[SYMBOLS].size -= 1;
+        if draft.strings[last].is_empty() && edition == Edition::Two {
+            return aimed(draft.finish(), 26, 0, "shorter by the last, empty string");
+        }
+        return accepted(draft, "shorter by one");
+    }
+    let byte = random.pick(&[
+        b'a',
+        b'9',
+        b'.',
+        b'Z',
+        b'/',
+        b' ',
+        0xff,
+        1 + random.below(255) as u8,
+    ]);
+    let mut string = draft.strings[last].clone();
+    string.push(byte);
+    let of_last = |node: &Node| node.string as usize == last;
+    let user = draft.nodes.iter().position(of_last);
+    let earlier = draft.strings.contains(&string);
     let spans = draft.spans;
     let mut bytes = draft.finish();
-    if !shorter {
-        let end = spans[SYMBOLS].offset + spans[SYMBOLS].size;
-        change(random, &mut bytes, end as usize - 1);
-        sum_again(&mut bytes, edition, &spans);
+    let end = (spans[SYMBOLS].offset + spans[SYMBOLS].size) as usize;
+    bytes[end - 1] = byte;
+    sum_again(&mut bytes, edition, &spans);
+    let what = format!("{byte} in its place");
+    match user {
+        _ if earlier => aimed(bytes, 27, last as u64, &what),
+        Some(node) if !is_subkey(&string) => aimed(bytes, 10, node as u64 + 1, &what),
+        _ => Image {
+            bytes,
+            aim: Aim::Accepted,
+            what,
+        },
     }
-    aimed(bytes, 8, 0, &format!("{strings} strings"))
+}
+
+/// An image that is lawful after all.
+fn accepted(draft: Draft, what: &str) -> Image {
+    Image {
+        bytes: draft.finish(),
+        aim: Aim::Accepted,
+        what: what.to_string(),
+    }
+}
+
+/// A last string with no zero, and what nodes make of it: the name of a node, accepted; no subkey, 10 if a node has it; the name of two
+/// siblings, 12; one number beyond, 10.
+fn name_not_ended(random: &Random) -> Image {
+    let mut draft = base(random, 2);
+    draft.unended = true;
+    if draft.strings.len() == MOST {
+        return accepted(placed(random, draft), "2,048 strings");
+    }
+    let no_subkey = random.pick(&NO_SUBKEYS[1..]).to_vec();
+    let way = random.below(5);
+    let string = match way {
+        1..=2 if !draft.strings.contains(&no_subkey) => no_subkey,
+        _ => new_name(random, &draft.strings),
+    };
+    let lawful = is_subkey(&string);
+    let last = draft.strings.len() as u32;
+    draft.strings.push(string);
+    draft.records[SYMBOLS] = u64::from(last) + 1;
+    let one = random.below(draft.nodes.len());
+    let two = random.below(draft.nodes.len());
+    let (one, two) = (one.min(two), one.max(two));
+    match way {
+        // The new string is no other node's, so a node that takes it has no twin.
+        0..=1 => draft.nodes[one].string = last,
+        2 => (),
+        3 => {
+            if one == two || is_below(&draft.nodes, one as u64 + 1, two as u64 + 1) {
+                return accepted(placed(random, draft), "unused");
+            }
+            draft.nodes[one].string = last;
+            draft.nodes[two].string = last;
+            draft.nodes[two].parent = draft.nodes[one].parent;
+        }
+        _ => draft.nodes[one].string = last + 1,
+    }
+    let draft = placed(random, draft);
+    match way {
+        1 if !lawful => aimed(draft.finish(), 10, one as u64 + 1, "no subkey"),
+        3 => aimed(draft.finish(), 12, two as u64 + 1, "two siblings"),
+        4 => aimed(draft.finish(), 10, one as u64 + 1, "one number beyond"),
+        2 => accepted(draft, "unused"),
+        _ => accepted(draft, "used"),
+    }
 }
 
 /// 25: "above 2,048", reported string 2,048. A wrong count and repeated strings are checked later.
 fn many_strings(random: &Random) -> Image {
     let mut draft = tables(random);
+    draft.unended = !random.one_in(3);
     grow(random, &mut draft);
     let strings = draft.strings.len();
     draft.records[SYMBOLS] = any_count(random, strings as u64);
@@ -318,13 +405,17 @@ fn many_strings(random: &Random) -> Image {
     aimed(bytes, 25, MOST as u64, &format!("{strings} strings"))
 }
 
-/// Adds strings until there are more than 2,048: empty ones, or different ones with or without a repeat.
+/// Adds strings until there are more than 2,048: empty ones, or different ones with or without a repeat. The last may lack its zero.
 fn grow(random: &Random, draft: &mut Draft) {
     let sizes = [MOST + 1, MOST + 1, MOST + 1, MOST + 2, 2 * MOST, 9000];
     let size = random.pick(&sizes);
-    match random.below(4) {
-        0..=1 => draft.strings.resize(size, Vec::new()),
-        2 => fill(draft, size),
+    match random.below(5) {
+        0 => draft.strings.resize(size, Vec::new()),
+        1 => {
+            draft.strings.resize(size - 1, Vec::new());
+            draft.strings.push(new_name(random, &[]));
+        }
+        2..=3 => fill(draft, size),
         _ => {
             fill(draft, size - 1);
             repeat_string(random, draft);
@@ -344,6 +435,7 @@ fn fill(draft: &mut Draft, size: usize) {
 /// 26: "count differs", reported 0; only edition 2 has a count. A repeated string is checked later.
 fn symbol_count(random: &Random) -> Image {
     let mut draft = tables(random);
+    draft.unended = !random.one_in(3);
     draft.edition = Edition::Two;
     let repeated = random.one_in(3);
     if repeated {
@@ -362,6 +454,7 @@ fn symbol_count(random: &Random) -> Image {
 /// 27: "repeated string", reported "the lowest string that equals an earlier one". The count is right.
 fn repeated_string(random: &Random) -> Image {
     let mut draft = tables(random);
+    draft.unended = !random.one_in(3);
     shorten(&mut draft);
     let place = match random.below(8) {
         0 => last_as_first(&mut draft),
@@ -380,14 +473,6 @@ fn repeated_string(random: &Random) -> Image {
 /// Shortens a full table, so that up to four more strings do not make it 25. A node may lose its name: 10, which is checked later.
 fn shorten(draft: &mut Draft) {
     draft.strings.truncate(MOST - 4);
-}
-
-/// Inserts a string at a number of the table. The nodes keep their names.
-fn insert_string(draft: &mut Draft, number: usize, string: Vec<u8>) {
-    draft.strings.insert(number, string);
-    for node in &mut draft.nodes {
-        node.string += u32::from(node.string as usize >= number);
-    }
 }
 
 /// Repeats a string of a table whose strings all differ; returns the number of the repeat.

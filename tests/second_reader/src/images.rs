@@ -58,6 +58,8 @@ impl Node {
 pub struct Draft {
     pub edition: Edition,
     pub strings: Vec<Vec<u8>>,
+    /// Whether the last string has no zero, where it has a byte (request C-13).
+    pub unended: bool,
     pub nodes: Vec<Node>,
     /// Bytes after the last entry, in the tree section; bytes cut off its end.
     pub tail: Vec<u8>,
@@ -74,7 +76,16 @@ pub const DATA: usize = 2;
 impl Draft {
     pub fn symbols(&self) -> Vec<u8> {
         let ended = |string: &Vec<u8>| [string.as_slice(), &[0]].concat();
-        self.strings.iter().flat_map(ended).collect()
+        let mut bytes: Vec<u8> = self.strings.iter().flat_map(ended).collect();
+        if self.lacks_zero() {
+            bytes.pop();
+        }
+        bytes
+    }
+
+    /// Whether the symbol section ends with a byte of its last string. An empty string has its zero always: without it, it would be none.
+    pub fn lacks_zero(&self) -> bool {
+        self.unended && self.strings.last().is_some_and(|string| !string.is_empty())
     }
 
     pub fn tree(&self) -> Vec<u8> {
@@ -269,7 +280,34 @@ pub fn tables(random: &Random) -> Draft {
         nodes = renumbered(random, nodes);
     }
     with_unused(random, &mut strings, &mut nodes);
-    draft(random, strings, nodes)
+    let mut draft = draft(random, strings, nodes);
+    if random.one_in(3) {
+        longer_before_last(random, &mut draft);
+    }
+    draft
+}
+
+/// Adds a string before the last one that begins as the last one does. `apart` writes the rest of it after a section that lacks its last zero:
+/// who reads on there finds the two equal.
+fn longer_before_last(random: &Random, draft: &mut Draft) {
+    let last = draft.strings.len().saturating_sub(1);
+    let Some(string) = draft.strings.last() else {
+        return;
+    };
+    let longer = [string.as_slice(), &[random.pick(LATER)]].concat();
+    if string.is_empty() || draft.strings.len() == MOST || draft.strings.contains(&longer) {
+        return;
+    }
+    insert_string(draft, last, longer);
+    draft.records[SYMBOLS] += 1;
+}
+
+/// Inserts a string at a number of the table. The nodes keep their names.
+pub fn insert_string(draft: &mut Draft, number: usize, string: Vec<u8>) {
+    draft.strings.insert(number, string);
+    for node in &mut draft.nodes {
+        node.string += u32::from(node.string as usize >= number);
+    }
 }
 
 pub fn draft(random: &Random, strings: Vec<Vec<u8>>, nodes: Vec<Node>) -> Draft {
@@ -282,6 +320,7 @@ pub fn draft(random: &Random, strings: Vec<Vec<u8>>, nodes: Vec<Node>) -> Draft 
             nodes.len() as u64,
             random.pick(&[full, full, 0, u64::MAX, 1 << 32, any]),
         ],
+        unended: random.one_in(3),
         strings,
         nodes,
         tail: Vec::new(),
@@ -317,6 +356,35 @@ pub fn apart(random: &Random, draft: &mut Draft) {
     };
     if random.one_in(2) {
         fill_data(random, draft);
+    }
+    if draft.lacks_zero() {
+        follow(random, draft);
+    }
+}
+
+/// Writes something after a symbol section that lacks its last zero: what a name may go on with, a zero, or what an earlier string goes on with.
+/// Where the tree table is there, `finish` writes over it.
+fn follow(random: &Random, draft: &mut Draft) {
+    let (_, end) = ends(draft.spans[SYMBOLS]);
+    let last = draft.strings.last().expect("it lacks a zero");
+    let longer = draft
+        .strings
+        .iter()
+        .filter(|string| string.len() > last.len());
+    let rest = longer
+        .filter_map(|string| string.strip_prefix(last.as_slice()))
+        .next();
+    let rest = [rest.unwrap_or(b"x"), &[0]].concat();
+    let bytes = random.pick(&[
+        rest.clone(),
+        rest,
+        vec![0],
+        vec![random.pick(LATER)],
+        b"/a".to_vec(),
+        Vec::new(),
+    ]);
+    for (place, byte) in draft.bytes[end..].iter_mut().zip(bytes) {
+        *place = byte;
     }
 }
 
@@ -439,18 +507,29 @@ fn usual(random: &Random) -> Image {
     lawful(draft, "sections anywhere")
 }
 
-/// The symbol section over the signature: the text with its zero is a string, or the zero alone.
+/// The symbol section over the signature: the text is a string, with or without its zero, or the zero alone is one. Or the front of the
+/// text is a string: up to `LHPC` it is a subkey, the name of a chain of nodes.
 fn over_signature(random: &Random) -> Image {
     let edition = random.pick(&[Edition::One, Edition::Two]);
-    let text = random.one_in(2);
-    let strings = match text {
-        true => vec![edition.text().to_vec()],
-        false => vec![Vec::new()],
+    let way = random.below(4);
+    let (string, place) = match way {
+        0..=1 => (edition.text().to_vec(), 0),
+        2 => (Vec::new(), TEXT),
+        _ => (edition.text()[..random.between(1, 4)].to_vec(), 0),
     };
-    let mut draft = draft(random, strings, Vec::new());
+    let node = |parent: usize| Node {
+        code: Kind::Void.code(),
+        parent: parent as u64,
+        string: 0,
+        count: 0,
+        offset: 0,
+    };
+    let nodes = if way == 3 { random.below(4) } else { 0 };
+    let mut draft = draft(random, vec![string], (0..nodes).map(node).collect());
     draft.edition = edition;
+    draft.unended |= way == 3;
     apart(random, &mut draft);
-    draft.spans[SYMBOLS].offset = if text { 0 } else { TEXT as u64 };
+    draft.spans[SYMBOLS].offset = place as u64;
     lawful(draft, "symbols over the signature")
 }
 

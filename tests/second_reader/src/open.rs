@@ -1,6 +1,6 @@
-//! Opening: every refusal from 1 to 13 and from 25 to 27 with its place, in document 01's order: "opening 1 (nothing changed), then 2,
-//! text 3, edition 2's length 2, then 4 to 13, each check over all nodes before the next; sections in the order symbol, tree, data".
-//! Request C-11 puts 25, 26 and 27 "after 8 and before 9, in this order".
+//! Opening: every refusal from 1 to 7, from 9 to 13 and from 25 to 27 with its place, in document 01's order: "opening 1 (nothing changed),
+//! then 2, text 3, edition 2's length 2, then 4 to 13, each check over all nodes before the next; sections in the order symbol, tree, data".
+//! Request C-11 puts 25, 26 and 27 "before 9, in this order". By request C-13 no file gets 8: the last string need not have its zero.
 
 use crate::format::{big, is_subkey, Edition, Entry, Kind, Refusal, LONGEST_IMAGE, MOST};
 use crate::format::{SIGNATURE, TEXT};
@@ -73,9 +73,10 @@ pub fn open_lent(
     let strings = symbol_table(image, &headers[0])?;
     let entries = tree_table(image, &headers[1])?;
     let nodes = read_nodes(image, &entries);
-    numbers_exist(image, &nodes, &strings)?;
+    let names = names(image, headers[0].span, &strings);
+    numbers_exist(&nodes, &names)?;
     climbs_end(&nodes)?;
-    siblings_differ(image, &nodes, &strings)?;
+    siblings_differ(&nodes, &names)?;
     data_inside(&nodes, headers[2].span)?;
     Ok(Opened {
         record: Record {
@@ -180,20 +181,29 @@ fn section_sums(image: &[u8], headers: &[Header; 3]) -> Result<(), Refusal> {
     Ok(())
 }
 
-/// The symbol table, with the image places of its strings. Request C-11 gives four refusals, each asked of the whole table, in this order:
+/// Where the strings of a symbol section begin and end, counted from its start; at most so many. C-13: "if the last byte of the table is not
+/// zero, the bytes after the last zero are one more string. A final zero opens no further string; a table of no bytes has none."
+fn strings_in(section: &[u8], most: usize) -> Vec<(usize, usize)> {
+    let mut strings = Vec::new();
+    let mut begin = 0;
+    while begin < section.len() && strings.len() < most {
+        let size = until_zero(&section[begin..]).len();
+        strings.push((begin, begin + size));
+        begin += size + 1;
+    }
+    strings
+}
+
+/// The symbol table, with the image places of its strings. Three refusals (C-11), each asked of the whole table, in this order; the strings are
+/// those of C-13:
 ///
-/// - 8: "the last byte of a table that is not empty isn't zero", reported 0.
 /// - 25: "above 2,048", reported "the first string beyond 2,048". Strings count from 0, so this is string 2,048.
 /// - 26: "count differs", reported 0. Edition 1 has no count.
 /// - 27: "repeated string", reported "the lowest string that equals an earlier one".
 fn symbol_table(image: &[u8], header: &Header) -> Result<Vec<usize>, Refusal> {
     let bytes = section(image, header.span);
-    if bytes.last().is_some_and(|byte| *byte != 0) {
-        return Err((8, 0));
-    }
-    // Each string with its zero, up to one string too many.
-    let strings = bytes.split_inclusive(|byte| *byte == 0);
-    let strings: Vec<&[u8]> = strings.take(MOST + 1).collect();
+    // Up to one string too many.
+    let strings = strings_in(bytes, MOST + 1);
     if strings.len() > MOST {
         return Err((25, MOST as u64));
     }
@@ -201,16 +211,13 @@ fn symbol_table(image: &[u8], header: &Header) -> Result<Vec<usize>, Refusal> {
         return Err((26, 0));
     }
     let mut seen = HashSet::new();
-    if let Some(number) = strings.iter().position(|string| !seen.insert(string)) {
+    let is_new = |(begin, end): &(usize, usize)| seen.insert(&bytes[*begin..*end]);
+    let repeated = strings.iter().map(is_new).position(|new| !new);
+    if let Some(number) = repeated {
         return Err((27, number as u64));
     }
-    let mut places = Vec::new();
-    let mut at = header.span.offset as usize;
-    for string in strings {
-        places.push(at);
-        at += string.len();
-    }
-    Ok(places)
+    let first = header.span.offset as usize;
+    Ok(strings.iter().map(|(begin, _)| first + begin).collect())
 }
 
 /// The bytes before the first zero; all where there is none.
@@ -246,17 +253,19 @@ fn read_nodes(image: &[u8], places: &[usize]) -> Vec<Entry> {
     places.iter().map(read).collect()
 }
 
-/// The name of a node: its string, without the zero.
-fn name<'a>(image: &'a [u8], node: &Entry, strings: &[usize]) -> &'a [u8] {
-    until_zero(&image[strings[node.string as usize]..])
+/// The strings that begin at these places of the image, without their zeros. A string ends at its zero or at the section's end, and never after.
+fn names<'a>(image: &'a [u8], symbols: Span, places: &[usize]) -> Vec<&'a [u8]> {
+    let end = (symbols.offset + symbols.size) as usize;
+    let string = |place: &usize| until_zero(&image[*place..end]);
+    places.iter().map(string).collect()
 }
 
 /// 10: "parent or string number does not exist, or the string is no subkey", reported the lowest node.
-fn numbers_exist(image: &[u8], nodes: &[Entry], strings: &[usize]) -> Result<(), Refusal> {
+fn numbers_exist(nodes: &[Entry], names: &[&[u8]]) -> Result<(), Refusal> {
     for (number, node) in (1..).zip(nodes) {
         let parent = node.parent <= nodes.len() as u64;
-        let string = node.string < strings.len() as u64;
-        if !parent || !string || !is_subkey(name(image, node, strings)) {
+        let name = names.get(node.string as usize);
+        if !parent || !name.is_some_and(|name| is_subkey(name)) {
             return Err((10, number));
         }
     }
@@ -282,10 +291,10 @@ fn climbs_end(nodes: &[Entry]) -> Result<(), Refusal> {
 }
 
 /// 12: "a lower-numbered sibling has its name", reported the lowest node. Names are compared, not string numbers.
-fn siblings_differ(image: &[u8], nodes: &[Entry], strings: &[usize]) -> Result<(), Refusal> {
+fn siblings_differ(nodes: &[Entry], names: &[&[u8]]) -> Result<(), Refusal> {
     let mut seen = HashSet::new();
     for (number, node) in (1..).zip(nodes) {
-        if !seen.insert((node.parent, name(image, node, strings))) {
+        if !seen.insert((node.parent, names[node.string as usize])) {
             return Err((12, number));
         }
     }

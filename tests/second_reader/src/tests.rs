@@ -1,8 +1,8 @@
-//! Document 01's worked file and cases, request C-11's symbol tables, request C-12's listings, and the generator's images beside what
-//! their maker knows.
+//! Document 01's worked file and cases, the symbol tables of requests C-11 and C-13, request C-12's listings, and the generator's images beside
+//! what their maker knows.
 
 use crate::answers::{decoded, judged, listing, Choice, Element, Lent, LISTED};
-use crate::format::{form_for, is_path, is_subkey, Edition, Kind, Refusal};
+use crate::format::{big, form_for, is_path, is_subkey, Edition, Kind, Refusal};
 use crate::images::{image, Draft, Node, DATA, SYMBOLS, TREE};
 use crate::open::{open, Opened, Span};
 use crate::report::Report;
@@ -92,6 +92,7 @@ fn opened(edition: Edition, symbols: &[u8], count: u64, tree: &[u8]) -> Result<u
     let mut draft = Draft {
         edition,
         strings: Vec::new(),
+        unended: false,
         nodes: Vec::new(),
         tail: Vec::new(),
         cut: 0,
@@ -125,9 +126,10 @@ fn large(count: usize, others: &[&str]) -> Vec<u8> {
     section(&[&different, others].concat())
 }
 
-/// How many zeros a symbol section has: the number of its strings, where the last byte is one.
-fn zeros_in(symbols: &[u8]) -> u64 {
-    symbols.iter().filter(|byte| **byte == 0).count() as u64
+/// How many strings a symbol section has: one for each zero, and one more where the last byte is not zero.
+fn strings_in(symbols: &[u8]) -> u64 {
+    let zeros = symbols.iter().filter(|byte| **byte == 0).count() as u64;
+    zeros + u64::from(!symbols.is_empty() && !symbols.ends_with(&[0]))
 }
 
 /// 25 and 27 with their places, in both editions, also before the tree's 9. The count is right.
@@ -157,12 +159,16 @@ fn strings_too_many_or_repeated() {
         (section(&[""; 9000]), Err((25, 2048))),
     ];
     for (symbols, answer) in tables {
-        for edition in EDITIONS {
-            let count = zeros_in(&symbols);
-            assert_eq!(opened(edition, &symbols, count, b""), answer);
-            let with_bad_tree = answer.and(Err((9, 1)));
-            assert_eq!(opened(edition, &symbols, count, BAD_TREE), with_bad_tree);
-        }
+        judged_so(&symbols, strings_in(&symbols), answer);
+    }
+}
+
+/// What opening answers to a table, in both editions, with the right count, and before the tree's 9.
+fn judged_so(symbols: &[u8], count: u64, answer: Result<u64, Refusal>) {
+    for edition in EDITIONS {
+        assert_eq!(opened(edition, symbols, count, b""), answer);
+        let with_bad_tree = answer.and(Err((9, 1)));
+        assert_eq!(opened(edition, symbols, count, BAD_TREE), with_bad_tree);
     }
 }
 
@@ -183,7 +189,7 @@ fn symbol_counts() {
     );
 }
 
-/// 8, 25, 26, 27: the first in this order.
+/// 25, 26, 27: the first in this order.
 #[test]
 fn symbol_faults_in_order() {
     let repeated = section(&["a", "n", "a"]);
@@ -200,27 +206,156 @@ fn symbol_faults_in_order() {
     }
 }
 
-/// 8, whatever else is wrong with the table.
+/// A table without its last zero (C-13): the bytes after the last zero are one more string, which 25, 26 and 27 count and compare. The number of
+/// strings is written by hand.
 #[test]
-fn symbols_not_ended() {
+fn last_string_not_ended() {
+    let joined = |front: Vec<u8>, last: &str| [front.as_slice(), last.as_bytes()].concat();
     let tables = [
-        b"a".to_vec(),
-        b"a\0n".to_vec(),
-        b"\0\xff".to_vec(),
-        b"a\0a\0a".to_vec(),
-        [vec![0; 2048], vec![1]].concat(),
-        [large(2999, &[]), b"s2999".to_vec()].concat(),
-        [large(2999, &[]), b"s0".to_vec()].concat(),
+        (b"a".to_vec(), 1, Ok(1)),
+        (b"\xff".to_vec(), 1, Ok(1)),
+        (b"a\0n".to_vec(), 2, Ok(2)),
+        (b"a\0n\0".to_vec(), 2, Ok(2)),
+        (b"a\0\0".to_vec(), 2, Ok(2)),
+        (b"\0a".to_vec(), 2, Ok(2)),
+        (b"a\0\0n".to_vec(), 3, Ok(3)),
+        (b"a\0aa".to_vec(), 2, Ok(2)),
+        (b"aa\0a".to_vec(), 2, Ok(2)),
+        (b"a\0n\0a".to_vec(), 3, Err((27, 2))),
+        (b"a\0a".to_vec(), 2, Err((27, 1))),
+        (b"a\0a\0a".to_vec(), 3, Err((27, 1))),
+        (b"a\0b\0b\0a".to_vec(), 4, Err((27, 2))),
+        (b"\0\0a".to_vec(), 3, Err((27, 1))),
+        (joined(large(2047, &[]), "s2047"), 2048, Ok(2048)),
+        (joined(large(2047, &[]), "s0"), 2048, Err((27, 2047))),
+        (joined(large(2048, &[]), "s2048"), 2049, Err((25, 2048))),
+        (joined(large(2048, &[]), "s0"), 2049, Err((25, 2048))),
+        (joined(large(2999, &[]), "s2999"), 3000, Err((25, 2048))),
+        (joined(vec![0; 2047], "a"), 2048, Err((27, 1))),
+        (joined(vec![0; 2048], "a"), 2049, Err((25, 2048))),
     ];
-    for symbols in tables {
-        let zeros = zeros_in(&symbols);
-        for edition in EDITIONS {
-            for count in [zeros, zeros + 1, zeros + 2] {
-                assert_eq!(opened(edition, &symbols, count, b""), Err((8, 0)));
-                assert_eq!(opened(edition, &symbols, count, BAD_TREE), Err((8, 0)));
-            }
+    for (symbols, count, answer) in tables {
+        judged_so(&symbols, count, answer);
+        let many = count > 2048;
+        for wrong in [count - 1, count + 1] {
+            let expected = if many { (25, 2048) } else { (26, 0) };
+            assert_eq!(
+                opened(Edition::Two, &symbols, wrong, BAD_TREE),
+                Err(expected)
+            );
+            assert_eq!(opened(Edition::One, &symbols, wrong, b""), answer);
         }
     }
+}
+
+/// Document 01's worked file without the zero of its last string: 213 bytes, and the same listings. What is after the symbol section, or before it,
+/// belongs to no name.
+#[test]
+fn worked_file_not_ended() {
+    let keys = [(0, "a", Kind::Void, 0), (1, "n", Kind::Int, 1)];
+    let lines = b"/ void 0\n/a void 0\n/a/n int 1\n";
+    for edition in EDITIONS {
+        let mut draft = draft_of(edition, &keys);
+        draft.unended = true;
+        lay_out(&mut draft, [DATA, SYMBOLS, TREE], 4, b"");
+        assert_eq!(draft.bytes.len(), edition.header() + 45);
+        let image = draft.finish();
+        assert_eq!(listing(&image, Choice::All), lines);
+        assert_eq!(listing(&image, Choice::NotVoid), b"/a/n int 1\n");
+        for after in [b"".as_slice(), b"b", b"\0", b"n\0", b"/x", b"\xff"] {
+            let mut draft = draft_of(edition, &keys);
+            draft.unended = true;
+            lay_out(&mut draft, [DATA, TREE, SYMBOLS], 4, after);
+            assert_eq!(listing(&draft.finish(), Choice::All), lines);
+        }
+    }
+}
+
+/// 10 and 12 of a last string that has no zero, with bytes after the section that would make another name.
+#[test]
+fn names_not_ended() {
+    let opened_with = |strings: &[&[u8]], of: &[(u64, u32)], after: &[u8]| {
+        let both = EDITIONS.map(|edition| {
+            let mut draft = draft_of(edition, &[]);
+            draft.strings = strings.iter().map(|string| string.to_vec()).collect();
+            draft.unended = true;
+            let node = |(parent, string): &(u64, u32)| Node {
+                code: Kind::Void.code(),
+                parent: *parent,
+                string: *string,
+                count: 0,
+                offset: 0,
+            };
+            draft.nodes = of.iter().map(node).collect();
+            draft.records = [strings.len() as u64, of.len() as u64, 0];
+            lay_out(&mut draft, [DATA, TREE, SYMBOLS], 0, after);
+            open(&draft.finish(), &edition.form()).map(|opened| opened.record.strings)
+        });
+        assert_eq!(both[0], both[1]);
+        both[0]
+    };
+    let chain = [(0, 0), (1, 1)];
+    let siblings = [(0, 0), (0, 1)];
+    for after in [b"".as_slice(), b"b\0", b"\0", b"/", b"9"] {
+        assert_eq!(opened_with(&[b"a", b"n"], &chain, after), Ok(2));
+        assert_eq!(opened_with(&[b"ab", b"a"], &siblings, after), Ok(2));
+        for name in [b"9".as_slice(), b"a ", b"a@", b"a/", b"\xff"] {
+            assert_eq!(opened_with(&[b"a", name], &chain, after), Err((10, 2)));
+            assert_eq!(opened_with(&[b"a", name], &[(0, 0)], after), Ok(2));
+        }
+        assert_eq!(
+            opened_with(&[b"a", b"n"], &[(0, 1), (0, 1)], after),
+            Err((12, 2))
+        );
+        assert_eq!(opened_with(&[b"a", b"n"], &[(0, 2)], after), Err((10, 1)));
+    }
+}
+
+/// 24 by where a string begins, and names that end at a zero or at the section's end. The image is the worked file, whose symbol section is `a`,
+/// zero, `n`, zero from 172 on; the recorded section and the place of string 1 are altered.
+#[test]
+fn strings_in_altered_memory() {
+    let mut desk = desk(214);
+    play(&mut desk, &worked_calls(), u64::MAX);
+    let opened = open(&desk.buffer, &Edition::Two.form()).ok().unwrap();
+    let name = |image: &[u8], span: (u64, u64), place: u32| {
+        let mut strings = opened.strings.clone();
+        strings[1] = place;
+        let mut record = opened.record;
+        (record.symbols.offset, record.symbols.size) = span;
+        let passed = Lent {
+            image,
+            record,
+            strings: &strings,
+            entries: &opened.entries,
+        };
+        judged(&passed).and_then(|reader| Ok(String::from_utf8_lossy(reader.name(2)?).into_owned()))
+    };
+    let right = |name: &str| Ok(name.to_string());
+    let image = &desk.buffer;
+    assert_eq!(name(image, (172, 4), 174), right("n"));
+    // The section ends before the zero, before `n`, or is empty.
+    assert_eq!(name(image, (172, 3), 174), right("n"));
+    assert_eq!(name(image, (172, 2), 174), Err(24));
+    assert_eq!(name(image, (172, 2), 173), right(""));
+    assert_eq!(name(image, (172, 2), 172), right("a"));
+    assert_eq!(name(image, (172, 1), 172), right("a"));
+    assert_eq!(name(image, (172, 0), 172), Err(24));
+    // One before the start, the last zero, the end, one after it.
+    assert_eq!(name(image, (172, 4), 171), Err(24));
+    assert_eq!(name(image, (172, 4), 175), right(""));
+    assert_eq!(name(image, (172, 4), 176), Err(24));
+    assert_eq!(name(image, (172, 4), 177), Err(24));
+    assert_eq!(name(image, (173, 3), 174), Err(24));
+    // No zero in the section from there on: other bytes in place of both zeros, and letters after the section.
+    let mut image = desk.buffer.clone();
+    image[173] = b'b';
+    image[175] = b'c';
+    assert_eq!(name(&image, (172, 4), 172), right("abnc"));
+    assert_eq!(name(&image, (172, 4), 174), right("nc"));
+    assert_eq!(name(&image, (172, 4), 175), right("c"));
+    assert_eq!(name(&image, (172, 4), 176), Err(24));
+    assert_eq!(name(&image, (172, 3), 174), right("n"));
 }
 
 /// A node of a tree: its parent, name, kind and count.
@@ -228,7 +363,13 @@ type Key<'a> = (u64, &'a str, Kind, u32);
 
 /// The image of a tree; all nodes have their data at the start of the data section.
 fn tree(edition: Edition, keys: &[Key]) -> Vec<u8> {
-    let (header, data) = (edition.header(), 64);
+    let mut draft = draft_of(edition, keys);
+    lay_out(&mut draft, [DATA, SYMBOLS, TREE], 64, b"");
+    draft.finish()
+}
+
+/// The tables of a tree, not yet placed; all nodes have their data at the end of the header.
+fn draft_of(edition: Edition, keys: &[Key]) -> Draft {
     let mut strings: Vec<Vec<u8>> = keys.iter().map(|key| key.1.into()).collect();
     strings.sort();
     strings.dedup();
@@ -240,28 +381,38 @@ fn tree(edition: Edition, keys: &[Key]) -> Vec<u8> {
             .position(|name| *name == key.1.as_bytes())
             .unwrap() as u32,
         count: key.3,
-        offset: header as u64,
+        offset: edition.header() as u64,
     };
     let nodes: Vec<Node> = keys.iter().map(node).collect();
-    let mut draft = Draft {
+    Draft {
         edition,
         records: [strings.len() as u64, nodes.len() as u64, 0],
         strings,
+        unended: false,
         nodes,
         tail: Vec::new(),
         cut: 0,
         bytes: Vec::new(),
         spans: [Span::default(); 3],
-    };
-    let mut at = header as u64;
-    let tables = [(SYMBOLS, draft.symbols().len()), (TREE, draft.tree().len())];
-    for (section, size) in [(DATA, data)].into_iter().chain(tables) {
-        let size = size as u64;
-        draft.spans[section] = Span { offset: at, size };
-        at += size;
     }
-    draft.bytes = vec![0; at as usize];
-    draft.finish()
+}
+
+/// Places the sections one after another from the header on, and some bytes after them.
+fn lay_out(draft: &mut Draft, order: [usize; 3], data: usize, after: &[u8]) {
+    let mut sizes = [0; 3];
+    sizes[SYMBOLS] = draft.symbols().len();
+    sizes[TREE] = draft.tree().len();
+    sizes[DATA] = data;
+    let mut at = draft.edition.header();
+    for section in order {
+        draft.spans[section] = Span {
+            offset: at as u64,
+            size: sizes[section] as u64,
+        };
+        at += sizes[section];
+    }
+    draft.bytes = vec![0; at];
+    draft.bytes.extend(after);
 }
 
 /// What `list` and `listall` print of a tree, in both editions alike.
@@ -391,20 +542,37 @@ fn places_for_an_order() {
     }
 }
 
-/// Every image that is made for a verdict gets it, and each verdict from 2 to 13 and from 25 to 27 is met.
+/// Every image that is made for a verdict gets it, and each verdict from 2 to 13 and from 25 to 27 is met, but 8, which no file gets. A table without
+/// its last zero is met with each verdict that depends on the strings.
 #[test]
 fn aims() {
     let mut report = Report::default();
     let mut met = [0; 28];
+    let mut unended = [0; 28];
     for number in 0..1500 {
         let image = image(20, number);
         let reported = open(&image.bytes, &form_for(&image.bytes));
         report.begin(20, number, &image);
         report.opened(&image, &reported);
         report.end(&image.bytes);
-        met[reported.err().map_or(0, |refusal| refusal.0 as usize)] += 1;
+        let verdict = reported.err().map_or(0, |refusal| refusal.0 as usize);
+        met[verdict] += 1;
+        unended[verdict] += usize::from(last_byte(&image.bytes).is_some_and(|byte| byte != 0));
     }
     assert!(report.finish());
-    let mut verdicts = [0].into_iter().chain(2..=13).chain(25..=27);
+    let mut verdicts = [0].into_iter().chain(2..=7).chain(9..=13).chain(25..=27);
     assert!(verdicts.all(|number| met[number] > 0), "{met:?}");
+    assert_eq!(met[8], 0);
+    let mut of_strings = [0, 10, 12, 25, 26, 27].into_iter();
+    assert!(of_strings.all(|number| unended[number] > 2), "{unended:?}");
+}
+
+/// The last byte of an image's symbol section, if the header names one inside the image.
+fn last_byte(image: &[u8]) -> Option<u8> {
+    let edition = Edition::from_text(image)?;
+    let place = edition.place_of(SYMBOLS);
+    let header = image.get(place..place + 16)?;
+    let end = big(header, 0, 8).checked_add(big(header, 8, 8))?;
+    let last = end.checked_sub(u64::from(big(header, 8, 8) > 0))?;
+    (last < end).then(|| image.get(last as usize).copied())?
 }

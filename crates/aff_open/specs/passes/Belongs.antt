@@ -1,9 +1,8 @@
 -- What the passes of 24 report to each other.
 use mathlib.Core.Path.{_≡_}
-use mathlib.Core.Bool.{Bool, _&&_, _||_}
+use mathlib.Core.Bool.{Bool, _&&_}
 use mathlib.Core.List.{List}
-use Prim.Native.Nat.{ℕ, _-_, _≤_, _<_}
-use lib.Dec.{ltb, leb}
+use Prim.Native.Nat.{ℕ, _≤_, _<_}
 use lib.ListN.{getD}
 use Rattle.aff_format.specs.Lowest.{noneFrom}
 use Rattle.aff_format.specs.declared.entry.Entry.{Entry}
@@ -20,18 +19,7 @@ nodesBelong image reader entries =
 
 unfoldable pub tablesBelong : List ℕ → Reader → List ℕ → List ℕ → Bool
 tablesBelong image reader strings entries =
-    noneFrom (stringLost image (reader .symbols) strings) (reader .strings) 0 && nodesBelong image reader entries
-
--- r is the place after the last zero from `from` to `end`, or `from` where there is none.
-pub record LastZero (image : List ℕ) (from end r : ℕ) : Type 0 where
-  pub least : from ≤ r
-  pub most : r ≤ end
-  pub is-zero : from < r → getD image (r - 1) 0 ≡ 0
-  pub none-after : (z : ℕ) → r ≤ z → z < end → getD image z 0 ≡ 0 → ⊥
-
--- Number i of some places is not one from `from` on and below `end`.
-unfoldable pub placeOutside : ℕ → ℕ → List ℕ → ℕ → Bool
-placeOutside from end places i = ltb (getD places i 0) from || leb end (getD places i 0)
+    noneFrom (stringLost (reader .symbols) strings) (reader .strings) 0 && nodesBelong image reader entries
 
 -- Parents of the nodes 1 to n, copied.
 pub record ParentsCopied (entry : ℕ → Entry) (n : ℕ) (parents : List ℕ) : Type 0 where

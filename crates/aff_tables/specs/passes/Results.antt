@@ -13,7 +13,7 @@ use Rattle.aff_format.specs.declared.entry.FoundEntry.{FoundEntry}
 use Rattle.aff_format.specs.declared.entry.FoundEntry.the-variants.{Whole, Broken}
 use Rattle.aff_format.specs.Limits.{stringLimit}
 use Rattle.aff_format.specs.Lowest.{lowestFrom, checkLowest}
-use Rattle.aff_format.specs.Strings.{stringsOf, endsInZero}
+use Rattle.aff_format.specs.Strings.{stringsOf}
 use Rattle.aff_format.specs.Subkey.{isSubkey}
 use Rattle.aff_format.specs.declared.lowest.Lowest.{Lowest}
 use Rattle.aff_format.specs.declared.lowest.Lowest.the-variants.{Nothing, At}
@@ -69,9 +69,8 @@ countedOf e records strings n = cond (countDiffers e records n) symbols.CountDif
 -- The first fault of the bytes of a symbol section, in the order of `symbolChecks`, or how many strings it has.
 abbrev pub symbolsOf : Edition → ℕ → List ℕ → Symbols
 symbolsOf e records section =
-    cond (not (endsInZero section)) symbols.Unterminated
-    (cond (ltb stringLimit (length (stringsOf section))) symbols.TooMany
-    (countedOf e records (stringsOf section) (length (stringsOf section))))
+    cond (ltb stringLimit (length (stringsOf section))) symbols.TooMany
+    (countedOf e records (stringsOf section) (length (stringsOf section)))
 
 -- Whether a string is a subkey, as a number.
 abbrev pub bit : Bool → ℕ
