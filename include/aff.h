@@ -75,7 +75,7 @@ bool aff_form_for(const uint8_t *image, size_t image_length, uint8_t *output, si
 // section, [5] and [6] of the tree section, [7] and [8] of the data section, [9] the number of strings, [10] of nodes without the root, [11] of data
 // records as the header has it.
 // The strings of the symbol section are separated by zero bytes: each ends at its zero. If the section's last byte is not zero, the bytes after its last
-// zero are one more string, which ends at the section's end. 25 to 27 count and compare the strings so.
+// zero are one more string, which ends at the section's end. 25 to 27 are about the strings found this way.
 // The faults are looked for in the order 1 to 7, 25 to 27, 9 to 13, and the first found is the number. The place is that of a section, a string, an entry
 // or a node, by the number. After 1 the work areas are unchanged, after another refusal they are all zero; record[1] to record[11] are 0 after every
 // refusal. Returns 255 and changes nothing if the record has fewer than 12 numbers.
@@ -85,9 +85,9 @@ uint32_t aff_open_image(const uint8_t *image, size_t image_length, const uint8_t
 // ---- Reading
 
 // What every reading call takes first: the image, the record (12 numbers) and the work areas, as the opening left them. A node is a number: 0 is the
-// root, the others go from 1 to record[10]. Each call first validates all of that, in time proportional to the number of strings and nodes, and returns 24 if it
-// does not belong together. Of a string it validates that it begins inside the recorded symbol section, before the section's end; it ends at the first
-// zero from there on, or at the section's end. A refused call leaves its outputs unchanged.
+// root, the others go from 1 to record[10]. Each call first validates all of that, in time proportional to the number of strings and nodes, and returns
+// 24 if it does not belong together. A string must begin inside the recorded symbol section, before the section's end; it ends at the first zero from
+// there on, or at the section's end. A refused call leaves its outputs unchanged.
 #define AFF_OPENED                                                                                                                     \
     const uint8_t *image, size_t image_length, const uint64_t *record, const uint32_t *strings, size_t strings_length,                \
         const uint32_t *entries, size_t entries_length
@@ -101,9 +101,9 @@ uint32_t aff_lookup(AFF_OPENED, const uint8_t *path, size_t path_length, uint64_
 // with all false it is at most record[10], and 0 if all nodes are Void. Returns 21 if the output has fewer places than that.
 uint32_t aff_listing(AFF_OPENED, bool all, uint32_t *output, size_t output_length, uint64_t *count);
 
-// Finds a node's name: the size bytes at image + offset. A zero byte follows it, which is not counted; but the last name of the symbol section may end at
-// the section's end, and then any byte may follow, or none: use size, and no function that looks for a zero. The root's name is empty. Returns 15 for a
-// number of no node.
+// Finds a node's name: the size bytes at image + offset. It is not a C string: a zero byte usually follows it, but the last name of the symbol section
+// may end at the section's end, and then any byte or none follows. Use size. The root's name is empty, with offset and size 0. Returns 15 for a number
+// of no node.
 uint32_t aff_name(AFF_OPENED, uint64_t node, uint64_t *offset, uint64_t *size);
 
 // Finds a node's data: the size bytes at image + offset, big-endian as the file has them; size is 0 for a Void node. Returns 15 for a number of no

@@ -1,4 +1,4 @@
-// Calls the library through include/aff.h and compares what it returns and leaves with what the header says: `c_calls samples/worked.aff samples/unended.aff`.
+// Calls the library through include/aff.h and compares what it returns and leaves with what the header says: `c_calls samples/worked.aff samples/unterminated.aff`.
 // It makes document 01's worked file with every total allowance from 0 to 216, tries each refusal of the writer with every other value of the record
 // unchanged, passes null pointers with length 0, reads a file whose last string has no zero, and reads special numbers. It prints counts; the exit status
 // is 1 where anything differs.
@@ -7,7 +7,7 @@
 #include <stdlib.h>
 #include <string.h>
 
-enum { WORKED = 214, UNENDED = 213, STORES = 215, BUFFER = 400 };
+enum { WORKED = 214, UNTERMINATED = 213, STORES = 215, BUFFER = 400 };
 
 static const uint8_t form[AFF_FORM] = {0, 64, 2, 53, 4, 0, 3, 253, 0, 0, 0, 168};
 static const uint8_t seventy[4] = {0xff, 0xff, 0xff, 0xba};
@@ -314,11 +314,11 @@ static void named(const uint8_t *image, size_t length, uint64_t place, const cha
 
 // The worked file without its last zero: the symbol section is from 172 to 174, and the tree table follows at once. Then the worked file again, with
 // another byte in place of that zero and another place or size recorded: the name ends at the section's end, and a string that begins there is 24.
-static void unended_names(const uint8_t *worked, const uint8_t *unended) {
+static void unterminated_names(const uint8_t *worked, const uint8_t *unterminated) {
     static uint8_t image[WORKED];
     uint64_t n = 77, size = 77;
-    CHECK(open_image(unended, UNENDED) == AFF_OK && record[3] == 172 && record[4] == 3 && record[5] == 175 && record[9] == 2 && strings[1] == 174);
-    named(unended, UNENDED, 174, "n");
+    CHECK(open_image(unterminated, UNTERMINATED) == AFF_OK && record[3] == 172 && record[4] == 3 && record[5] == 175 && record[9] == 2 && strings[1] == 174);
+    named(unterminated, UNTERMINATED, 174, "n");
     memcpy(image, worked, WORKED);
     CHECK(open_image(image, WORKED) == AFF_OK && record[4] == 4);
     named(image, WORKED, 174, "n");
@@ -370,7 +370,7 @@ static void special_numbers(void) {
     CHECK(aff_decode(AFF_CHAR, seventy, 4, 3, &value, &imaginary) == AFF_OK && value == 186 && imaginary == 0);
 }
 
-// The bytes of a file, as many as there are or one more than expected.
+// Reads at most `most` bytes of a file; returns how many.
 static size_t loaded(const char *path, uint8_t *bytes, size_t most) {
     FILE *file = fopen(path, "rb");
     size_t got = file == NULL ? 0 : fread(bytes, 1, most, file);
@@ -381,9 +381,9 @@ static size_t loaded(const char *path, uint8_t *bytes, size_t most) {
 }
 
 int main(int argc, char **argv) {
-    static uint8_t worked[WORKED + 1], unended[UNENDED + 1];
-    if (argc != 3 || loaded(argv[1], worked, sizeof worked) != WORKED || loaded(argv[2], unended, sizeof unended) != UNENDED) {
-        fputs("usage: c_calls samples/worked.aff samples/unended.aff\n", stderr);
+    static uint8_t worked[WORKED + 1], unterminated[UNTERMINATED + 1];
+    if (argc != 3 || loaded(argv[1], worked, sizeof worked) != WORKED || loaded(argv[2], unterminated, sizeof unterminated) != UNTERMINATED) {
+        fputs("usage: c_calls samples/worked.aff samples/unterminated.aff\n", stderr);
         return 2;
     }
     drill(worked);
@@ -394,7 +394,7 @@ int main(int argc, char **argv) {
     null_writing();
     listings(worked);
     outputs(worked);
-    unended_names(worked, unended);
+    unterminated_names(worked, unterminated);
     special_numbers();
     printf("%lu checks, %lu failed\n", checks, failures);
     return failures != 0;

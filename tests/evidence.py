@@ -27,7 +27,7 @@ FOLDER = os.path.join(TARGET, "evidence")
 SECOND = os.path.join(TARGET, "second_reader", "release", "second_reader")
 LIBRARY = os.path.join(TARGET, "staticlib", "libaff_c.a")
 WORKED_FILE = os.path.join(ROOT, "samples", "worked.aff")
-UNENDED_FILE = os.path.join(ROOT, "samples", "unended.aff")
+UNTERMINATED_FILE = os.path.join(ROOT, "samples", "unterminated.aff")
 WARNINGS = ["-Wall", "-Wextra", "-pedantic", "-Werror", "-Wconversion", "-Wshadow", "-I", os.path.join(ROOT, "include")]
 
 # What is compared by the second reader, the command, how many, and what follows these on the command line.
@@ -99,7 +99,7 @@ def sources():
         runs += [
             ends(compile_it),
             ends([read, WORKED_FILE, "/a/n"], out="-70\n"),
-            ends([read, UNENDED_FILE, "/a/n"], out="-70\n"),
+            ends([read, UNTERMINATED_FILE, "/a/n"], out="-70\n"),
             ends([read, WORKED_FILE, "/a"], err="a Void node, which has no data"),
             ends([read, empty, "/e"], err="an empty array"),
             ends([read, WORKED_FILE, "/b"], 1, err="refused 15 0"),
@@ -114,7 +114,7 @@ def sources():
 def calls():
     """tests/c_calls.c prints its own counts."""
     compile_it, path = program("tests/c_calls.c")
-    return ends(compile_it) and subprocess.run([path, WORKED_FILE, UNENDED_FILE]).returncode == 0
+    return ends(compile_it) and subprocess.run([path, WORKED_FILE, UNTERMINATED_FILE]).returncode == 0
 
 
 def stack():

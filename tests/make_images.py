@@ -284,7 +284,7 @@ def symbol_faults_together():
         case(f"edition {ed}: strings {twice} and the data's sum wrong", i, refused(7, 3))
 
 
-def unended():
+def unterminated():
     """The last string has no zero (request C-13). What is after the section is no part of it."""
     many = [b"s%d" % k for k in range(2049)]
     one = [entry(VOID, 0, 0)]
@@ -478,7 +478,7 @@ def main():
     section_faults()
     symbol_faults()
     symbol_faults_together()
-    unended()
+    unterminated()
     tree_faults()
     node_faults()
     crate = os.path.join(top, "crates", "test_open")

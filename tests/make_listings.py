@@ -4,7 +4,7 @@ what must be printed.
 
 What `list` and `listall` print is worked out here from the description of each tree, with no code of the library; the answers at the limits are written
 by hand. It writes crates/test_list/stdin (each image after its length in 4 bytes) and stdout, stdin and stdout of crates/list and crates/listall (65,536
-bytes), of crates/test_list_blocks (a text of more than one block) and of crates/test_list_limit (65,537 bytes), samples/worked.aff, samples/unended.aff and
+bytes), of crates/test_list_blocks (a text of more than one block) and of crates/test_list_limit (65,537 bytes), samples/worked.aff, samples/unterminated.aff and
 tests/test_list.txt.
 
     tests/make_listings.py [FOLDER]      FOLDER: where these are written, the repository where none is given
@@ -137,7 +137,7 @@ def trees():
     yield "2,048 nodes, paths up to 206,848 bytes, an Int at the end", 2, chain(2048, b"s" * 100, kind=INT), REFUSED_21, REFUSED_21
 
 
-def unended():
+def unterminated():
     """Trees whose last string has no zero: what it is, its edition, its nodes, what follows the symbol section (by default the tree table), and what
     `list` and `listall` print. No byte after the section belongs to the name."""
     deep = [(0, b"x.y", CHAR, 3), (1, b"last:one", VOID, 0), (2, b"last:one", DOUBLE, 1), (0, b"last:one", INT, 0)]
@@ -182,7 +182,7 @@ def cases():
     """What an image is, its bytes, the lines that `list` and `listall` print of it, and the answers of the listing call where it opens."""
     for what, ed, nodes, *by_hand in trees():
         yield f"edition {ed}: {what}", make(ed, nodes), *(by_hand or (lines(nodes, False), lines(nodes))), *calls(nodes)
-    for what, ed, nodes, after, *by_hand in unended():
+    for what, ed, nodes, after, *by_hand in unterminated():
         image = make(ed, nodes, ended=False, after=after)
         yield f"edition {ed}, no last zero: {what}", image, *(by_hand or (lines(nodes, False), lines(nodes))), *calls(nodes)
     yield "65,536 bytes", padded(make(2, WORKED), LIMIT), lines(WORKED, False), lines(WORKED), *calls(WORKED)
@@ -216,7 +216,7 @@ def main():
     write(top, "crates/test_list_limit/stdin", padded(make(2, WORKED), LIMIT + 1))
     write(top, "crates/test_list_limit/stdout", b"".join(TOO_LONG))
     write(top, "samples/worked.aff", make(2, WORKED))
-    write(top, "samples/unended.aff", make(2, WORKED, ended=False))
+    write(top, "samples/unterminated.aff", make(2, WORKED, ended=False))
     print(k + 1, "images")
 
 

@@ -1,5 +1,5 @@
 -- What each call leaves in the caller's memory, by its answer: document 01, 'Numbers handed back': 'A refused opening from 2 to 13 leaves both work areas
--- all zero. 23 leaves the stores made and changes no work area. Other refusals change nothing.' (25 to 27 of request C-11 do too.) The
+-- all zero. 23 leaves the stores made and changes no work area. Other refusals change nothing.' (25 to 27 of request C-11 also leave both work areas all zero.) The
 -- statements are about the definitions that the contracts cite for what record, areas, buffer and output hold at the return, whatever the caller
 -- passed; for the writer, about the steps of a run (crates/aff_run/specs/Run.antt), which are composed of them.
 use mathlib.Core.Path.{_≡_}

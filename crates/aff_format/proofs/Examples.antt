@@ -46,7 +46,7 @@ empty-between : stringsOf (97 ∷ 0 ∷ 0 ∷ 110 ∷ []) ≡ (97 ∷ []) ∷ []
 unfolding stringsOf
 empty-between = refl
 
--- The zero that is put after a run, and where none is.
+-- `withLastZero`: a run that gets a zero, and two that do not.
 zero-put : withLastZero (97 ∷ 0 ∷ 110 ∷ []) ≡ 97 ∷ 0 ∷ 110 ∷ 0 ∷ []
 unfolding withLastZero endsInZero
 zero-put = refl
@@ -55,7 +55,7 @@ none-put : (withLastZero [] ≡ []) × (withLastZero (97 ∷ 0 ∷ []) ≡ 97 �
 unfolding withLastZero endsInZero
 none-put = (refl, refl)
 
--- Its tree table: `a` of the root is Void, `n` of `a` an Int of one element at 168.
+-- The tree table of the worked file: `a` of the root is Void, `n` of `a` an Int of one element at 168.
 tree : List ℕ
 tree =
     1 ∷ 0 ∷ 0 ∷ 0 ∷ 0 ∷ 0 ∷ 0 ∷ 0 ∷ 0 ∷ 0 ∷ 0 ∷ 0 ∷ 0 ∷

@@ -132,7 +132,7 @@ pub textOf-unended : (l : List ℕ) → endsInZero l ≡ false → textOf (strin
 unfolding withLastZero
 textOf-unended l h = text-ended l ∙ rw h
 
--- So a run has the strings of the text that it is with its last zero: no other strings without a zero byte have that text.
+-- The strings of a run are the only ones without a zero byte whose text is the run with its last zero.
 pub strings-with-last-zero : (l : List ℕ) (ss : List (List ℕ)) → withLastZero l ≡ textOf ss → EachWithout 0 ss → stringsOf l ≡ ss
 strings-with-last-zero l ss is w =
     sym (stringsOf-textOf (stringsOf l) (strings-without-zero l)) ∙ ap stringsOf (text-ended l ∙ is) ∙ stringsOf-textOf ss w
@@ -195,16 +195,6 @@ take-upToZero (x ∷ l) = go (eqb x 0) (take-upToZero l)
     go : (b : Bool) → take (length (upToZero l)) l ≡ upToZero l → take (length (cond b [] (x ∷ upToZero l))) (x ∷ l) ≡ cond b [] (x ∷ upToZero l)
     go true h = refl
     go false h = ap (λ (t : List ℕ). x ∷ t) h
-
-pub upToZero-ends : (l : List ℕ) → length (upToZero l) < length l → getD l (length (upToZero l)) 0 ≡ 0
-unfolding upToZero
-upToZero-ends [] h = refl
-upToZero-ends (x ∷ l) h = go (eqb x 0) refl h (upToZero-ends l)
-  where
-    go : (b : Bool) → eqb x 0 ≡ b → length (cond b [] (x ∷ upToZero l)) < suc (length l) → (length (upToZero l) < length l → getD l (length (upToZero l)) 0 ≡ 0)
-        → getD (x ∷ l) (length (cond b [] (x ∷ upToZero l))) 0 ≡ 0
-    go true q k ih = eqb-true x 0 q
-    go false q k ih = ih (omega arith)
 
 -- Places.
 

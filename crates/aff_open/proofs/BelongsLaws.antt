@@ -23,14 +23,13 @@ use Rattle.aff_format.proofs.EntryLaws.{entry-inside}
 use Rattle.aff_format.proofs.KindLaws.{entry-size-bounds}
 use Rattle.aff_format.proofs.LowestLaws.{none-holds, holds-none, none-at}
 use Rattle.aff_format.proofs.TestLaws.{both, all-seven}
-use Rattle.aff_open.specs.Belongs.{readerBelongs, ReaderBelongs, sizesBelong, spanInside, stringLost, nodeLost, climbsBelong}
+use Rattle.aff_open.specs.Belongs.{readerBelongs, ReaderBelongs, sizesBelong, spanInside, stringLost, stringsBelong, nodeLost, climbsBelong}
 use Rattle.aff_open.specs.passes.Belongs.{sectionsInside, nodesBelong, tablesBelong, ParentsCopied}
 use Rattle.aff_tables.specs.passes.Climb.{copiedParent, ParentsExist}
 use Rattle.aff_tables.specs.Nodes.{climbEndless}
 use Rattle.aff_open.specs.Reader.{noReader}
 use Rattle.aff_format.specs.Recorded.{foundEntry, recordedEntry, recordedString}
 use Rattle.aff_open.specs.Sections.{isKnown}
-use Rattle.aff_open.specs.declared.reader.Span.{Span}
 use Rattle.aff_open.specs.declared.reader.Reader.{Reader}
 use Rattle.aff_open.proofs.LostLaws.{Kept, string-asks, entry-kept, kept-entry}
 use Rattle.aff_format.proofs.RecordedLaws.{recorded-found, name-ends}
@@ -91,10 +90,10 @@ sections-hold image reader h =
 
 -- ---- Strings and nodes, where the lowest that is lost is none.
 
-strings-kept : (symbols : Span) (strings : List ℕ) (count : ℕ) → lowestFrom (stringLost symbols strings) count 0 ≡ Nothing
-    → (i : ℕ) → i < count → (symbols .offset ≤ getD strings i 0) × (getD strings i 0 < symbols .offset + symbols .size)
-strings-kept symbols strings count none i l =
-    string-asks symbols strings i .0 (none-holds (stringLost symbols strings) count 0 none i (omega arith) (omega arith))
+strings-kept : (from end : ℕ) (strings : List ℕ) (count : ℕ) → lowestFrom (stringLost from end strings) count 0 ≡ Nothing
+    → (i : ℕ) → i < count → (from ≤ getD strings i 0) × (getD strings i 0 < end)
+strings-kept from end strings count none i l =
+    string-asks from end strings i .0 (none-holds (stringLost from end strings) count 0 none i (omega arith) (omega arith))
 
 module _ (image : List ℕ) (strings nodes : ℕ) (entries : List ℕ) (none : lowestFrom (nodeLost image strings nodes entries) nodes 1 ≡ Nothing) where
   -- Each entry is whole and has no fault.
@@ -136,12 +135,12 @@ belongs-record {image} {reader} {strings} {entries} h =
     let p = both (sizesBelong image reader strings entries) (sectionsInside image reader && tablesBelong image reader strings entries)
     (sym (belongs-parts image reader strings entries) ∙ h) in
     let q = both (sectionsInside image reader) (tablesBelong image reader strings entries) (p .1) in
-    let t = both (noneFrom (stringLost (reader .symbols) strings) (reader .strings) 0) (nodesBelong image reader entries) (q .1) in
+    let t = both (stringsBelong reader strings) (nodesBelong image reader entries) (q .1) in
     let n = both (noneFrom (nodeLost image (reader .strings) (reader .nodes) entries) (reader .nodes) 1) (climbsBelong image reader entries) (t .1) in
     let s = sizes-hold image reader strings entries (p .0) in
     let e = known (editionOf (reader .edition)) (s .6) in
     let d = sections-hold image reader (q .0) in
-    let string = strings-kept (reader .symbols) strings (reader .strings) (none-at _ (not-true _ (t .0))) in
+    let string = strings-kept (reader .symbols .offset) (reader .symbols .offset + reader .symbols .size) strings (reader .strings) (none-at _ (not-true _ (t .0))) in
     let node = nodes-kept image (reader .strings) (reader .nodes) entries (none-at _ (not-true _ (n .0))) in
     record {
       length-recorded = s .0;
@@ -175,10 +174,10 @@ module _ {image : List ℕ} {reader : Reader} {strings entries : List ℕ} (b : 
   unfolding sectionsInside spanInside
   sections-true = rw (le-leb _ _ (b .symbols-inside), le-leb _ _ (b .tree-inside), le-leb _ _ (b .data-inside))
 
-  strings-none : lowestFrom (stringLost (reader .symbols) strings) (reader .strings) 0 ≡ Nothing
+  strings-none : lowestFrom (stringLost (reader .symbols .offset) (reader .symbols .offset + reader .symbols .size) strings) (reader .strings) 0 ≡ Nothing
   strings-none =
       holds-none _ (reader .strings) 0
-      (λ i l m. string-asks (reader .symbols) strings i .1 (b .string-begins i (omega arith), b .string-before-end i (omega arith)))
+      (λ i l m. string-asks _ _ strings i .1 (b .string-begins i (omega arith), b .string-before-end i (omega arith)))
 
   nodes-none : lowestFrom (nodeLost image (reader .strings) (reader .nodes) entries) (reader .nodes) 1 ≡ Nothing
   unfolding nodeLost
@@ -205,7 +204,7 @@ none-belongs image strings entries = sizes-decide image noReader strings entries
 -- ---- What a call that passes 24 knows.
 
 module _ {image : List ℕ} {reader : Reader} {strings entries : List ℕ} (b : ReaderBelongs image reader strings entries) where
-  -- No byte of a string is outside the symbol section, which is inside the image (`symbols-inside`).
+  -- A string ends no later than the symbol section, which is inside the image (`symbols-inside`).
   pub string-within : (i : ℕ) → i < reader .strings
       → getD strings i 0 + length (recordedString image (reader .symbols .offset + reader .symbols .size) strings i) ≤ reader .symbols .offset + reader .symbols .size
   string-within i l =

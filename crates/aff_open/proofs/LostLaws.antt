@@ -1,7 +1,7 @@
 -- What 24 asks of one string and of one node, in the terms of the passes that look for the lowest one lost: the places of strings and the entries
 -- found. Assumes nothing.
 use mathlib.Core.Path.{_≡_, refl, sym, _∙_}
-use mathlib.Core.Bool.{Bool, true, false, true≢false}
+use mathlib.Core.Bool.{Bool, true, false, true≢false, or-true}
 use mathlib.Core.List.{List}
 use mathlib.Core.Logic.{_↔_, ⊎-elim}
 use Prim.Native.Nat.{ℕ, _+_, _*_, _≤_, _<_}
@@ -9,7 +9,7 @@ use native.Mathlib.Nat.{eq-or-lt-of-le}
 use native.Mathlib.Omega.{arith}
 use lib.ListN.{length, getD, set}
 use lib.Seq.{getD-set-same, getD-set-other}
-use borrow.Author.Tests.{le-ltb, lt-leb, ltb-false, leb-false}
+use borrow.Author.Tests.{lt-ltb, le-ltb, lt-leb, le-leb, ltb-false, leb-false}
 use Rattle.aff_format.specs.Kind.{elementSize, isVoid}
 use Rattle.aff_format.specs.declared.entry.Entry.{Entry}
 use Rattle.aff_format.specs.declared.entry.FoundEntry.{FoundEntry}
@@ -19,20 +19,27 @@ use Rattle.aff_open.specs.Belongs.{stringLost, entryLost, nodeLost}
 use Rattle.aff_open.specs.passes.Belongs.{ParentsCopied}
 use Rattle.aff_format.specs.Entry.{orNone}
 use Rattle.aff_format.specs.Recorded.{foundEntry, recordedEntry}
-use Rattle.aff_open.specs.declared.reader.Span.{Span}
 use Rattle.aff_format.proofs.EntryLaws.{data-asks}
 use Rattle.aff_format.proofs.RecordedLaws.{recorded-found}
 
 -- ---- Strings.
 
--- A string that is not lost begins inside the section, and back.
-pub string-asks : (symbols : Span) (strings : List ℕ) (i : ℕ)
-    → (stringLost symbols strings i ≡ false) ↔ ((symbols .offset ≤ getD strings i 0) × (getD strings i 0 < symbols .offset + symbols .size))
-unfolding stringLost
-string-asks symbols strings i = (
-  λ h. let (b, e) = or-false _ _ h in (ltb-false _ _ b, leb-false _ _ e),
-  λ (b, e). rw (le-ltb (getD strings i 0) (symbols .offset) b, lt-leb (symbols .offset + symbols .size) (getD strings i 0) e),
-)
+-- A string that is not lost begins inside the section, and back; one that begins before it, at its end or after it is lost.
+module _ (from end : ℕ) (strings : List ℕ) (i : ℕ) where
+  pub string-asks : (stringLost from end strings i ≡ false) ↔ ((from ≤ getD strings i 0) × (getD strings i 0 < end))
+  unfolding stringLost
+  string-asks = (
+    λ h. let (b, e) = or-false _ _ h in (ltb-false _ _ b, leb-false _ _ e),
+    λ (b, e). rw (le-ltb (getD strings i 0) from b, lt-leb end (getD strings i 0) e),
+  )
+
+  pub string-before : getD strings i 0 < from → stringLost from end strings i ≡ true
+  unfolding stringLost
+  string-before h = rw (lt-ltb (getD strings i 0) from h)
+
+  pub string-after : end ≤ getD strings i 0 → stringLost from end strings i ≡ true
+  unfolding stringLost
+  string-after h = simp (le-leb end (getD strings i 0) h, or-true)
 
 -- ---- Nodes.
 

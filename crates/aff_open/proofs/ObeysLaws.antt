@@ -181,10 +181,10 @@ module _ {image form : List ℕ} (o : Obeys image form) where
       let twelve : length form ≡ 12 = ap length (sym (o .number-form)) ∙ length-part 20 12 image (omega arith) in
       rw edition-found ((twelve, refl, refl, o .size), (long, ((o .edition, o .text), (whole, (o .number-form, (o .header-sum, sections-hold))))))
 
--- ---- The zero of the last string is no part of what a file shows.
+-- ---- The zero after a last string that is not empty makes no difference to the strings.
 
--- A file whose symbol table does not end in zero, and a file with that table and one zero after it, have the same strings. (So each table that is not
--- empty may be written in two ways; the other sections, sums and offsets may be anything that obeys.)
+-- A file whose symbol table does not end in zero, and a file with that table and one zero after it, have the same strings. So a table whose last string is
+-- not empty may be written in two ways. The other sections, sums and offsets may be anything that obeys.
 pub same-strings : {image ended form form-ended : List ℕ} (o : Obeys image form) (p : Obeys ended form-ended)
     → endsInZero (sectionBytes (o .edition) Symbol image) ≡ false
     → sectionBytes (p .edition) Symbol ended ≡ sectionBytes (o .edition) Symbol image ++ (0 ∷ []) → p .strings ≡ o .strings

@@ -38,9 +38,15 @@ sizesBelong image reader strings entries =
 unfoldable pub spanInside : List ℕ → Span → Bool
 spanInside image span = leb (span .offset + span .size) (length image)
 
--- String i does not begin inside the symbol section. It ends at its first zero from there on, or at the section's end (`recordedString`).
-unfoldable pub stringLost : Span → List ℕ → ℕ → Bool
-stringLost symbols strings i = ltb (getD strings i 0) (symbols .offset) || leb (symbols .offset + symbols .size) (getD strings i 0)
+-- String i does not begin inside a symbol section that begins at `from` and ends at `end`. It ends at its first zero from there on, or at the section's
+-- end (`recordedString`).
+unfoldable pub stringLost : ℕ → ℕ → List ℕ → ℕ → Bool
+stringLost from end strings i = ltb (getD strings i 0) from || leb end (getD strings i 0)
+
+-- So each string begins inside it.
+abbrev pub stringsBelong : Reader → List ℕ → Bool
+stringsBelong reader strings =
+    noneFrom (stringLost (reader .symbols .offset) (reader .symbols .offset + reader .symbols .size) strings) (reader .strings) 0
 
 -- An entry falls outside the image or its type does not exist; its parent or string number does not exist; its data fall outside the image.
 abbrev pub entryLost : ℕ → ℕ → ℕ → FoundEntry → Bool
@@ -56,7 +62,7 @@ placesBelong image reader strings entries =
     spanInside image (reader .symbols)
     && (spanInside image (reader .tree)
     && (spanInside image (reader .«data»)
-    && (noneFrom (stringLost (reader .symbols) strings) (reader .strings) 0
+    && (stringsBelong reader strings
     && noneFrom (nodeLost image (reader .strings) (reader .nodes) entries) (reader .nodes) 1)))
 
 -- No climb takes more steps than there are nodes.

@@ -1,4 +1,4 @@
-// Whether a record belongs to what is passed with it (24). Linear in the strings and the nodes; no byte of the symbol section is read.
+// Whether a record belongs to what is passed with it (24). Linear in the strings and the nodes; strings are judged by their places alone.
 use crate::reader::Reader;
 use crate::reader::Span;
 use aff_format::Edition;
@@ -83,13 +83,11 @@ fn sections_inside(image: &[u8], reader: Reader) -> bool
     span_inside(image, data)
 }
 
-// The lowest string that does not begin inside the symbol section. Two comparisons a string; it ends at its zero or at the section's end.
-fn lost_string(symbols: Span, strings: &[u32], count: usize) -> Lowest
-    requires { ⌜ symbols .offset + symbols .size ≤ imageLimit ⌝ }
-    ensures { λ r. ⌜ r ≡ lowestFrom (stringLost symbols (now (strings .entry))) count 0 ⌝ }
+// The lowest string that does not begin inside the symbol section, which begins at `from` and ends at `end`. Two comparisons a string. A string ends at
+// its zero or at the section's end.
+fn lost_string(from: usize, end: usize, strings: &[u32], count: usize) -> Lowest
+    ensures { λ r. ⌜ r ≡ lowestFrom (stringLost from end (now (strings .entry))) count 0 ⌝ }
 {
-    let from = symbols.offset;
-    let end = from + symbols.size;
     let mut i: usize = 0;
     while i < count {
         let place = recorded::place(strings, i);
@@ -169,7 +167,8 @@ fn tables_belong(image: &[u8], reader: Reader, strings: &[u32], entries: &[u32])
     ensures { λ r. ⌜ r ≡ tablesBelong (now (image .entry)) reader (now (strings .entry)) (now (entries .entry)) ⌝ }
 {
     let symbols = reader.symbols;
-    match lost_string(symbols, strings, reader.strings) {
+    let end = symbols.offset + symbols.size;
+    match lost_string(symbols.offset, end, strings, reader.strings) {
         Lowest::At(_) => false,
         Lowest::Nothing => nodes_belong(image, reader, entries),
     }

@@ -287,7 +287,7 @@ fn no_numbers(random: &Random, draft: &mut Draft) {
 /// earlier string, 27, or no subkey, 10 if a node has it. The counts are those of the table before.
 fn last_zero(random: &Random) -> Image {
     let mut draft = tables(random);
-    draft.unended = false;
+    draft.unterminated = false;
     if draft.strings.is_empty() || (random.one_in(4) && draft.strings.len() < MOST) {
         let empty = !draft.strings.contains(&Vec::new()) && random.one_in(2);
         let string = if empty {
@@ -348,11 +348,11 @@ fn accepted(draft: Draft, what: &str) -> Image {
     }
 }
 
-/// A last string with no zero, and what nodes make of it: the name of a node, accepted; no subkey, 10 if a node has it; the name of two
+/// A last string with no zero, and how nodes use it: the name of a node, accepted; no subkey, 10 if a node has it; the name of two
 /// siblings, 12; one number beyond, 10.
 fn name_not_ended(random: &Random) -> Image {
     let mut draft = base(random, 2);
-    draft.unended = true;
+    draft.unterminated = true;
     if draft.strings.len() == MOST {
         return accepted(placed(random, draft), "2,048 strings");
     }
@@ -396,7 +396,7 @@ fn name_not_ended(random: &Random) -> Image {
 /// 25: "above 2,048", reported string 2,048. A wrong count and repeated strings are checked later.
 fn many_strings(random: &Random) -> Image {
     let mut draft = tables(random);
-    draft.unended = !random.one_in(3);
+    draft.unterminated = !random.one_in(3);
     grow(random, &mut draft);
     let strings = draft.strings.len();
     draft.records[SYMBOLS] = any_count(random, strings as u64);
@@ -435,7 +435,7 @@ fn fill(draft: &mut Draft, size: usize) {
 /// 26: "count differs", reported 0; only edition 2 has a count. A repeated string is checked later.
 fn symbol_count(random: &Random) -> Image {
     let mut draft = tables(random);
-    draft.unended = !random.one_in(3);
+    draft.unterminated = !random.one_in(3);
     draft.edition = Edition::Two;
     let repeated = random.one_in(3);
     if repeated {
@@ -454,7 +454,7 @@ fn symbol_count(random: &Random) -> Image {
 /// 27: "repeated string", reported "the lowest string that equals an earlier one". The count is right.
 fn repeated_string(random: &Random) -> Image {
     let mut draft = tables(random);
-    draft.unended = !random.one_in(3);
+    draft.unterminated = !random.one_in(3);
     shorten(&mut draft);
     let place = match random.below(8) {
         0 => last_as_first(&mut draft),

@@ -59,7 +59,7 @@ pub struct Draft {
     pub edition: Edition,
     pub strings: Vec<Vec<u8>>,
     /// Whether the last string has no zero, where it has a byte (request C-13).
-    pub unended: bool,
+    pub unterminated: bool,
     pub nodes: Vec<Node>,
     /// Bytes after the last entry, in the tree section; bytes cut off its end.
     pub tail: Vec<u8>,
@@ -85,7 +85,7 @@ impl Draft {
 
     /// Whether the symbol section ends with a byte of its last string. An empty string has its zero always: without it, it would be none.
     pub fn lacks_zero(&self) -> bool {
-        self.unended && self.strings.last().is_some_and(|string| !string.is_empty())
+        self.unterminated && self.strings.last().is_some_and(|string| !string.is_empty())
     }
 
     pub fn tree(&self) -> Vec<u8> {
@@ -288,7 +288,7 @@ pub fn tables(random: &Random) -> Draft {
 }
 
 /// Adds a string before the last one that begins as the last one does. `apart` writes the rest of it after a section that lacks its last zero:
-/// who reads on there finds the two equal.
+/// a reader that goes on after the section would find the two equal.
 fn longer_before_last(random: &Random, draft: &mut Draft) {
     let last = draft.strings.len().saturating_sub(1);
     let Some(string) = draft.strings.last() else {
@@ -320,7 +320,7 @@ pub fn draft(random: &Random, strings: Vec<Vec<u8>>, nodes: Vec<Node>) -> Draft 
             nodes.len() as u64,
             random.pick(&[full, full, 0, u64::MAX, 1 << 32, any]),
         ],
-        unended: random.one_in(3),
+        unterminated: random.one_in(3),
         strings,
         nodes,
         tail: Vec::new(),
@@ -527,7 +527,7 @@ fn over_signature(random: &Random) -> Image {
     let nodes = if way == 3 { random.below(4) } else { 0 };
     let mut draft = draft(random, vec![string], (0..nodes).map(node).collect());
     draft.edition = edition;
-    draft.unended |= way == 3;
+    draft.unterminated |= way == 3;
     apart(random, &mut draft);
     draft.spans[SYMBOLS].offset = place as u64;
     lawful(draft, "symbols over the signature")

@@ -92,7 +92,7 @@ fn opened(edition: Edition, symbols: &[u8], count: u64, tree: &[u8]) -> Result<u
     let mut draft = Draft {
         edition,
         strings: Vec::new(),
-        unended: false,
+        unterminated: false,
         nodes: Vec::new(),
         tail: Vec::new(),
         cut: 0,
@@ -159,12 +159,12 @@ fn strings_too_many_or_repeated() {
         (section(&[""; 9000]), Err((25, 2048))),
     ];
     for (symbols, answer) in tables {
-        judged_so(&symbols, strings_in(&symbols), answer);
+        assert_answer(&symbols, strings_in(&symbols), answer);
     }
 }
 
 /// What opening answers to a table, in both editions, with the right count, and before the tree's 9.
-fn judged_so(symbols: &[u8], count: u64, answer: Result<u64, Refusal>) {
+fn assert_answer(symbols: &[u8], count: u64, answer: Result<u64, Refusal>) {
     for edition in EDITIONS {
         assert_eq!(opened(edition, symbols, count, b""), answer);
         let with_bad_tree = answer.and(Err((9, 1)));
@@ -235,7 +235,7 @@ fn last_string_not_ended() {
         (joined(vec![0; 2048], "a"), 2049, Err((25, 2048))),
     ];
     for (symbols, count, answer) in tables {
-        judged_so(&symbols, count, answer);
+        assert_answer(&symbols, count, answer);
         let many = count > 2048;
         for wrong in [count - 1, count + 1] {
             let expected = if many { (25, 2048) } else { (26, 0) };
@@ -256,7 +256,7 @@ fn worked_file_not_ended() {
     let lines = b"/ void 0\n/a void 0\n/a/n int 1\n";
     for edition in EDITIONS {
         let mut draft = draft_of(edition, &keys);
-        draft.unended = true;
+        draft.unterminated = true;
         lay_out(&mut draft, [DATA, SYMBOLS, TREE], 4, b"");
         assert_eq!(draft.bytes.len(), edition.header() + 45);
         let image = draft.finish();
@@ -264,7 +264,7 @@ fn worked_file_not_ended() {
         assert_eq!(listing(&image, Choice::NotVoid), b"/a/n int 1\n");
         for after in [b"".as_slice(), b"b", b"\0", b"n\0", b"/x", b"\xff"] {
             let mut draft = draft_of(edition, &keys);
-            draft.unended = true;
+            draft.unterminated = true;
             lay_out(&mut draft, [DATA, TREE, SYMBOLS], 4, after);
             assert_eq!(listing(&draft.finish(), Choice::All), lines);
         }
@@ -278,7 +278,7 @@ fn names_not_ended() {
         let both = EDITIONS.map(|edition| {
             let mut draft = draft_of(edition, &[]);
             draft.strings = strings.iter().map(|string| string.to_vec()).collect();
-            draft.unended = true;
+            draft.unterminated = true;
             let node = |(parent, string): &(u64, u32)| Node {
                 code: Kind::Void.code(),
                 parent: *parent,
@@ -388,7 +388,7 @@ fn draft_of(edition: Edition, keys: &[Key]) -> Draft {
         edition,
         records: [strings.len() as u64, nodes.len() as u64, 0],
         strings,
-        unended: false,
+        unterminated: false,
         nodes,
         tail: Vec::new(),
         cut: 0,
@@ -548,7 +548,7 @@ fn places_for_an_order() {
 fn aims() {
     let mut report = Report::default();
     let mut met = [0; 28];
-    let mut unended = [0; 28];
+    let mut unterminated = [0; 28];
     for number in 0..1500 {
         let image = image(20, number);
         let reported = open(&image.bytes, &form_for(&image.bytes));
@@ -557,14 +557,14 @@ fn aims() {
         report.end(&image.bytes);
         let verdict = reported.err().map_or(0, |refusal| refusal.0 as usize);
         met[verdict] += 1;
-        unended[verdict] += usize::from(last_byte(&image.bytes).is_some_and(|byte| byte != 0));
+        unterminated[verdict] += usize::from(last_byte(&image.bytes).is_some_and(|byte| byte != 0));
     }
     assert!(report.finish());
     let mut verdicts = [0].into_iter().chain(2..=7).chain(9..=13).chain(25..=27);
     assert!(verdicts.all(|number| met[number] > 0), "{met:?}");
     assert_eq!(met[8], 0);
     let mut of_strings = [0, 10, 12, 25, 26, 27].into_iter();
-    assert!(of_strings.all(|number| unended[number] > 2), "{unended:?}");
+    assert!(of_strings.all(|number| unterminated[number] > 2), "{unterminated:?}");
 }
 
 /// The last byte of an image's symbol section, if the header names one inside the image.

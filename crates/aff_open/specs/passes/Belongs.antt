@@ -6,7 +6,7 @@ use Prim.Native.Nat.{ℕ, _≤_, _<_}
 use lib.ListN.{getD}
 use Rattle.aff_format.specs.Lowest.{noneFrom}
 use Rattle.aff_format.specs.declared.entry.Entry.{Entry}
-use Rattle.aff_open.specs.Belongs.{spanInside, stringLost, nodeLost, climbsBelong}
+use Rattle.aff_open.specs.Belongs.{spanInside, stringsBelong, nodeLost, climbsBelong}
 use Rattle.aff_open.specs.declared.reader.Reader.{Reader}
 
 unfoldable pub sectionsInside : List ℕ → Reader → Bool
@@ -18,8 +18,7 @@ nodesBelong image reader entries =
     noneFrom (nodeLost image (reader .strings) (reader .nodes) entries) (reader .nodes) 1 && climbsBelong image reader entries
 
 unfoldable pub tablesBelong : List ℕ → Reader → List ℕ → List ℕ → Bool
-tablesBelong image reader strings entries =
-    noneFrom (stringLost (reader .symbols) strings) (reader .strings) 0 && nodesBelong image reader entries
+tablesBelong image reader strings entries = stringsBelong reader strings && nodesBelong image reader entries
 
 -- Parents of the nodes 1 to n, copied.
 pub record ParentsCopied (entry : ℕ → Entry) (n : ℕ) (parents : List ℕ) : Type 0 where

@@ -28,4 +28,4 @@ returns-2 c = rw (sym (c .before .before .before .lost-string .ensures) ∙ c .b
 pub tables-belong-spec : {M : Type 1} → statement M
 tables-belong-spec =
     tie.close
-    (tie.spec lost-string-requires enum-told enum-told-2 nodes-belong-requires returns returns-2)
+    (tie.spec (λ c. search needs) lost-string-requires enum-told enum-told-2 nodes-belong-requires returns returns-2)
