@@ -77,7 +77,7 @@ def levels(nodes):
 
 
 def one_string(size):
-    """One node. Its name is all of the symbol section: so many bytes, and no zero."""
+    """One node, whose name is the whole symbol section: `size` bytes and no zero."""
     tree = Tree(ended=False)
     tree.add(0, b"a" * size, False)
     return tree

@@ -1,7 +1,7 @@
-// Calls the library through include/aff.h and compares what it returns and leaves with what the header says: `c_calls samples/worked.aff samples/unterminated.aff`.
-// It makes document 01's worked file with every total allowance from 0 to 216, tries each refusal of the writer with every other value of the record
-// unchanged, passes null pointers with length 0, reads a file whose last string has no zero, and reads special numbers. It prints counts; the exit status
-// is 1 where anything differs.
+// Calls the library through include/aff.h and compares what it returns and leaves with what the header says:
+// `c_calls samples/worked.aff samples/unterminated.aff`. It makes document 01's worked file with every total allowance from 0 to 216, tries each refusal
+// of the writer with every other value of the record unchanged, passes null pointers with length 0, reads a file whose last string has no zero, and reads
+// special numbers. It prints counts; the exit status is 1 where anything differs.
 #include "aff.h"
 #include <stdio.h>
 #include <stdlib.h>
