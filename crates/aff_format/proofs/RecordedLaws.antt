@@ -28,7 +28,7 @@ module _ (image : List ℕ) (end at : ℕ) where
   unfolding nameFrom upToZero
   ends-on h f n = rw (part-cons image at end, ne-eqb (getD image at 0) 0) (omega arith)
 
--- It ends no later than the section.
+-- The string that begins at a place of a section ends no later than the section.
 pub name-ends : (image : List ℕ) (end from : ℕ) → from ≤ end → end ≤ length image → from + length (nameFrom image end from) ≤ end
 unfolding nameFrom
 name-ends image end from h f =

@@ -21,7 +21,7 @@ pub enum Refusal {
     SectionOutside(Section),
     // The sum of a section is wrong.
     WrongSectionSum(Section),
-    // Given by no call since request C-13: the last string of a symbol table need not have its zero.
+    // 8. No call reports it since request C-13: the last string of a symbol table need not have its zero.
     UnterminatedSymbolTable,
     // An entry is cut short, of no type or one too many; 0: the count differs.
     BadTreeTable(usize),

@@ -43,7 +43,7 @@ spanInside image span = leb (span .offset + span .size) (length image)
 unfoldable pub stringLost : ℕ → ℕ → List ℕ → ℕ → Bool
 stringLost from end strings i = ltb (getD strings i 0) from || leb end (getD strings i 0)
 
--- So each string begins inside it.
+-- Each recorded string begins inside the recorded symbol section.
 abbrev pub stringsBelong : Reader → List ℕ → Bool
 stringsBelong reader strings =
     noneFrom (stringLost (reader .symbols .offset) (reader .symbols .offset + reader .symbols .size) strings) (reader .strings) 0

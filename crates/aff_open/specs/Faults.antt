@@ -44,7 +44,8 @@ sectionRules e image =
     ∷ rule (Summed e Data image) (refusalAt 7 3)
     ∷ []
 
--- 25 and 26, of the symbol table. 25 reports the first string beyond the limit: strings are numbered from 0.
+-- 25 and 26, of the symbol table. 25 reports the first string beyond the limit: strings are numbered from 0. Every run of bytes splits into strings
+-- (`text-ended`), so `symbol-table` of `Obeys` needs no rule here.
 abbrev pub symbolRules : Edition → List ℕ → List (List ℕ) → List Rule
 symbolRules e image strings =
     rule (length strings ≤ stringLimit) (refusalAt 25 stringLimit)
