@@ -69,10 +69,10 @@ taken name one two is =
       in-path = λ image reader strings entries h.
           never-14 (check (not (readerBelongs image reader strings entries)) (refusal 24) ∷ [])
           (check (not (isAt (found image reader strings entries (47 ∷ name)))) (refusal 15) ∷ []) (lowestOr0 (found image reader strings entries (47 ∷ name)))
-          (refl, tt) (refl, tt) (rw (each-edition (λ e. isPath e (47 ∷ name) ≡ true) one two (editionBy reader)) at h);
+          refl refl (rw (each-edition (λ e. isPath e (47 ∷ name) ≡ true) one two (editionBy reader)) at h);
       as-child = λ buffer writer text tree parent h.
           never-14 (writerChecks buffer writer text tree ++ (check (ltb (writer .nodes) parent) (refusal 15) ∷ [])) (namedChecks writer text tree parent name) (writer .nodes + 1)
-          (refl, (refl, (refl, tt))) (refl, (refl, (refl, tt))) (rw is at h);
+          refl refl (rw is at h);
     }
 
 -- Whether a name is a subkey.

@@ -5,7 +5,7 @@ use mathlib.Core.Path.{_≡_, refl, sym, ap, _∙_}
 use mathlib.Core.Bool.{Bool, true, false, cond, not, _||_, true≢false}
 use mathlib.Core.List.{List, [], _∷_}
 use mathlib.Core.Logic.{_↔_, _⊎_, inl, inr}
-use Prim.Native.Nat.{ℕ, _+_}
+use Prim.Native.Nat.{ℕ}
 use native.Mathlib.Omega.{arith}
 use lib.Dec.{ltb, leb}
 use lib.ListN.{length}
@@ -48,19 +48,26 @@ pub others-not : {A : Type 0} (n : ℕ) (checks : List Check) (a : A) → Others
 others-not n checks a o t h e = eqb-false (t .number) n (others-reported n checks o a h) e
 
 -- A call that judges 24 first answers it exactly where the record does not belong.
-abbrev judged : {A : Type 0} → List Check → A → Bool → Answer A
+abbrev pub judged : {A : Type 0} → List Check → A → Bool → Answer A
 judged more a b = firstWrong (check (not b) (refusal 24) ∷ more) a
 
-module _ {A : Type 0} (more : List Check) (a : A) (o : Others 24 more) where
+-- The checks after it report neither 24 nor 8, which is withdrawn.
+abbrev pub Later : List Check → Type 0
+Later more = Others 24 more × Others 8 more
+
+module _ {A : Type 0} (more : List Check) (a : A) (l : Later more) where
   belongs-not-24 : {b : Bool} → b ≡ true → NotBy 24 (judged more a b)
-  belongs-not-24 h = rw h (others-not 24 more a o)
+  belongs-not-24 h = rw h (others-not 24 more a (l .0))
 
   belongs-is-24 : {b : Bool} → b ≡ false → Is24 A (judged more a b)
   belongs-is-24 h = rw h
 
   belongs-unless : {P : Type 0} (b : Bool) → (b ≡ true → P) → (P → b ≡ true) → Is24Unless P A (judged more a b)
-  belongs-unless true to from = (λ h. absurd (others-not 24 more a o (refusal 24) h refl), λ n. absurd (n (to refl)))
+  belongs-unless true to from = (λ h. absurd (others-not 24 more a (l .0) (refusal 24) h refl), λ n. absurd (n (to refl)))
   belongs-unless false to from = (λ _ p. true≢false (sym (from p)), λ _. refl)
+
+  pub judged-not-8 : (b : Bool) → NotBy 8 (judged more a b)
+  judged-not-8 b = others-not 8 (check (not b) (refusal 24) ∷ more) a (l .1)
 
 -- ---- Reading.
 
@@ -73,34 +80,34 @@ module _ (Sort : (A : Type 0) → Answer A → Type 0) (image : List ℕ) (r : R
   short limit size = check (ltb limit size) (refusal 21) ∷ []
 
   -- What holds of each call that judges 24 first holds of each reading call.
-  each-reading : ((A : Type 0) (more : List Check) (a : A) → Others 24 more → Sort A (judged more a (readerBelongs image r strings entries)))
+  pub each-reading : ((A : Type 0) (more : List Check) (a : A) → Later more → Sort A (judged more a (readerBelongs image r strings entries)))
       → EachReading Sort image r strings entries
   unfolding nameAnswer kindAnswer countAnswer viewAnswer elementAnswer pathAnswer lookupAnswer listingAnswer
   each-reading f =
       record {
-        name = λ node. f _ (number node []) _ (refl, tt);
-        kind = λ node. f _ (number node []) _ (refl, tt);
-        count = λ node. f _ (number node []) _ (refl, tt);
-        view = λ node. f _ (number node []) _ (refl, tt);
-        element = λ node index. f _ (number node (check (leb (countAt image entries node) index) (refusal 16) ∷ [])) _ (refl, (refl, tt));
-        path = λ node buffer. f _ (number node (short buffer (length (pathAt image r strings entries node)))) _ (refl, (refl, tt));
+        name = λ node. f _ (number node []) _ (refl, refl);
+        kind = λ node. f _ (number node []) _ (refl, refl);
+        count = λ node. f _ (number node []) _ (refl, refl);
+        view = λ node. f _ (number node []) _ (refl, refl);
+        element = λ node index. f _ (number node (check (leb (countAt image entries node) index) (refusal 16) ∷ [])) _ (refl, refl);
+        path = λ node buffer. f _ (number node (short buffer (length (pathAt image r strings entries node)))) _ (refl, refl);
         lookup = λ path.
             f _ (check (not (isPath (editionBy r) path)) (refusal 14) ∷ check (not (isAt (found image r strings entries path))) (refusal 15) ∷ []) _
-            (refl, (refl, tt));
-        listing = λ choice buffer. f _ (short buffer (listedCount image r strings entries choice)) _ (refl, tt);
+            (refl, refl);
+        listing = λ choice buffer. f _ (short buffer (listedCount image r strings entries choice)) _ (refl, refl);
       }
 
 module _ (image : List ℕ) (r : Reader) (strings entries : List ℕ) where
   reads : readerBelongs image r strings entries ≡ true → EachReading Not24 image r strings entries
-  reads b = each-reading Not24 image r strings entries (λ A more a o. belongs-not-24 more a o b)
+  reads b = each-reading Not24 image r strings entries (λ A more a l. belongs-not-24 more a l b)
 
   wrong-reads : readerBelongs image r strings entries ≡ false → EachReading Is24 image r strings entries
-  wrong-reads b = each-reading Is24 image r strings entries (λ A more a o. belongs-is-24 more a o b)
+  wrong-reads b = each-reading Is24 image r strings entries (λ A more a l. belongs-is-24 more a l b)
 
   reads-24 : EachReading (Is24Unless (ReaderBelongs image r strings entries)) image r strings entries
   reads-24 =
       each-reading (Is24Unless (ReaderBelongs image r strings entries)) image r strings entries
-      (λ A more a o. belongs-unless more a o (readerBelongs image r strings entries) reader-clauses reader-belongs)
+      (λ A more a l. belongs-unless more a l (readerBelongs image r strings entries) reader-clauses reader-belongs)
 
 -- ---- Writing.
 
@@ -110,35 +117,35 @@ module _ (Sort : (A : Type 0) → Answer A → Type 0) (buffer : List ℕ) (w : 
   awake more = check (not (w .live)) (refusal 22) ∷ more
 
   -- The same of each writing call.
-  each-writing : ((A : Type 0) (more : List Check) (a : A) → Others 24 more → Sort A (judged more a (belongsHere (length buffer) w text tree)))
+  pub each-writing : ((A : Type 0) (more : List Check) (a : A) → Later more → Sort A (judged more a (belongsHere (length buffer) w text tree)))
       → EachWriting Sort buffer w text tree
   unfolding makeAnswer putAnswer closeAnswer
   each-writing f =
       record {
-        make = λ parent name. f _ (awake (childChecks w text tree parent name)) _ (refl, (refl, (refl, (refl, (refl, (refl, tt))))));
-        put = λ node type bytes allowance. f _ (awake (dataChecks w tree node type bytes allowance)) _ (refl, (refl, (refl, (refl, (refl, (refl, tt))))));
-        close = λ allowance. f _ (awake (storeChecks buffer w text tree allowance)) _ (refl, (refl, tt));
+        make = λ parent name. f _ (awake (childChecks w text tree parent name)) _ (refl, refl);
+        put = λ node type bytes allowance. f _ (awake (dataChecks w tree node type bytes allowance)) _ (refl, refl);
+        close = λ allowance. f _ (awake (storeChecks buffer w text tree allowance)) _ (refl, refl);
       }
 
 module _ (buffer : List ℕ) (w : Writer) (text tree : List ℕ) where
   wrong-writes : belongsHere (length buffer) w text tree ≡ false → EachWriting Is24 buffer w text tree
-  wrong-writes b = each-writing Is24 buffer w text tree (λ A more a o. belongs-is-24 more a o b)
+  wrong-writes b = each-writing Is24 buffer w text tree (λ A more a l. belongs-is-24 more a l b)
 
   writes-24 : EachWriting (Is24Unless (WriterBelongs (length buffer) w text tree)) buffer w text tree
   writes-24 =
       each-writing (Is24Unless (WriterBelongs (length buffer) w text tree)) buffer w text tree
-      (λ A more a o. belongs-unless more a o (belongsHere (length buffer) w text tree) writer-clauses writer-belongs)
+      (λ A more a l. belongs-unless more a l (belongsHere (length buffer) w text tree) writer-clauses writer-belongs)
 
 -- ---- What a run's answers say of 24 and 22.
 
 -- The checks of a call of a run report neither.
 exact-others : (n size : ℕ) (tree : Tree) (c : Call) → (n ≡ 22) ⊎ (n ≡ 24) → Others n (callChecks size tree c)
-exact-others n size tree (make parent name) (inl e) = rw e (refl, (refl, (refl, (refl, (refl, tt)))))
-exact-others n size tree (make parent name) (inr e) = rw e (refl, (refl, (refl, (refl, (refl, tt)))))
-exact-others n size tree (put node type bytes allowance) (inl e) = rw e (refl, (refl, (refl, (refl, (refl, tt)))))
-exact-others n size tree (put node type bytes allowance) (inr e) = rw e (refl, (refl, (refl, (refl, (refl, tt)))))
-exact-others n size tree (close allowance) (inl e) = rw e (refl, tt)
-exact-others n size tree (close allowance) (inr e) = rw e (refl, tt)
+exact-others n size tree (make parent name) (inl e) = rw e refl
+exact-others n size tree (make parent name) (inr e) = rw e refl
+exact-others n size tree (put node type bytes allowance) (inl e) = rw e refl
+exact-others n size tree (put node type bytes allowance) (inr e) = rw e refl
+exact-others n size tree (close allowance) (inl e) = rw e refl
+exact-others n size tree (close allowance) (inr e) = rw e refl
 
 exact-not : (n size : ℕ) (tree : Tree) (c : Call) → (n ≡ 22) ⊎ (n ≡ 24) → NotBy n (callAnswer size tree c)
 exact-not n size tree c o = others-not n (callChecks size tree c) (callValue size tree c) (exact-others n size tree c o)

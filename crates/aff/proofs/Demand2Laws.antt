@@ -84,7 +84,7 @@ module _ (image : List ℕ) (r : Reader) (strings entries : List ℕ) (b : Reade
       go true w = (
         λ h.
             absurd
-            (others-not 14 (check (not (isAt (found image r strings entries path))) (refusal 15) ∷ []) _ (refl, tt) (refusal 14)
+            (others-not 14 (check (not (isAt (found image r strings entries path))) (refusal 15) ∷ []) _ refl (refusal 14)
             (rw (it, w) at h) refl),
         λ n. absurd (n (path-sound (editionBy r) path w)),
       )

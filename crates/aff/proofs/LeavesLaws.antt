@@ -5,23 +5,18 @@ use mathlib.Core.List.{List, [], _∷_, _++_}
 use Prim.Native.Nat.{ℕ, _+_, _≤_}
 use native.Mathlib.Omega.{arith}
 use lib.Dec.{eqb, ltb}
-use lib.ListN.{length, take, set}
+use lib.ListN.{length, take, drop, set}
 use lib.Seq.{take-nil}
 use borrow.Author.Tests.{eq-eqb, ne-eqb, not-false}
 use Rattle.aff_format.specs.Answer.{accepted, refused, check, refusal}
-use Rattle.aff_format.specs.Lowest.{lowestFrom, checkLowest}
-use Rattle.aff_format.specs.declared.edition.Edition.{Edition}
-use Rattle.aff_format.specs.declared.section.Section.the-variants.{Data}
 use Rattle.aff_format.specs.declared.refusal.RefusalCode.{RefusalCode}
-use Rattle.aff_format.proofs.AnswerLaws.{Others, others-reported, others-both, passed}
-use Rattle.aff_format.proofs.LowestLaws.{others-lowest}
-use Rattle.aff_tables.specs.Nodes.{Contents, linkWrong, climbEndless, nameTaken, dataOutside, nodeChecks}
-use Rattle.aff_tables.specs.Tables.{repeats}
-use Rattle.aff_open.specs.Opening.{lengthsWrong, headerChecks, sectionChecks, nodesChecked, treeChecked, tableChecks, bodyChecks, contentsIn, upToTables, openChecks, openAnswer, readerFor, stringsAfter, entriesAfter}
-use Rattle.aff_open.specs.Sections.{editionIn, sectionOffset, sectionSize, stringsIn}
+use Rattle.aff_format.proofs.AnswerLaws.{isNone, Others, others-reported, passed}
+use Rattle.aff_open.specs.Opening.{lengthsWrong, headerChecks, bodyChecks, nodesChecked, upToTables, openChecks, openAnswer, readerFor, stringsAfter, entriesAfter}
+use Rattle.aff_open.specs.Sections.{editionIn}
 use Rattle.aff_open.specs.declared.reader.Reader.{Reader}
 use Rattle.aff_open.specs.Belongs.{readerBelongs}
 use Rattle.aff_open.proofs.BelongsLaws.{belongs-record}
+use Rattle.aff_open.proofs.NumbersLaws.{open-numbers}
 use Rattle.aff_read.specs.Answers.{existsChecks as numberChecks}
 use Rattle.aff_read.specs.Paths.{pathAnswer}
 use Rattle.aff_read.specs.Recall.{pathAt}
@@ -40,27 +35,10 @@ use Rattle.aff_read.proofs.OutputLaws.{text-fits, wrote}
 -- ---- Opening.
 
 -- The checks after the first report other numbers than 1.
-node-others : (e : Edition) (from size : ℕ) (c : Contents) → Others 1 (nodeChecks e from size c)
-node-others e from size c =
-    let link = lowestFrom (linkWrong e c) (c .nodes) 1 in
-    let climb = lowestFrom (climbEndless (c .nodes) (c .entry)) (c .nodes) 1 in
-    let name = lowestFrom (nameTaken c) (c .nodes) 1 in
-    let outside = lowestFrom (dataOutside from size (c .entry)) (c .nodes) 1 in
-    others-lowest 1 10 refl link (checkLowest 11 climb ∷ checkLowest 12 name ∷ checkLowest 13 outside ∷ [])
-    (others-lowest 1 11 refl climb (checkLowest 12 name ∷ checkLowest 13 outside ∷ [])
-    (others-lowest 1 12 refl name (checkLowest 13 outside ∷ []) (others-lowest 1 13 refl outside [] tt)))
-
-body-others : (e : Edition) (image : List ℕ) → Others 1 (bodyChecks e image ++ nodesChecked e image)
-body-others e image =
-    others-both 1 (sectionChecks e image) (tableChecks e image ++ nodesChecked e image) (refl, (refl, (refl, (refl, (refl, (refl, tt))))))
-    (others-both 1 (tableChecks e image) (nodesChecked e image)
-    (refl, (refl, others-lowest 1 27 refl (lowestFrom (repeats (stringsIn e image)) (length (stringsIn e image)) 0) (treeChecked e image) (refl, (refl, tt))))
-    (node-others e (sectionOffset e Data image) (sectionSize e Data image) (contentsIn e image)))
-
-later-others : (image form : List ℕ) → Others 1 (headerChecks image form ++ (bodyChecks (editionIn image) image ++ nodesChecked (editionIn image) image))
-later-others image form =
-    others-both 1 (headerChecks image form) (bodyChecks (editionIn image) image ++ nodesChecked (editionIn image) image)
-    (refl, (refl, (refl, (refl, (refl, tt))))) (body-others (editionIn image) image)
+later-others : (image form : List ℕ) (strings entries : ℕ)
+    → Others 1 (headerChecks image form ++ (bodyChecks (editionIn image) image ++ nodesChecked (editionIn image) image))
+unfolding openChecks upToTables
+later-others image form strings entries = ap (λ (ns : List ℕ). isNone 1 (drop 1 ns)) (open-numbers image form strings entries)
 
 -- So 1 is reported exactly where something passed has a wrong length.
 first-alone : (image form : List ℕ) (strings entries : ℕ) {t : RefusalCode} → openAnswer image form strings entries ≡ refused t → lengthsWrong image form strings entries ≡ eqb (t .number) 1
@@ -70,7 +48,7 @@ first-alone image form strings entries {t} h = go (lengthsWrong image form strin
     go : (b : Bool) → lengthsWrong image form strings entries ≡ b → b ≡ eqb (t .number) 1
     go true w = let q : refused (refusal 1) ≡ refused t = rw w at h in let p : refusal 1 ≡ t = cc in ap (λ (x : RefusalCode). eqb (x .number) 1) p
     go false w =
-        sym (others-reported 1 (headerChecks image form ++ (bodyChecks (editionIn image) image ++ nodesChecked (editionIn image) image)) (later-others image form) (readerFor (editionIn image) image) (rw w at h))
+        sym (others-reported 1 (headerChecks image form ++ (bodyChecks (editionIn image) image ++ nodesChecked (editionIn image) image)) (later-others image form strings entries) (readerFor (editionIn image) image) (rw w at h))
 
 passed-first : (image form : List ℕ) (strings entries : ℕ) {r : Reader} → openAnswer image form strings entries ≡ accepted r → lengthsWrong image form strings entries ≡ false
 unfolding openChecks upToTables

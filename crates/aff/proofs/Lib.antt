@@ -5,5 +5,6 @@ pub mod LeavesLaws
 pub mod Demand1Laws
 pub mod Demand2Laws
 pub mod Demand3Laws
+pub mod WithdrawnLaws
 pub mod WorkedSums
 pub mod WorkedLaws

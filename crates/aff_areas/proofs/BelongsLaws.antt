@@ -217,4 +217,4 @@ module _ (size : ℕ) (writer : Writer) (text tree : List ℕ) (v : Verdict)
   judge-refuses more a q e = sym (refused-before (writerChecks size writer text tree) more (tt {0}) a (sym reported ∙ ap answerOfVerdict e))
 
   pub judged-other : (q : Refusal) → v ≡ Refused q → eqb (codeOfRefusal q .number) 23 ≡ false
-  judged-other q e = others-reported 23 (writerChecks size writer text tree) (refl, (refl, tt)) (tt {0}) (sym reported ∙ ap answerOfVerdict e)
+  judged-other q e = others-reported 23 (writerChecks size writer text tree) refl (tt {0}) (sym reported ∙ ap answerOfVerdict e)

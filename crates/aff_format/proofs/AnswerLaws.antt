@@ -1,12 +1,14 @@
 -- Laws of answers and of checks in order. Assumes nothing.
 use mathlib.Core.Path.{_≡_, refl, sym, ap, _∙_}
-use mathlib.Core.Bool.{Bool, true, false, true≢false}
+use mathlib.Core.Bool.{Bool, true, false, not, _&&_, true≢false}
 use mathlib.Core.List.{List, [], _∷_, _++_}
 use Prim.Native.Nat.{ℕ}
 use native.Mathlib.Omega.{arith}
 use lib.Dec.{eqb}
+use borrow.Author.Tests.{not-true}
 use Rattle.aff_format.specs.declared.refusal.RefusalCode.{RefusalCode}
 use Rattle.aff_format.specs.Answer.{accepted, refused, Check, check, firstWrong, Clear}
+use Rattle.aff_format.proofs.TestLaws.{both}
 
 -- No answer is both accepted and refused.
 pub not-both : {A X : Type 0} {a : A} {r : RefusalCode} → refused r ≡ accepted a → X
@@ -69,20 +71,41 @@ clear-both (check wrong r ∷ before) after c = let (a, b) = clear-both before a
 
 -- ---- By number.
 
+-- The numbers that checks report, in their order.
+abbrev pub numbersReported : List Check → List ℕ
+numbersReported [] = []
+numbersReported (check wrong t ∷ checks) = t .number ∷ numbersReported checks
+
+pub numbers-both : (before after : List Check) → numbersReported (before ++ after) ≡ numbersReported before ++ numbersReported after
+numbers-both [] after = refl
+numbers-both (check wrong t ∷ before) after = ap (λ (ns : List ℕ). t .number ∷ ns) (numbers-both before after)
+
+-- n is none of some numbers.
+abbrev pub isNone : ℕ → List ℕ → Bool
+isNone n [] = true
+isNone n (m ∷ ms) = not (eqb m n) && isNone n ms
+
 -- The checks report other numbers than n.
 abbrev pub Others : ℕ → List Check → Type 0
-Others n [] = Unit {0}
-Others n (check wrong t ∷ checks) = (eqb (t .number) n ≡ false) × Others n checks
+Others n checks = isNone n (numbersReported checks) ≡ true
+
+-- Of the first check, and of those after it.
+others-first : (n : ℕ) (wrong : Bool) (t : RefusalCode) (checks : List Check) → Others n (check wrong t ∷ checks) → (eqb (t .number) n ≡ false) × Others n checks
+others-first n wrong t checks o =
+    let (h, p) = both (not (eqb (t .number) n)) (isNone n (numbersReported checks)) o in
+    (not-true (eqb (t .number) n) h, p)
 
 pub others-reported : {A : Type 0} (n : ℕ) (checks : List Check) → Others n checks → (a : A) {t : RefusalCode} → firstWrong checks a ≡ refused t → eqb (t .number) n ≡ false
 others-reported n [] o a e = not-both (sym e)
-others-reported n (check true q ∷ checks) o a {t} e = let p : t ≡ q = cc in rw p (o .0)
-others-reported n (check false q ∷ checks) o a e = others-reported n checks (o .1) a e
+others-reported n (check true q ∷ checks) o a {t} e = let p : t ≡ q = cc in rw p (others-first n true q checks o .0)
+others-reported n (check false q ∷ checks) o a e = others-reported n checks (others-first n false q checks o .1) a e
 
 -- Of two lists, one after the other.
 pub others-both : (n : ℕ) (before after : List Check) → Others n before → Others n after → Others n (before ++ after)
 others-both n [] after o p = p
-others-both n (check wrong t ∷ before) after o p = (o .0, others-both n before after (o .1) p)
+others-both n (check wrong t ∷ before) after o p =
+    let (h, q) = others-first n wrong t before o in
+    rw h (others-both n before after q p)
 
 -- A number that the last check alone can report: those before it found nothing wrong.
 pub last-reported : {A : Type 0} (n : ℕ) (before : List Check) → Others n before → (wrong : Bool) (r : RefusalCode) (a : A) {t : RefusalCode}
@@ -90,6 +113,6 @@ pub last-reported : {A : Type 0} (n : ℕ) (before : List Check) → Others n be
 last-reported n [] o true r a e h = (tt, refl, cc)
 last-reported n [] o false r a e h = not-both (sym e)
 last-reported n (check true q ∷ before) o wrong r a {t} e h =
-    let p : t ≡ q = cc in absurd (true≢false (sym h ∙ ap (λ (x : RefusalCode). eqb (x .number) n) p ∙ o .0))
+    let p : t ≡ q = cc in absurd (true≢false (sym h ∙ ap (λ (x : RefusalCode). eqb (x .number) n) p ∙ others-first n true q before o .0))
 last-reported n (check false q ∷ before) o wrong r a e h =
-    let c = last-reported n before (o .1) wrong r a e h in ((refl, c .0), c .1, c .2)
+    let c = last-reported n before (others-first n false q before o .1) wrong r a e h in ((refl, c .0), c .1, c .2)

@@ -6,12 +6,11 @@ use mathlib.Core.Logic.{⊎-elim}
 use Prim.Native.Nat.{ℕ, zero, suc, _+_, _-_, _≤_, _<_}
 use native.Mathlib.Nat.{eq-or-lt-of-le}
 use native.Mathlib.Omega.{arith}
-use lib.Dec.{eqb}
 use Rattle.aff_format.specs.Answer.{Check, Clear}
 use Rattle.aff_format.specs.Lowest.{lowestFrom, isAt, checkLowest}
 use Rattle.aff_format.specs.declared.lowest.Lowest.{Lowest}
 use Rattle.aff_format.specs.declared.lowest.Lowest.the-variants.{Nothing, At}
-use Rattle.aff_format.proofs.AnswerLaws.{Others}
+use Rattle.aff_format.proofs.AnswerLaws.{numbersReported}
 
 module _ (test : ℕ → Bool) where
   -- One turn of a loop: the number after the first k is it, or the rest decides, or there is no rest.
@@ -91,7 +90,7 @@ pub clear-lowest : (number : ℕ) (l : Lowest) (checks : List Check) → Clear (
 clear-lowest number Nothing checks c = (refl, c .1)
 clear-lowest number (At k) checks c = absurd (true≢false (c .0))
 
--- A check for the lowest reports its own number.
-pub others-lowest : (n number : ℕ) → eqb number n ≡ false → (l : Lowest) (checks : List Check) → Others n checks → Others n (checkLowest number l ∷ checks)
-others-lowest n number h Nothing checks o = (h, o)
-others-lowest n number h (At k) checks o = (h, o)
+-- A check for the lowest reports its own number, whether there is one or not.
+pub numbers-lowest : (number : ℕ) (l : Lowest) (checks : List Check) → numbersReported (checkLowest number l ∷ checks) ≡ number ∷ numbersReported checks
+numbers-lowest number Nothing checks = refl
+numbers-lowest number (At k) checks = refl

@@ -2,6 +2,7 @@
 pub mod SectionLaws
 pub mod TablesLaws
 pub mod OpeningLaws
+pub mod NumbersLaws
 pub mod FaultLaws
 pub mod ObeysLaws
 pub mod LostLaws

@@ -24,7 +24,7 @@ module _ (run : Run) (t : RefusalCode) (h : runBegin run .answer ≡ refused t) 
   pub begin-spent : eqb (t .number) 23 ≡ true → Clear before × (run .allowance < 1) × (t ≡ refusalAt 23 (run .allowance))
   unfolding beginStep beginAnswer
   begin-spent e =
-      let q = last-reported 23 before (refl, (refl, tt)) (ltb (run .allowance) 1) (refusalAt 23 (run .allowance)) 1 h e in
+      let q = last-reported 23 before refl (ltb (run .allowance) 1) (refusalAt 23 (run .allowance)) 1 h e in
       (q .0, ltb-true (run .allowance) 1 (q .1), q .2)
 
   no-stores : (b : Bool) → eqb (t .number) 23 ≡ b → take (cond b (t .place) 0) beginStores ≡ []

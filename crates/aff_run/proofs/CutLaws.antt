@@ -137,10 +137,10 @@ module _ (s : State) where
   unfolding step putAnswer closeAnswer
   step-compared (make parent name) left = alike refl (omega (arith, ap length (take-nil {A = Store} (storesReported (answerTo s (make parent name))))))
   step-compared (put node type bytes allowance) left =
-      compared (putBefore node type bytes) (refl, (refl, (refl, (refl, (refl, (refl, tt)))))) (putStores (s .writer) bytes)
+      compared (putBefore node type bytes) refl (putStores (s .writer) bytes)
       (stepBy s (put node type bytes allowance)) (λ a. refl) (λ a. refl) (λ t e. rw e) allowance left
   step-compared (close allowance) left =
-      compared (writerChecks (length (s .buffer)) (s .writer) (s .text) (s .tree)) (refl, (refl, tt)) (closeStores (s .buffer) (s .writer) (s .text) (s .tree))
+      compared (writerChecks (length (s .buffer)) (s .writer) (s .text) (s .tree)) refl (closeStores (s .buffer) (s .writer) (s .text) (s .tree))
       (stepBy s (close allowance)) (λ a. refl) (λ a. refl) (λ t e. rw e) allowance left
 
   -- A put and a close make as many stores as they report; a make makes none.
@@ -152,12 +152,12 @@ module _ (s : State) where
       → length (step s (put node type bytes allowance) .stores) ≡ storesReported (step s (put node type bytes allowance) .answer)
   unfolding step putAnswer
   put-reports node type bytes allowance =
-      reported-made (putBefore node type bytes) (refl, (refl, (refl, (refl, (refl, (refl, tt)))))) (putStores (s .writer) bytes) allowance
+      reported-made (putBefore node type bytes) refl (putStores (s .writer) bytes) allowance
 
   pub close-reports : (allowance : ℕ) → length (step s (close allowance) .stores) ≡ storesReported (step s (close allowance) .answer)
   unfolding step closeAnswer
   close-reports allowance =
-      reported-made (writerChecks (length (s .buffer)) (s .writer) (s .text) (s .tree)) (refl, (refl, tt)) (closeStores (s .buffer) (s .writer) (s .text) (s .tree)) allowance
+      reported-made (writerChecks (length (s .buffer)) (s .writer) (s .text) (s .tree)) refl (closeStores (s .buffer) (s .writer) (s .text) (s .tree)) allowance
 
 module _ (run : Run) where
   abbrev beginBefore : List Check
@@ -166,7 +166,7 @@ module _ (run : Run) where
   begin-compared : (k : ℕ) → Compared (runBegin (cut run k)) (runBegin run) k
   unfolding beginStep beginAnswer storesFrom
   begin-compared k =
-      compared beginBefore (refl, (refl, tt)) beginStores
+      compared beginBefore refl beginStores
       (λ a.
       record {
         answer = a;
@@ -181,7 +181,7 @@ module _ (run : Run) where
 
   pub begin-reports : length (runBegin run .stores) ≡ storesReported (runBegin run .answer)
   unfolding beginStep beginAnswer storesFrom
-  begin-reports = reported-made beginBefore (refl, (refl, tt)) beginStores (run .allowance)
+  begin-reports = reported-made beginBefore refl beginStores (run .allowance)
 
 -- ---- Calls with so many stores left.
 

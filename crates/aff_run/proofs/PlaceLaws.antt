@@ -116,7 +116,7 @@ close-spent : (s : State) (allowance : ℕ) (t : RefusalCode) → step s (close 
 unfolding step closeAnswer
 close-spent s allowance t h e =
     let all = closeStores (s .buffer) (s .writer) (s .text) (s .tree) in
-    let q = last-reported 23 (writerChecks (length (s .buffer)) (s .writer) (s .text) (s .tree)) (refl, (refl, tt)) (ltb allowance (length all)) (refusalAt 23 allowance) (length all) h e in
+    let q = last-reported 23 (writerChecks (length (s .buffer)) (s .writer) (s .text) (s .tree)) refl (ltb allowance (length all)) (refusalAt 23 allowance) (length all) h e in
     let l = ltb-true allowance (length all) (q .1) in
     let p : t .place < length all = rw (q .2) l in
     rw (h, e) (shaped-take all true (t .place) (close-shape s) (λ r. omega (arith, r .0)) (omega arith))

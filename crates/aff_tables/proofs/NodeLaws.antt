@@ -9,7 +9,8 @@ use Rattle.aff_format.specs.Lowest.{lowestFrom, checkLowest}
 use Rattle.aff_format.specs.declared.edition.Edition.{Edition}
 use Rattle.aff_format.specs.declared.lowest.Lowest.{Lowest}
 use Rattle.aff_format.specs.declared.lowest.Lowest.the-variants.{Nothing, At}
-use Rattle.aff_format.proofs.LowestLaws.{clear-lowest}
+use Rattle.aff_format.proofs.AnswerLaws.{numbersReported}
+use Rattle.aff_format.proofs.LowestLaws.{clear-lowest, numbers-lowest}
 use Rattle.aff_tables.specs.passes.Climb.{ParentsExist}
 use Rattle.aff_tables.specs.Nodes.{Contents, linkWrong, climbEndless, nameTaken, dataOutside, nodeChecks}
 use Rattle.aff_tables.specs.passes.Results.{Copied, copiedChecks, AllDistinct}
@@ -78,4 +79,19 @@ pub nodes-clear : (e : Edition) (from size : ℕ) (c : Contents) → Clear (node
     × (lowestFrom (nameTaken c) (c .nodes) 1 ≡ Nothing) × (lowestFrom (dataOutside from size (c .entry)) (c .nodes) 1 ≡ Nothing)
 nodes-clear e from size c =
     four-clear (lowestFrom (linkWrong e c) (c .nodes) 1) (lowestFrom (climbEndless (c .nodes) (c .entry)) (c .nodes) 1)
+    (lowestFrom (nameTaken c) (c .nodes) 1) (lowestFrom (dataOutside from size (c .entry)) (c .nodes) 1)
+
+-- The numbers of the checks, in order.
+four-numbers : (a b c d : Lowest) → numbersReported (checkLowest 10 a ∷ checkLowest 11 b ∷ checkLowest 12 c ∷ checkLowest 13 d ∷ []) ≡ 10 ∷ 11 ∷ 12 ∷ 13 ∷ []
+four-numbers a b c d =
+    rw (
+      numbers-lowest 10 a (checkLowest 11 b ∷ checkLowest 12 c ∷ checkLowest 13 d ∷ []),
+      numbers-lowest 11 b (checkLowest 12 c ∷ checkLowest 13 d ∷ []),
+      numbers-lowest 12 c (checkLowest 13 d ∷ []),
+      numbers-lowest 13 d [],
+    )
+
+pub node-numbers : (e : Edition) (from size : ℕ) (c : Contents) → numbersReported (nodeChecks e from size c) ≡ 10 ∷ 11 ∷ 12 ∷ 13 ∷ []
+node-numbers e from size c =
+    four-numbers (lowestFrom (linkWrong e c) (c .nodes) 1) (lowestFrom (climbEndless (c .nodes) (c .entry)) (c .nodes) 1)
     (lowestFrom (nameTaken c) (c .nodes) 1) (lowestFrom (dataOutside from size (c .entry)) (c .nodes) 1)

@@ -15,9 +15,9 @@ use Rattle.aff_format.specs.Strings.{stringsOf, placesOf}
 use Rattle.aff_format.specs.declared.edition.Edition.{Edition}
 use Rattle.aff_format.specs.declared.lowest.Lowest.{Lowest}
 use Rattle.aff_format.specs.declared.lowest.Lowest.the-variants.{Nothing, At}
-use Rattle.aff_format.proofs.AnswerLaws.{not-both}
+use Rattle.aff_format.proofs.AnswerLaws.{not-both, numbersReported}
 use Rattle.aff_format.proofs.BytesLaws.{length-part}
-use Rattle.aff_format.proofs.LowestLaws.{clear-lowest}
+use Rattle.aff_format.proofs.LowestLaws.{clear-lowest, numbers-lowest}
 use Rattle.aff_format.proofs.StringsLaws.{length-placesOf, placesOf-from, string-begins, string-in-section}
 use Rattle.aff_tables.specs.passes.Distinct.{Places}
 use Rattle.aff_tables.specs.Tables.{symbolChecks, countDiffers, namesAt, repeats}
@@ -105,6 +105,10 @@ symbols-reported e records section = go _ refl _ refl _ refl
     go false k true m low q = rw (k, m)
     go false k false m Nothing q = rw (k, m, q)
     go false k false m (At j) q = rw (k, m, q)
+
+-- The numbers of the checks, in order.
+pub symbol-numbers : (e : Edition) (records : ℕ) (section : List ℕ) → numbersReported (symbolChecks e records section) ≡ 25 ∷ 26 ∷ 27 ∷ []
+symbol-numbers e records section = rw (numbers-lowest 27 (lowestFrom (repeats (stringsOf section)) (length (stringsOf section)) 0) [])
 
 -- What holds of a table with which nothing is wrong.
 pub symbols-clear : (e : Edition) (records : ℕ) (section : List ℕ) → Clear (symbolChecks e records section)
