@@ -35,7 +35,7 @@ enum {
     AFF_ERR_HEADER_SUM = 5,        // The header's MD5 sum is wrong.
     AFF_ERR_SECTION = 6,           // A section ends past the image. Place: 1 symbols, 2 tree, 3 data.
     AFF_ERR_SECTION_SUM = 7,       // A section's MD5 sum is wrong. Place: 1 symbols, 2 tree, 3 data.
-    AFF_ERR_SYMBOLS = 8,           // No file gets this number any more, as the last string need not end in a zero. It will be withdrawn.
+    AFF_ERR_SYMBOLS = 8,           // Withdrawn; no call returns it. In old logs: the symbol table's last byte is not zero, or, before 25 to 27 were added, one of these.
     AFF_ERR_TREE = 9,              // A tree entry is cut short, of no type, or the 2,049th. Place: the entry; 0 if their number is not the header's.
     AFF_ERR_NODE = 10,             // A node's parent or string does not exist, or its name is malformed. Place: the lowest such node.
     AFF_ERR_CYCLE = 11,            // A node's parents do not lead to the root. Place: the lowest such node.

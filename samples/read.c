@@ -21,7 +21,7 @@ static const char *meaning(uint32_t number) {
         "the header is damaged: its MD5 sum is wrong",
         "a section ends past the file (1 symbols, 2 tree, 3 data)",
         "a section is damaged: its MD5 sum is wrong (1 symbols, 2 tree, 3 data)",
-        "reserved: no file gets this number",
+        "withdrawn: no call returns this number; in old logs, a fault of the symbol table",
         "the tree table is malformed at this entry (0: the number of entries)",
         "the parent or the name of this node does not exist, or the name is malformed",
         "the parents of this node do not lead to the root",

@@ -52,10 +52,10 @@ abbrev pub judged : {A : Type 0} → List Check → A → Bool → Answer A
 judged more a b = firstWrong (check (not b) (refusal 24) ∷ more) a
 
 -- The checks after it report neither 24 nor 8, which is withdrawn.
-abbrev pub Later : List Check → Type 0
-Later more = Others 24 more × Others 8 more
+abbrev pub Neither : List Check → Type 0
+Neither more = Others 24 more × Others 8 more
 
-module _ {A : Type 0} (more : List Check) (a : A) (l : Later more) where
+module _ {A : Type 0} (more : List Check) (a : A) (l : Neither more) where
   belongs-not-24 : {b : Bool} → b ≡ true → NotBy 24 (judged more a b)
   belongs-not-24 h = rw h (others-not 24 more a (l .0))
 
@@ -80,7 +80,7 @@ module _ (Sort : (A : Type 0) → Answer A → Type 0) (image : List ℕ) (r : R
   short limit size = check (ltb limit size) (refusal 21) ∷ []
 
   -- What holds of each call that judges 24 first holds of each reading call.
-  pub each-reading : ((A : Type 0) (more : List Check) (a : A) → Later more → Sort A (judged more a (readerBelongs image r strings entries)))
+  pub each-reading : ((A : Type 0) (more : List Check) (a : A) → Neither more → Sort A (judged more a (readerBelongs image r strings entries)))
       → EachReading Sort image r strings entries
   unfolding nameAnswer kindAnswer countAnswer viewAnswer elementAnswer pathAnswer lookupAnswer listingAnswer
   each-reading f =
@@ -117,7 +117,7 @@ module _ (Sort : (A : Type 0) → Answer A → Type 0) (buffer : List ℕ) (w : 
   awake more = check (not (w .live)) (refusal 22) ∷ more
 
   -- The same of each writing call.
-  pub each-writing : ((A : Type 0) (more : List Check) (a : A) → Later more → Sort A (judged more a (belongsHere (length buffer) w text tree)))
+  pub each-writing : ((A : Type 0) (more : List Check) (a : A) → Neither more → Sort A (judged more a (belongsHere (length buffer) w text tree)))
       → EachWriting Sort buffer w text tree
   unfolding makeAnswer putAnswer closeAnswer
   each-writing f =

@@ -1,13 +1,16 @@
--- No call returns 8: each check of a call reports another number. Those of opening by the list of their numbers (`open-numbers`), those of the other calls
+-- No call is refused by 8: each check of a call reports another number. Those of opening by the list of their numbers (`open-numbers`), those of the other calls
 -- by computation; of a run by induction on its calls. Assumes nothing.
 use mathlib.Core.Path.{refl}
 use mathlib.Core.List.{List, [], _∷_}
 use Prim.Native.Nat.{ℕ}
 use lib.Dec.{leb}
 use lib.ListN.{length}
+use borrow.Author.Tests.{eqb-false}
 use Rattle.aff_format.specs.Answer.{check, refusal}
 use Rattle.aff_format.specs.Element.{countIn, elementAt, decoded}
+use Rattle.aff_format.specs.Refusal.{numberOf}
 use Rattle.aff_format.specs.declared.kind.Kind.{Kind}
+use Rattle.aff_format.proofs.RefusalLaws.{rows-other}
 use Rattle.aff_open.specs.Belongs.{readerBelongs}
 use Rattle.aff_open.specs.Opening.{upToTables, openChecks, openAnswer, tablesAnswer, readerFor, sizesIn}
 use Rattle.aff_open.specs.Sections.{editionIn}
@@ -69,4 +72,5 @@ withdrawn =
       begin = begin-not;
       writing = writing-not;
       run = λ run. (run-not run, answers-not (runStart run) (run .calls));
+      row = λ r. eqb-false (numberOf r) 8 (rows-other r);
     }

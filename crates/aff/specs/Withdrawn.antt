@@ -1,10 +1,13 @@
--- Number 8 is withdrawn (requests C-13 and C-14): no call returns it, whatever it is given. It meant a symbol table without its last zero. Each line is
--- about the numbers of answers, for every image, record, area, argument and allowance, altered or not.
+-- Number 8 is withdrawn (requests C-13 and C-14): no call is refused by it, whatever it is given. It meant a symbol table without its last zero. Each line
+-- is about the numbers of answers, for every image, record, area, argument and allowance, altered or not.
+use mathlib.Core.Path.{_≡_}
 use mathlib.Core.List.{List, [], _∷_}
 use Prim.Native.Nat.{ℕ}
 use Rattle.aff_format.specs.Answer.{Answer}
 use Rattle.aff_format.specs.Element.{decoded}
+use Rattle.aff_format.specs.Refusal.{numberOf}
 use Rattle.aff_format.specs.declared.kind.Kind.{Kind}
+use Rattle.aff_format.specs.declared.refusal.Refusal.{Refusal}
 use Rattle.aff_open.specs.Opening.{tablesAnswer, openAnswer}
 use Rattle.aff_open.specs.declared.reader.Reader.{Reader}
 use Rattle.aff_areas.specs.declared.writer.Writer.{Writer}
@@ -32,3 +35,5 @@ pub record Withdrawn : Type 0 where
   pub writing : (buffer : List ℕ) (w : Writer) (text tree : List ℕ) → EachWriting Not8 buffer w text tree
   -- A run: a begin and then any calls.
   pub run : (run : Run) → NotBy 8 (runBegin run .answer) × NoneBy 8 (runAnswers run)
+  -- No value of `Refusal` has the number, so no call that is added to the library can report it by one.
+  pub row : (r : Refusal) → numberOf r ≡ 8 → ⊥

@@ -2,3 +2,4 @@
 mod OpeningLaws
 mod ReadingLaws
 mod WritingLaws
+mod WithdrawnLaws

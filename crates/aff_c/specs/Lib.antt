@@ -2,3 +2,4 @@
 pub mod Opening
 pub mod Reading
 pub mod Writing
+pub mod Withdrawn

@@ -1,6 +1,7 @@
 -- Laws of the definitions in specs/, which proofs of this crate and of those above cite.
 pub mod TestLaws
 pub mod AnswerLaws
+pub mod RefusalLaws
 pub mod VerdictLaws
 pub mod LowestLaws
 pub mod RuleLaws

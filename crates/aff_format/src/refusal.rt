@@ -5,7 +5,7 @@ ghost use mathlib.Core.Path.{_≡_};
 ghost use Rattle.aff_format.specs.Answer.{refusal, refusalAt};
 ghost use Rattle.aff_format.specs.Refusal.{codeOfRefusal, numberOf, placeOf, secondOf};
 
-// A case for each row of the table, with what it reports.
+// A case for each row of the table, with what it reports. Number 8 is withdrawn (request C-14), and no case has it.
 pub enum Refusal {
     // A work area or the 12 bytes has another length, or the image is too long.
     WrongLength,
@@ -21,8 +21,6 @@ pub enum Refusal {
     SectionOutside(Section),
     // The sum of a section is wrong.
     WrongSectionSum(Section),
-    // 8. No call reports it since request C-13: the last string of a symbol table need not have its zero.
-    UnterminatedSymbolTable,
     // An entry is cut short, of no type or one too many; 0: the count differs.
     BadTreeTable(usize),
     // A node's parent or string does not exist, or its string is no subkey; the place in the string.
@@ -103,7 +101,6 @@ impl Refusal {
             Refusal::WrongHeaderSum => alone(5),
             Refusal::SectionOutside(section) => with_place(6, section.number()),
             Refusal::WrongSectionSum(section) => with_place(7, section.number()),
-            Refusal::UnterminatedSymbolTable => alone(8),
             Refusal::BadTreeTable(entry) => with_place(9, entry),
             Refusal::BadLink(node, in_name) => RefusalCode {
                 number: 10,

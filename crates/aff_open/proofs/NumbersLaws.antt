@@ -1,4 +1,5 @@
--- The numbers of opening's checks, in their order: document 01, 'Order', as one list. Assumes nothing.
+-- The numbers of opening's checks, in their order: document 01, 'Order', as one list, with 25 to 27 of request C-11 and without 8, which is withdrawn
+-- (request C-14). Assumes nothing.
 use mathlib.Core.Path.{_≡_, ap, _∙_}
 use mathlib.Core.List.{List, [], _∷_, _++_}
 use Prim.Native.Nat.{ℕ}

@@ -1,4 +1,4 @@
--- Opening: document 01, 'Numbers handed back', 1 to 13, with 25 to 27 of request C-11, and 'Order'.
+-- Opening: document 01, 'Numbers handed back', 1 to 7 and 9 to 13, with 25 to 27 of request C-11, and 'Order'. 8 is withdrawn (request C-14).
 use mathlib.Core.Bool.{Bool, cond, not, _||_}
 use mathlib.Core.List.{List, [], _∷_, _++_}
 use Prim.Native.Nat.{ℕ}

@@ -115,7 +115,6 @@ fn with_sections(
 {
     match symbol_table(image, edition, strings) {
         Symbols::Strings(count) => with_strings(image, edition, count, entries),
-        Symbols::Unterminated => OpenedTables::Refused(Refusal::UnterminatedSymbolTable),
         Symbols::TooMany => OpenedTables::Refused(Refusal::TooManyStrings),
         Symbols::CountDiffers => OpenedTables::Refused(Refusal::WrongStringCount),
         Symbols::Repeated(string) => OpenedTables::Refused(Refusal::RepeatedString(string)),

@@ -1,5 +1,5 @@
 -- The strings that begin at the places of a section's strings are its strings; and what the symbol table answers. Assumes nothing.
-use mathlib.Core.Path.{_≡_, refl, sym, _∙_}
+use mathlib.Core.Path.{_≡_, refl, sym, ap, _∙_}
 use mathlib.Core.Bool.{Bool, true, false, cond}
 use mathlib.Core.List.{List, [], _∷_, map}
 use Prim.Native.Nat.{ℕ, suc, _+_, _≤_, _<_}
@@ -108,7 +108,8 @@ symbols-reported e records section = go _ refl _ refl _ refl
 
 -- The numbers of the checks, in order.
 pub symbol-numbers : (e : Edition) (records : ℕ) (section : List ℕ) → numbersReported (symbolChecks e records section) ≡ 25 ∷ 26 ∷ 27 ∷ []
-symbol-numbers e records section = rw (numbers-lowest 27 (lowestFrom (repeats (stringsOf section)) (length (stringsOf section)) 0) [])
+symbol-numbers e records section =
+    ap (λ (ns : List ℕ). 25 ∷ 26 ∷ ns) (numbers-lowest 27 (lowestFrom (repeats (stringsOf section)) (length (stringsOf section)) 0) [])
 
 -- What holds of a table with which nothing is wrong.
 pub symbols-clear : (e : Edition) (records : ℕ) (section : List ℕ) → Clear (symbolChecks e records section)

@@ -22,8 +22,6 @@ pub enum SplitResult {
 // The first fault of a symbol table, or how many strings it has.
 pub enum Symbols {
     Strings(usize),
-    // 8: no table gets it since request C-13.
-    Unterminated,
     // 25.
     TooMany,
     // 26.

@@ -1,6 +1,7 @@
 //! Opening: every refusal from 1 to 7, from 9 to 13 and from 25 to 27 with its place, in document 01's order: "opening 1 (nothing changed),
 //! then 2, text 3, edition 2's length 2, then 4 to 13, each check over all nodes before the next; sections in the order symbol, tree, data".
-//! Request C-11 puts 25, 26 and 27 "before 9, in this order". By request C-13 no file gets 8: the last string need not have its zero.
+//! Request C-11 puts 25, 26 and 27 "before 9, in this order". By request C-13 no file gets 8, as the last string need not have its zero;
+//! request C-14 withdraws the number.
 
 use crate::format::{big, is_subkey, Edition, Entry, Kind, Refusal, LONGEST_IMAGE, MOST};
 use crate::format::{SIGNATURE, TEXT};

@@ -542,7 +542,7 @@ fn places_for_an_order() {
     }
 }
 
-/// Every image that is made for a verdict gets it, and each verdict from 2 to 13 and from 25 to 27 is met, but 8, which no file gets. A table without
+/// Every image that is made for a verdict gets it, and each verdict from 2 to 13 and from 25 to 27 is met, but 8, which is withdrawn. A table without
 /// its last zero is met with each verdict that depends on the strings.
 #[test]
 fn aims() {

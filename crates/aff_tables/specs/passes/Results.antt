@@ -39,7 +39,6 @@ splitOf limit n = cond (leb n limit) (parted.Strings n) parted.TooMany
 
 abbrev pub answerOfSymbols : Symbols → Answer ℕ
 answerOfSymbols (symbols.Strings n) = accepted n
-answerOfSymbols symbols.Unterminated = refused (refusal 8)
 answerOfSymbols symbols.TooMany = refused (refusalAt 25 stringLimit)
 answerOfSymbols symbols.CountDiffers = refused (refusal 26)
 answerOfSymbols (symbols.Repeated k) = refused (refusalAt 27 k)

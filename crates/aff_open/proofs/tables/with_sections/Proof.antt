@@ -2,7 +2,7 @@
 use borrow.Author.Needs.{needs}
 use mathlib.Core.Path.{sym, ap, _∙_}
 use lib.ListN.{length}
-use Rattle.aff_format.specs.declared.refusal.Refusal.the-variants.{UnterminatedSymbolTable, TooManyStrings, WrongStringCount, RepeatedString}
+use Rattle.aff_format.specs.declared.refusal.Refusal.the-variants.{TooManyStrings, WrongStringCount, RepeatedString}
 use Rattle.aff_format.proofs.AnswerLaws.{passed-before, passed-value}
 use Rattle.aff_tables.specs.passes.Results.{answerOfSymbols}
 use Rattle.aff_open.specs.Opening.{symbolsChecked, treeChecked, sizesIn}
@@ -35,22 +35,16 @@ returns-2 : tie.Need-returns-2
 returns-2 c =
     let a = c .before .before .before .before .before .before .before .before .before .args in
     let t = c .before .before .before .before .symbol-table in
-    symbols-refuse UnterminatedSymbolTable (a .edition) (a .image .now) (t .ensures .0) (ap answerOfSymbols (c .enum-told .given .1))
+    symbols-refuse TooManyStrings (a .edition) (a .image .now) (t .ensures .0) (ap answerOfSymbols (c .enum-told .given .1))
 
 returns-3 : tie.Need-returns-3
 returns-3 c =
     let a = c .before .before .before .before .before .before .before .before .before .args in
     let t = c .before .before .before .before .symbol-table in
-    symbols-refuse TooManyStrings (a .edition) (a .image .now) (t .ensures .0) (ap answerOfSymbols (c .enum-told2 .given .1))
+    symbols-refuse WrongStringCount (a .edition) (a .image .now) (t .ensures .0) (ap answerOfSymbols (c .enum-told2 .given .1))
 
 returns-4 : tie.Need-returns-4
 returns-4 c =
-    let a = c .before .before .before .before .before .before .before .before .before .args in
-    let t = c .before .before .before .before .symbol-table in
-    symbols-refuse WrongStringCount (a .edition) (a .image .now) (t .ensures .0) (ap answerOfSymbols (c .enum-told3 .given .1))
-
-returns-5 : tie.Need-returns-5
-returns-5 c =
     let a = c .before .before .before .before .before .before .before .before .before .before .args in
     let t = c .before .before .before .before .before .symbol-table in
     symbols-refuse (RepeatedString _) (a .edition) (a .image .now) (t .ensures .0) (ap answerOfSymbols (c .before .string .given .1))
@@ -59,5 +53,5 @@ pub with-sections-spec : {M : Type 1} → statement M
 with-sections-spec =
     tie.close
     (tie.spec (λ c κs. search needs) (λ c. search needs) with-strings-requires (λ c. search needs) (λ c. search needs) (λ c. search needs)
-    (λ c. search needs) (λ c. search needs) (λ c. search needs) returns (λ c. search needs) returns-2 (λ c. search needs) returns-3 (λ c. search needs)
-    returns-4 (λ c. search needs) returns-5)
+    (λ c. search needs) (λ c. search needs) returns (λ c. search needs) returns-2 (λ c. search needs) returns-3 (λ c. search needs)
+    returns-4)
