@@ -4,7 +4,7 @@
 use mathlib.Core.Path.{_≡_, refl, sym, ap, _∙_}
 use mathlib.Core.Bool.{Bool, true, false, cond, not, _||_, true≢false}
 use mathlib.Core.List.{List, [], _∷_}
-use mathlib.Core.Logic.{_↔_, _⊎_, inl, inr}
+use mathlib.Core.Logic.{_↔_}
 use Prim.Native.Nat.{ℕ}
 use native.Mathlib.Omega.{arith}
 use lib.Dec.{ltb, leb}
@@ -139,16 +139,15 @@ module _ (buffer : List ℕ) (w : Writer) (text tree : List ℕ) where
 -- ---- What a run's answers say of 24 and 22.
 
 -- The checks of a call of a run report neither.
-exact-others : (n size : ℕ) (tree : Tree) (c : Call) → (n ≡ 22) ⊎ (n ≡ 24) → Others n (callChecks size tree c)
-exact-others n size tree (make parent name) (inl e) = rw e refl
-exact-others n size tree (make parent name) (inr e) = rw e refl
-exact-others n size tree (put node type bytes allowance) (inl e) = rw e refl
-exact-others n size tree (put node type bytes allowance) (inr e) = rw e refl
-exact-others n size tree (close allowance) (inl e) = rw e refl
-exact-others n size tree (close allowance) (inr e) = rw e refl
+exact-others : (size : ℕ) (tree : Tree) (c : Call) → Others 22 (callChecks size tree c) × Others 24 (callChecks size tree c)
+exact-others size tree (make parent name) = (refl, refl)
+exact-others size tree (put node type bytes allowance) = (refl, refl)
+exact-others size tree (close allowance) = (refl, refl)
 
-exact-not : (n size : ℕ) (tree : Tree) (c : Call) → (n ≡ 22) ⊎ (n ≡ 24) → NotBy n (callAnswer size tree c)
-exact-not n size tree c o = others-not n (callChecks size tree c) (callValue size tree c) (exact-others n size tree c o)
+exact-not : (size : ℕ) (tree : Tree) (c : Call) → NotBy 22 (callAnswer size tree c) × NotBy 24 (callAnswer size tree c)
+exact-not size tree c =
+    let (o, p) = exact-others size tree c in
+    (others-not 22 (callChecks size tree c) (callValue size tree c) o, others-not 24 (callChecks size tree c) (callValue size tree c) p)
 
 -- One answer.
 answer-numbers : (stopped : Bool) (size : ℕ) (tree : Tree) (c : Call) (a : Answer ℕ) → a ≡ cond stopped (refused (refusal 22)) (callAnswer size tree c)
@@ -158,8 +157,8 @@ answer-numbers true size tree c a h = (
   (λ _. refl, λ _. h),
 )
 answer-numbers false size tree c a h = (
-  λ t g e. exact-not 24 size tree c (inr refl) t (sym h ∙ g) e,
-  (λ g. absurd (exact-not 22 size tree c (inl refl) (refusal 22) (sym h ∙ g) refl), λ g. absurd (true≢false (sym g))),
+  λ t g e. exact-not size tree c .1 t (sym h ∙ g) e,
+  (λ g. absurd (exact-not size tree c .0 (refusal 22) (sym h ∙ g) refl), λ g. absurd (true≢false (sym g))),
 )
 
 exact-numbered : (cs : List Call) (answers : List (Answer ℕ)) (size : ℕ) (stopped : Bool) (tree : Tree) → AnswersFromTree size stopped tree cs answers

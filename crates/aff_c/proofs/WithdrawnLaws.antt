@@ -17,10 +17,10 @@ use Rattle.aff.specs.Demand1.{NotBy, EachReading, EachWriting}
 use Rattle.aff.proofs.WithdrawnLaws.{withdrawn}
 use Rattle.aff_c.specs.Opening.{codeOfAnswer, numberReturned}
 use Rattle.aff_c.specs.Reading.{decodedBy, decodedAnswer}
-use Rattle.aff_c.specs.Withdrawn.{Not8, WithdrawnInC}
+use Rattle.aff_c.specs.Withdrawn.{OtherReturned, WithdrawnInC}
 
 -- An answer that is no refusal by 8 is returned as another number.
-other-number : {A : Type 0} (a : Answer A) → NotBy 8 a → Not8 A a
+other-number : {A : Type 0} (a : Answer A) → NotBy 8 a → OtherReturned A a
 other-number (accepted v) n e = omega arith
 other-number (refused t) n e = n t refl e
 
@@ -33,7 +33,7 @@ opening-number image form strings entries output = go (leb 12 (length output)) (
     go true (accepted r) n e = omega arith
     go true (refused t) n e = n t refl e
 
-reading-numbers : (image : List ℕ) (r : Reader) (strings entries : List ℕ) → EachReading Not8 image r strings entries
+reading-numbers : (image : List ℕ) (r : Reader) (strings entries : List ℕ) → EachReading OtherReturned image r strings entries
 reading-numbers image r strings entries =
     let w = withdrawn .reading image r strings entries in
     record {
@@ -47,15 +47,15 @@ reading-numbers image r strings entries =
       listing = λ choice size. other-number _ (w .listing choice size);
     }
 
-decode-number : (code : ℕ) (bytes : List ℕ) (index : ℕ) → Not8 _ (decodedAnswer code bytes index)
+decode-number : (code : ℕ) (bytes : List ℕ) (index : ℕ) → OtherReturned _ (decodedAnswer code bytes index)
 unfolding decodedAnswer
 decode-number code bytes index = go (kindOf code)
   where
-    go : (found : FoundKind) → Not8 _ (decodedBy found bytes index)
+    go : (found : FoundKind) → OtherReturned _ (decodedBy found bytes index)
     go Unknown e = omega arith
     go (Known kind) e = other-number _ (withdrawn .decode kind bytes index) e
 
-writing-numbers : (buffer : List ℕ) (w : Writer) (text tree : List ℕ) → EachWriting Not8 buffer w text tree
+writing-numbers : (buffer : List ℕ) (w : Writer) (text tree : List ℕ) → EachWriting OtherReturned buffer w text tree
 writing-numbers buffer w text tree =
     let d = withdrawn .writing buffer w text tree in
     record {
