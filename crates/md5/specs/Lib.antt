@@ -1,3 +1,3 @@
--- What the contract of `md5` cites: RFC 1321. `Rounds` serves the contracts of functions that callers do not see.
+-- What the contract of `md5` cites: RFC 1321. `passes` serves the contracts of functions that callers do not see.
 pub mod Md5
-pub mod Rounds
+pub mod passes

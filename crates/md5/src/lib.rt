@@ -1,10 +1,10 @@
 // MD5, the message digest of RFC 1321. `specs/Md5.antt` defines it; `md5`, at the end, is the one public function.
 ghost use mathlib.Core.Path.{_≡_};
 ghost use Prim.Native.Nat.{_+_, _*_, _/_, _%_, _≤_, _<_};
-ghost use lib.ListN.{length, take, getD, replicate};
+ghost use lib.ListN.{length, take, drop, replicate};
 ghost use mathlib.Core.List.{_++_};
-ghost use Rattle.md5.specs.Md5.{rotl, word as wordOf, turn as turned, mix as mixOf, wordOrder, shifts, additive, step as stepOf, compress as compressed, le, pad, blocks, allBlocks, start, output as outputOf, md5 as md5Of};
-ghost use Rattle.md5.specs.Rounds.{stepsFrom, RoundShifts};
+ghost use Rattle.md5.specs.Md5.{rotl, word as wordOf, turn as turned, mix as mixOf, step as stepOf, compress as compressed, le, zeros, pad, allBlocks, start, output as outputOf, md5 as md5Of};
+ghost use Rattle.md5.specs.passes.Absorb.{Tables, whole};
 
 // The four words A, B, C and D.
 struct State {
@@ -14,8 +14,10 @@ struct State {
     d: u32,
 }
 
-// The additive constants of the 64 steps. `md5` makes one local of them, and the functions below it borrow that: an index into a
-// constant copies the whole constant.
+// The three tables of the 64 steps, by step number. An index into a constant copies the whole constant, so `md5` makes one local of
+// each table, and the functions below it borrow that.
+
+// The additive constants.
 const T: [u32; 64] = [
     3614090360,
     3905402710,
@@ -82,6 +84,20 @@ const T: [u32; 64] = [
     718787259,
     3951481745,
 ];
+
+// The shift amounts, a round in each line.
+const SHIFTS: [u8; 64] = *b"\
+    \x07\x0c\x11\x16\x07\x0c\x11\x16\x07\x0c\x11\x16\x07\x0c\x11\x16\
+    \x05\x09\x0e\x14\x05\x09\x0e\x14\x05\x09\x0e\x14\x05\x09\x0e\x14\
+    \x04\x0b\x10\x17\x04\x0b\x10\x17\x04\x0b\x10\x17\x04\x0b\x10\x17\
+    \x06\x0a\x0f\x15\x06\x0a\x0f\x15\x06\x0a\x0f\x15\x06\x0a\x0f\x15";
+
+// The numbers of the words, a round in each line.
+const WORDS: [u8; 64] = *b"\
+    \x00\x01\x02\x03\x04\x05\x06\x07\x08\x09\x0a\x0b\x0c\x0d\x0e\x0f\
+    \x01\x06\x0b\x00\x05\x0a\x0f\x04\x09\x0e\x03\x08\x0d\x02\x07\x0c\
+    \x05\x08\x0b\x0e\x01\x04\x07\x0a\x0d\x00\x03\x06\x09\x0c\x0f\x02\
+    \x00\x07\x0e\x05\x0c\x03\x0a\x01\x08\x0f\x06\x0d\x04\x0b\x02\x09";
 
 // ---- Bytes.
 
@@ -158,12 +174,13 @@ fn clear(b: &mut [u8], at: usize, n: usize)
 
 // ---- A block.
 
-// x rotated left by s bits.
+// x rotated left by s bits. The remainder changes nothing, but with it the compiler makes one rotation of this line.
 fn rotate(x: u32, s: u32) -> u32
     requires { ⌜ (0 < s) × (s < 32) ⌝ }
     ensures { λ r. ⌜ r ≡ rotl x s ⌝ }
 {
-    x << s | x >> (32 - s)
+    let n = s % 32;
+    x << n | x >> (32 - n)
 }
 
 // Word k of the block m.
@@ -192,92 +209,46 @@ fn turn(v: State, f: u32, x: u32, s: u32, t: u32) -> State
     }
 }
 
-// The function of round r, at x, y and z.
-fn mix(r: usize, x: u32, y: u32, z: u32) -> u32
-    requires { ⌜ r < 4 ⌝ }
-    ensures { λ f. ⌜ f ≡ mixOf r x y z ⌝ }
+// The function of the round that step i is in, at x, y and z.
+fn mix(i: usize, x: u32, y: u32, z: u32) -> u32
+    requires { ⌜ i < 64 ⌝ }
+    ensures { λ f. ⌜ f ≡ mixOf (i / 16) x y z ⌝ }
 {
-    match r {
-        0 => x & y | !x & z,
-        1 => x & z | y & !z,
-        2 => x ^ y ^ z,
-        _ => y ^ (x | !z),
+    if i < 32 {
+        if i < 16 {
+            x & y | !x & z
+        } else {
+            x & z | y & !z
+        }
+    } else if i < 48 {
+        x ^ y ^ z
+    } else {
+        y ^ (x | !z)
     }
 }
 
-// The number of the word that step i of round r takes; it is below 16.
-fn order(r: usize, i: usize) -> usize
-    requires { ⌜ (r < 4) × (i < 16) ⌝ }
-    ensures { λ k. ⌜ (k ≡ getD wordOrder (16 * r + i) 0) × (k < 16) ⌝ }
+// v after step i on the block m. t, s and k are the tables. The word and the constant are read before `mix`: each step has to wait
+// for the one before, and they need not.
+fn step(v: State, m: &[u8], t: &[u32; 64], s: &[u8; 64], k: &[u8; 64], i: usize) -> State
+    requires { ⌜ (length (now m) ≡ 64) × Tables (now t) (now s) (now k) × (i < 64) ⌝ }
+    ensures { λ w. ⌜ w ≡ stepOf (now (m .entry)) i v ⌝ }
 {
-    match r {
-        0 => i,
-        1 => (5 * i + 1) % 16,
-        2 => (3 * i + 5) % 16,
-        _ => 7 * i % 16,
-    }
-}
-
-// v after step i of round r on the block m; s is the step's shift.
-fn step(v: State, m: &[u8], t: &[u32; 64], r: usize, s: u32, i: usize) -> State
-    requires { ⌜ (length (now m) ≡ 64) × (now t ≡ additive) × (r < 4) × (i < 16) × (s ≡ getD shifts (16 * r + i) 0) ⌝ }
-    ensures { λ w. ⌜ w ≡ stepOf (now (m .entry)) (16 * r + i) v ⌝ }
-{
-    turn(
-        v,
-        mix(r, v.b, v.c, v.d),
-        word(m, order(r, i)),
-        s,
-        t[16 * r + i],
-    )
-}
-
-// v after steps 4 j to 4 j + 3 of round r on the block m; s0 to s3 are their shifts.
-fn row(
-    v: State,
-    m: &[u8],
-    t: &[u32; 64],
-    r: usize,
-    s0: u32,
-    s1: u32,
-    s2: u32,
-    s3: u32,
-    j: usize,
-) -> State
-    requires { ⌜ (length (now m) ≡ 64) × (now t ≡ additive) × (r < 4) × (j < 4) × RoundShifts r s0 s1 s2 s3 ⌝ }
-    ensures { λ w. ⌜ w ≡ stepsFrom (now (m .entry)) (16 * r + 4 * j) v 4 ⌝ }
-{
-    let i = 4 * j;
-    let v1 = step(v, m, t, r, s0, i);
-    let v2 = step(v1, m, t, r, s1, i + 1);
-    let v3 = step(v2, m, t, r, s2, i + 2);
-    step(v3, m, t, r, s3, i + 3)
-}
-
-// h after the sixteen steps of round r on the block m; s0 to s3 are the shifts of its steps, over and over.
-// The callers pass literals for r and the shifts, so that the compiler makes four loops of it.
-fn round(h: State, m: &[u8], t: &[u32; 64], r: usize, s0: u32, s1: u32, s2: u32, s3: u32) -> State
-    requires { ⌜ (length (now m) ≡ 64) × (now t ≡ additive) × (r < 4) × RoundShifts r s0 s1 s2 s3 ⌝ }
-    ensures { λ w. ⌜ w ≡ stepsFrom (now (m .entry)) (16 * r) h 16 ⌝ }
-{
-    let mut v = h;
-    let mut j: usize = 0;
-    while j < 4 {
-        v = row(v, m, t, r, s0, s1, s2, s3, j);
-        j += 1;
-    }
-    v
+    let x = word(m, wide(k[i]) as usize);
+    let c = t[i];
+    turn(v, mix(i, v.b, v.c, v.d), x, wide(s[i]), c)
 }
 
 // h after the block m.
-fn compress(h: State, m: &[u8], t: &[u32; 64]) -> State
-    requires { ⌜ (length (now m) ≡ 64) × (now t ≡ additive) ⌝ }
+fn compress(h: State, m: &[u8], t: &[u32; 64], s: &[u8; 64], k: &[u8; 64]) -> State
+    requires { ⌜ (length (now m) ≡ 64) × Tables (now t) (now s) (now k) ⌝ }
     ensures { λ r. ⌜ r ≡ compressed h (now (m .entry)) ⌝ }
 {
-    let v1 = round(h, m, t, 0, 7, 12, 17, 22);
-    let v2 = round(v1, m, t, 1, 5, 9, 14, 20);
-    let v3 = round(v2, m, t, 2, 4, 11, 16, 23);
-    let v = round(v3, m, t, 3, 6, 10, 15, 21);
+    let mut v = h;
+    let mut i: usize = 0;
+    while i < 64 {
+        v = step(v, m, t, s, k, i);
+        i += 1;
+    }
     State {
         a: std::num::wrapping_add_u32(h.a, v.a),
         b: std::num::wrapping_add_u32(h.b, v.b),
@@ -288,26 +259,52 @@ fn compress(h: State, m: &[u8], t: &[u32; 64]) -> State
 
 // ---- A message.
 
-// The state after the whole blocks of a message.
-fn absorb(message: &[u8], t: &[u32; 64]) -> State
-    requires { ⌜ now t ≡ additive ⌝ }
-    ensures { λ r. ⌜ r ≡ blocks start (now (message .entry)) (length (now (message .entry)) / 64) ⌝ }
+// Block n of the whole blocks of `front` and then those of `back`.
+fn block<'a>(front: &'a [u8], back: &'a [u8], n: usize) -> &'a [u8]
+    requires { ⌜ n < length (now front) / 64 + length (now back) / 64 ⌝ }
+    ensures { λ r. ⌜ (now r ≡ take 64 (drop (64 * n) (whole (now (front .entry)) ++ now (back .entry)))) × (length (now r) ≡ 64) ⌝ }
 {
-    let n = message.len() / 64;
-    let mut v = State {
-        a: 0x67452301,
-        b: 0xefcdab89,
-        c: 0x98badcfe,
-        d: 0x10325476,
-    };
-    let mut k: usize = 0;
-    while k < n {
-        let a = 64 * k;
+    let first = front.len() / 64;
+    if n < first {
+        let a = 64 * n;
         let e = a + 64;
-        v = compress(v, &message[a..e], t);
-        k += 1;
+        return &front[a..e];
+    }
+    let a = 64 * (n - first);
+    let e = a + 64;
+    &back[a..e]
+}
+
+// h after the whole blocks of `front` and then those of `back`. All blocks of a message go through this one loop, those with its padding
+// too, so that the compiled code has the steps once.
+fn absorb<'a>(
+    h: State,
+    front: &'a [u8],
+    back: &'a [u8],
+    t: &[u32; 64],
+    s: &[u8; 64],
+    k: &[u8; 64],
+) -> State
+    requires { ⌜ Tables (now t) (now s) (now k) ⌝ }
+    ensures { λ r. ⌜ r ≡ allBlocks h (whole (now (front .entry)) ++ now (back .entry)) ⌝ }
+{
+    let all = front.len() / 64 + back.len() / 64;
+    let mut v = h;
+    let mut n: usize = 0;
+    while n < all {
+        let m = block(front, back, n);
+        v = compress(v, m, t, s, k);
+        n += 1;
     }
     v
+}
+
+// The number of bytes that the last bytes of a message, `rest` of them, have with the padding: one block or two.
+fn padded_size(rest: usize) -> usize
+    requires { ⌜ rest < 64 ⌝ }
+    ensures { λ r. ⌜ r ≡ rest + 1 + zeros rest + 8 ⌝ }
+{
+    if rest < 56 { 64 } else { 128 }
 }
 
 // The last bytes of a message, fewer than a block, with the padding for a message of so many bits: one block or two, and nothing is
@@ -327,20 +324,6 @@ fn last(s: &[u8], bits: u64) -> [u8; 128]
     tail
 }
 
-// v after the last bytes of a message, fewer than a block, and the padding for a message of so many bits.
-fn finish(v: State, s: &[u8], bits: u64, t: &[u32; 64]) -> State
-    requires { ⌜ (length (now s) < 64) × (now t ≡ additive) ⌝ }
-    ensures { λ r. ⌜ r ≡ allBlocks v (pad (now (s .entry)) bits) ⌝ }
-{
-    let tail = last(s, bits);
-    let v1 = compress(v, &tail[0..64], t);
-    if s.len() < 56 {
-        v1
-    } else {
-        compress(v1, &tail[64..128], t)
-    }
-}
-
 // The bytes of the four words, the low byte of each first.
 fn output(v: State) -> [u8; 16]
     ensures { λ r. ⌜ r ≡ outputOf v ⌝ }
@@ -358,8 +341,17 @@ pub fn md5(message: &[u8]) -> [u8; 16]
     ensures { λ r. ⌜ r ≡ md5Of (now (message .entry)) ⌝ }
 {
     let t = T;
+    let s = SHIFTS;
+    let k = WORDS;
+    let h = State {
+        a: 0x67452301,
+        b: 0xefcdab89,
+        c: 0x98badcfe,
+        d: 0x10325476,
+    };
     let n = message.len();
     let a = 64 * (n / 64);
-    let v = absorb(message, &t);
-    output(finish(v, &message[a..], (n as u64) << 3, &t))
+    let tail = last(&message[a..], (n as u64) << 3);
+    let e = padded_size(n % 64);
+    output(absorb(h, message, &tail[0..e], &t, &s, &k))
 }
