@@ -5,8 +5,10 @@ Elapsed times of alternating runs, the least of three in a round:
 - the digest alone: the call of our function, beside md5sum's time less that of a program that only reads the file as md5sum does.
 - whole programs: process start, the file, and the digest. Ours maps the file or reads it into newly allocated memory, md5sum reads it.
 
+Then the size of the compiled function: the bytes of code and of constants that `size -A` reports of target/staticlib/libmd5_c.a.
+
 The run fails where the two digests differ. Use, from anywhere: bench/md5.py [ROUNDS].
-It needs rt, a C compiler as cc, md5sum, and Linux on x86-64.
+It needs rt, a C compiler as cc with its `size`, md5sum, and Linux on x86-64.
 """
 import contextlib
 import os
@@ -14,7 +16,7 @@ import sys
 import tempfile
 import time
 
-from tools import OUT, Compared, Table, printed, program, rounds
+from tools import OUT, Compared, Table, library, printed, program, rounds
 
 SIZE = 64 * 2**20
 RUNS = 3
@@ -59,6 +61,19 @@ def turns(file):
     return [min(times) for times in zip(*found)]
 
 
+def section_bytes(kind):
+    """The bytes of all sections of one kind, `.text` or `.rodata`, in the static library of crates/md5_c."""
+    words = printed("size", "-A", library("md5_c"))
+    return sum(int(size) for name, size in zip(words, words[1:]) if name == kind or name.startswith(kind + "."))
+
+
+def size_table():
+    table = Table("md5 size", "What", "Bytes")
+    table.add("code: `.text` sections", f"{section_bytes('.text'):,}")
+    table.add("constants: `.rodata` sections", f"{section_bytes('.rodata'):,}")
+    return table
+
+
 def tables(rounds):
     table = Table("md5", "What is timed", "Ours", "`md5sum`", "Ratio")
     program("md5")
@@ -68,7 +83,7 @@ def tables(rounds):
     for what, pair in COMPARED:
         both = Compared([pair(*times) for times in found])
         table.add(what, f"{SIZE / both.first / 1e6:.0f} MB/s", f"{SIZE / both.second / 1e6:.0f} MB/s", both.spread())
-    return [table]
+    return [table, size_table()]
 
 
 if __name__ == "__main__":
