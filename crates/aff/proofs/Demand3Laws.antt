@@ -23,7 +23,7 @@ use Rattle.aff_areas.proofs.StoreLaws.{apply-append, apply-length}
 use Rattle.aff_run.specs.TreeSizes.{nonVoidCount, sizeOf}
 use Rattle.aff_run.specs.Run.{State, storesOf, Run, runBegin, runStart, runStores, runState, runTree, runClosed}
 use Rattle.aff_read.specs.Shows.{Shows}
-use Rattle.aff_run.proofs.BeginInvariantLaws.{begin-good, begin-form, begin-stores}
+use Rattle.aff_run.proofs.BeginInvariantLaws.{begin-invariant, begin-form, begin-stores}
 use Rattle.aff_run.proofs.BeginRefusedLaws.{none-run, none-closed}
 use Rattle.aff_run.proofs.ClosedLaws.{closed}
 use Rattle.aff_run.proofs.CutLaws.{cut-run-stores, cut-run-buffer, cut-begin, cut-run-answers-before, cut-begin-out, cut-run-answer-out}
@@ -79,7 +79,7 @@ module _ (run : Run) {n : ℕ} (h : runBegin run .answer ≡ accepted n) where
   later = storesOf (runStart run) (run .calls)
 
   good : Invariant (runStart run) []
-  good = begin-good run h
+  good = begin-invariant run h
 
   sizes : (dataPlace ≤ length (run .buffer)) × (length (run .buffer) ≤ imageLimit) × (length (run .form) ≡ 12)
   unfolding sizeOf

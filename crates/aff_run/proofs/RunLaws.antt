@@ -19,10 +19,10 @@ use Rattle.aff_write.specs.Put.{putStores}
 use Rattle.aff_run.specs.AnswersFromTree.{isSpent, stops}
 use Rattle.aff_run.specs.Run.{Call, make, put, close, State, Step, answerTo, needed, completed, step, afterCall, answersOf, storesOf, isAccepted, applyCall, treeAfter, isClose, closedBy}
 use Rattle.aff_run.proofs.InvariantLaws.{Invariant, ZerosAfter}
-use Rattle.aff_run.proofs.MakeInvariantLaws.{made-good, made-after}
-use Rattle.aff_run.proofs.PutInvariantLaws.{put-good, put-after}
+use Rattle.aff_run.proofs.MakeInvariantLaws.{made-invariant, made-after}
+use Rattle.aff_run.proofs.PutInvariantLaws.{put-invariant, put-after}
 use Rattle.aff_run.proofs.ClosedLaws.{closed, closed-buffer}
-use Rattle.aff_run.proofs.StepLaws.{accepted-clear, step-refused, asleep-stores, asleep-closed, asleep-described}
+use Rattle.aff_run.proofs.StepLaws.{accepted-clear, step-refused, asleep-stores, asleep-closed, asleep-tree}
 
 -- ---- What a call leaves of the record.
 
@@ -86,9 +86,9 @@ module _ (s : State) (tree : Tree) (g : Invariant s tree) where
 
   by-answer : (c : Call) (a : Answer ℕ) → step s c .answer ≡ a → Outcome s tree c
   by-answer c (refused t) h = by-number c t (eqb (t .number) 23) refl h
-  by-answer (make parent name) (accepted n) h = goesOn (rw h) (rw h (made-good s tree g parent name h)) (rw h (made-after s tree g parent name h))
+  by-answer (make parent name) (accepted n) h = goesOn (rw h) (rw h (made-invariant s tree g parent name h)) (rw h (made-after s tree g parent name h))
   by-answer (put node type bytes allowance) (accepted n) h =
-      goesOn (rw h) (rw h (put-good s tree g node type bytes allowance h)) (rw h (put-after s tree g node type bytes allowance h))
+      goesOn (rw h) (rw h (put-invariant s tree g node type bytes allowance h)) (rw h (put-after s tree g node type bytes allowance h))
   by-answer (close allowance) (accepted n) h = ends (rw h) (rw h) (close-sleeps s allowance h)
 
   pub outcome : (c : Call) → Outcome s tree c
@@ -134,7 +134,7 @@ module _ (P : List ℕ → List ℕ → Tree → Type 0) (closes : (s : State) (
         let asleep = sleeps-asleep s c z in
         rw (
           asleep-stores (afterCall s c) asleep cs,
-          asleep-described (afterCall s c) asleep tree cs,
+          asleep-tree (afterCall s c) asleep tree cs,
           append-nil,
           close-made s c (step s c .answer) refl a,
           ← closed-buffer s tree g,
