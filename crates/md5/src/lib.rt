@@ -85,14 +85,14 @@ const T: [u32; 64] = [
     3951481745,
 ];
 
-// The shift amounts, a round in each line.
+// The shift amounts, in hexadecimal, a round in each line.
 const SHIFTS: [u8; 64] = *b"\
     \x07\x0c\x11\x16\x07\x0c\x11\x16\x07\x0c\x11\x16\x07\x0c\x11\x16\
     \x05\x09\x0e\x14\x05\x09\x0e\x14\x05\x09\x0e\x14\x05\x09\x0e\x14\
     \x04\x0b\x10\x17\x04\x0b\x10\x17\x04\x0b\x10\x17\x04\x0b\x10\x17\
     \x06\x0a\x0f\x15\x06\x0a\x0f\x15\x06\x0a\x0f\x15\x06\x0a\x0f\x15";
 
-// The numbers of the words, a round in each line.
+// The numbers of the words, in hexadecimal, a round in each line.
 const WORDS: [u8; 64] = *b"\
     \x00\x01\x02\x03\x04\x05\x06\x07\x08\x09\x0a\x0b\x0c\x0d\x0e\x0f\
     \x01\x06\x0b\x00\x05\x0a\x0f\x04\x09\x0e\x03\x08\x0d\x02\x07\x0c\
@@ -227,8 +227,8 @@ fn mix(i: usize, x: u32, y: u32, z: u32) -> u32
     }
 }
 
-// v after step i on the block m. t, s and k are the tables. The word and the constant are read before `mix`: each step has to wait
-// for the one before, and they need not.
+// v after step i on the block m; t, s and k are the tables. The word and the constant are read first, since they do not depend on the
+// step before.
 fn step(v: State, m: &[u8], t: &[u32; 64], s: &[u8; 64], k: &[u8; 64], i: usize) -> State
     requires { ⌜ (length (now m) ≡ 64) × Tables (now t) (now s) (now k) × (i < 64) ⌝ }
     ensures { λ w. ⌜ w ≡ stepOf (now (m .entry)) i v ⌝ }
@@ -299,7 +299,7 @@ fn absorb<'a>(
     v
 }
 
-// The number of bytes that the last bytes of a message, `rest` of them, have with the padding: one block or two.
+// How many bytes the last `rest` bytes of a message have with the padding: one block or two.
 fn padded_size(rest: usize) -> usize
     requires { ⌜ rest < 64 ⌝ }
     ensures { λ r. ⌜ r ≡ rest + 1 + zeros rest + 8 ⌝ }
