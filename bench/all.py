@@ -6,7 +6,7 @@ and the run. The run fails, and writes nothing, where an answer of the library, 
 stack than include/aff.h allows.
 
 Use, from anywhere: bench/all.py [ROUNDS].
-It needs rt, cargo, a C compiler as cc, md5sum, Linux on x86-64, 600 MB of memory, and 70 MB of disk below target/. Where the library has not been proved
+It needs rt, cargo, a C compiler as cc, size (binutils), md5sum, Linux on x86-64, 600 MB of memory, and 70 MB of disk below target/. Where the library has not been proved
 before, that takes some minutes more.
 """
 import os

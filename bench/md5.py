@@ -8,7 +8,7 @@ Elapsed times of alternating runs, the least of three in a round:
 Then the size of the compiled function: the bytes of code and of constants that `size -A` reports of target/staticlib/libmd5_c.a.
 
 The run fails where the two digests differ. Use, from anywhere: bench/md5.py [ROUNDS].
-It needs rt, a C compiler as cc with its `size`, md5sum, and Linux on x86-64.
+It needs rt, a C compiler as cc, size (binutils), md5sum, and Linux on x86-64.
 """
 import contextlib
 import os
@@ -64,7 +64,8 @@ def turns(file):
 def section_bytes(kind):
     """The bytes of all sections of one kind, `.text` or `.rodata`, in the static library of crates/md5_c."""
     words = printed("size", "-A", library("md5_c"))
-    return sum(int(size) for name, size in zip(words, words[1:]) if name == kind or name.startswith(kind + "."))
+    found = sum(int(size) for name, size in zip(words, words[1:]) if name == kind or name.startswith(kind + "."))
+    return found or sys.exit(f"size -A reports no byte of {kind}")
 
 
 def size_table():

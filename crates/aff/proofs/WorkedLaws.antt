@@ -243,8 +243,8 @@ module _ (buffer text tree : List ℕ) (begins puts closes : ℕ) (r : length bu
   abbrev s₃ : State
   s₃ = afterCall s₂ (put 2 3 minusSeventy puts)
 
-  good : Invariant s₃ workedTree
-  good =
+  kept : Invariant s₃ workedTree
+  kept =
       let g₀ = begin-invariant it worked-begins in
       let g₁ = made-invariant s₀ [] g₀ 0 nameA (answer-at 0) in
       let g₂ = made-invariant s₁ (withChild [] 0 nameA) g₁ 1 nameN (answer-at 1) in
@@ -271,8 +271,8 @@ module _ (buffer text tree : List ℕ) (begins puts closes : ℕ) (r : length bu
   worked-buffer =
       sym (run-buffer it)
       ∙ ap (applyStores (s₃ .buffer)) (needed-made s₃ (close closes) (answer-at 3))
-      ∙ sym (closed-buffer s₃ workedTree good)
-      ∙ file-here s₃ good form-kept buffer-kept
+      ∙ sym (closed-buffer s₃ workedTree kept)
+      ∙ file-here s₃ kept form-kept buffer-kept
 
   -- The calls describe the two nodes, and the file shows them, by demand 3.
   worked-tree : runTree it ≡ workedTree

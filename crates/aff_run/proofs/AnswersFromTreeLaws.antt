@@ -73,7 +73,7 @@ stores-length : (p q : ℕ) (x e h : List ℕ) → 1 ≤ length h
 stores-length p q x e h l =
     simp (length-append, length-storesFrom) (omega (arith, length-drop 1 h, length-take-le 1 h l))
 
--- ---- In a good state.
+-- ---- In a state with the invariant.
 
 module _ (s : State) (tree : Tree) (g : Invariant s tree) where
   it-belongs : belongsIn s ≡ true
@@ -222,6 +222,7 @@ sleeps-belong s t z b =
 
 -- ---- The calls.
 
+-- What is shown of a list of calls, from any state with the invariant.
 abbrev AnswersFrom : List Call → Type 0
 AnswersFrom cs = (s : State) (tree : Tree) → Invariant s tree → AnswersFromTree (length (s .buffer)) false tree cs (answersOf s cs)
 
@@ -230,10 +231,10 @@ module _ (s : State) (tree : Tree) (g : Invariant s tree) (c : Call) (cs : List 
   AnswersAfter asleep after = AnswersFromTree (length (s .buffer)) asleep after cs (answersOf (afterCall s c) cs)
 
   by-step : Outcome s tree c → AnswersAfter (stops c (step s c .answer)) (applyCall tree c (isAccepted (step s c .answer)))
-  by-step (goesOn e good rest) =
+  by-step (goesOn e kept rest) =
       rw e
       (subst (λ (r : ℕ). AnswersFromTree r false (applyCall tree c (isAccepted (step s c .answer))) cs (answersOf (afterCall s c) cs))
-      (apply-length (s .buffer) (step s c .stores)) (later (afterCall s c) _ good))
+      (apply-length (s .buffer) (step s c .stores)) (later (afterCall s c) _ kept))
   by-step (ends e t z) =
       rw (e, t) (from-tree-asleep cs (afterCall s c) (length (s .buffer)) tree (sleeps-asleep s c z) (sleeps-belong s (step s c) z (it-belongs s tree g)))
 

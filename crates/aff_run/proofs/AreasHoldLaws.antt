@@ -117,7 +117,7 @@ module _ (s : State) (tree : Tree) (g : Invariant s tree) (b : ZerosAfter s tree
   -- The same, after call c.
   by-step : Outcome s tree c
       → AreasHold (treeAfter (applyCall tree c (isAccepted (step s c .answer))) cs (answersOf (afterCall s c) cs)) (stateAfter (afterCall s c) cs)
-  by-step (goesOn e good rest) = later (afterCall s c) _ good (rest b)
+  by-step (goesOn e kept rest) = later (afterCall s c) _ kept (rest b)
   by-step (ends e t z) =
       let asleep = sleeps-asleep s c z in
       rw (t, asleep-tree (afterCall s c) asleep tree cs, asleep-after (afterCall s c) asleep cs)

@@ -3,8 +3,9 @@ ghost use mathlib.Core.Path.{_≡_};
 ghost use Prim.Native.Nat.{_+_, _*_, _/_, _%_, _≤_, _<_};
 ghost use lib.ListN.{length, take, drop, replicate};
 ghost use mathlib.Core.List.{_++_};
-ghost use Rattle.md5.specs.Md5.{rotl, word as wordOf, turn as turned, mix as mixOf, step as stepOf, compress as compressed, le, zeros, pad, allBlocks, start, output as outputOf, md5 as md5Of};
-ghost use Rattle.md5.specs.passes.Absorb.{Tables, whole};
+ghost use Rattle.md5.specs.Md5.{rotl, word as wordOf, turn as turned, mix as mixOf, step as stepOf, compress as compressed, le, zeros, pad, allBlocks, output as outputOf, md5 as md5Of};
+ghost use Rattle.md5.specs.passes.StepTables.{Tables};
+ghost use Rattle.md5.specs.passes.WholeBlocks.{whole};
 
 // The four words A, B, C and D.
 struct State {
@@ -15,7 +16,7 @@ struct State {
 }
 
 // The three tables of the 64 steps, by step number. An index into a constant copies the whole constant, so `md5` makes one local of
-// each table, and the functions below it borrow that.
+// each table, and the functions that it calls borrow that.
 
 // The additive constants.
 const T: [u32; 64] = [
@@ -174,7 +175,7 @@ fn clear(b: &mut [u8], at: usize, n: usize)
 
 // ---- A block.
 
-// x rotated left by s bits. The remainder changes nothing, but with it the compiler makes one rotation of this line.
+// x rotated left by s bits. s % 32 equals s; with it the compiler makes one rotation of the last line.
 fn rotate(x: u32, s: u32) -> u32
     requires { ⌜ (0 < s) × (s < 32) ⌝ }
     ensures { λ r. ⌜ r ≡ rotl x s ⌝ }
@@ -227,8 +228,8 @@ fn mix(i: usize, x: u32, y: u32, z: u32) -> u32
     }
 }
 
-// v after step i on the block m; t, s and k are the tables. The word and the constant are read first, since they do not depend on the
-// step before.
+// v after step i on the block m; t, s and k are the tables `T`, `SHIFTS` and `WORDS`. The word and the constant are read before `mix`:
+// so ordered, the compiler adds the word to v.a beside the computation of `mix` and not after it.
 fn step(v: State, m: &[u8], t: &[u32; 64], s: &[u8; 64], k: &[u8; 64], i: usize) -> State
     requires { ⌜ (length (now m) ≡ 64) × Tables (now t) (now s) (now k) × (i < 64) ⌝ }
     ensures { λ w. ⌜ w ≡ stepOf (now (m .entry)) i v ⌝ }
@@ -299,7 +300,7 @@ fn absorb<'a>(
     v
 }
 
-// How many bytes the last `rest` bytes of a message have with the padding: one block or two.
+// The length of the last `rest` bytes of a message with their padding: one block or two.
 fn padded_size(rest: usize) -> usize
     requires { ⌜ rest < 64 ⌝ }
     ensures { λ r. ⌜ r ≡ rest + 1 + zeros rest + 8 ⌝ }

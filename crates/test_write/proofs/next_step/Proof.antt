@@ -1,4 +1,4 @@
--- `next_step` meets its contract: the part that it hands over is as long as the step. Assumes nothing.
+-- `next_step` is safe and ends: the part that it passes on is as long as the step. Assumes nothing.
 use borrow.Author.Needs.{needs}
 use mathlib.Core.Path.{sym}
 use lib.Seq.{length-take-le}
