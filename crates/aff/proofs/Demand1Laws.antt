@@ -1,4 +1,4 @@
--- Demand 1 from the laws of rules (`reading-by`, `begin-by`, `writing-by`), of what calls leave (`opening-leaves` and its like), of 24 (`opened-belongs`, `none-belongs`) and of runs (`run-exact`,
+-- Demand 1 from the laws of rules (`reading-by`, `begin-by`, `writing-by`), of what calls leave (`opening-leaves` and its like), of 24 (`opened-belongs`, `none-belongs`) and of runs (`run-from-tree`,
 -- `run-spent`, `run-refused`). Every reading and writing call judges 24 first, so it answers 24 where the record does not belong, and where it does, no
 -- check after reports 24. Assumes nothing.
 use mathlib.Core.Path.{_≡_, refl, sym, ap, _∙_}
@@ -35,8 +35,8 @@ use Rattle.aff_write.specs.Put.{dataChecks, putAnswer}
 use Rattle.aff_run.specs.AnswersFromTree.{callChecks, callValue, callAnswer, AnswersFromTree, stops}
 use Rattle.aff_run.specs.Run.{Call, make, put, close, State, step, isAccepted, applyCall}
 use Rattle.aff_run.proofs.CutLaws.{make-stores, put-reports, close-reports, begin-reports}
-use Rattle.aff_run.proofs.AnswersFromTreeLaws.{run-exact, run-spent, run-refused}
-use Rattle.aff_run.proofs.AreasHoldLaws.{run-held}
+use Rattle.aff_run.proofs.AnswersFromTreeLaws.{run-from-tree, run-spent, run-refused}
+use Rattle.aff_run.proofs.AreasHoldLaws.{run-areas}
 use Rattle.aff.specs.Demand1.{NotBy, Is24, Not24, Is24Unless, EachReading, EachWriting, Numbered, callStores, Demand1}
 use Rattle.aff.proofs.LeavesLaws.{opening-leaves, reading-leaves, begin-leaves, writing-leaves}
 use Rattle.aff.proofs.RulesLaws.{opening-by, decode-by, reading-by, begin-by, writing-by}
@@ -139,14 +139,14 @@ module _ (buffer : List ℕ) (w : Writer) (text tree : List ℕ) where
 -- ---- What a run's answers say of 24 and 22.
 
 -- The checks of a call of a run report neither.
-exact-others : (size : ℕ) (tree : Tree) (c : Call) → Others 22 (callChecks size tree c) × Others 24 (callChecks size tree c)
-exact-others size tree (make parent name) = (refl, refl)
-exact-others size tree (put node type bytes allowance) = (refl, refl)
-exact-others size tree (close allowance) = (refl, refl)
+from-tree-others : (size : ℕ) (tree : Tree) (c : Call) → Others 22 (callChecks size tree c) × Others 24 (callChecks size tree c)
+from-tree-others size tree (make parent name) = (refl, refl)
+from-tree-others size tree (put node type bytes allowance) = (refl, refl)
+from-tree-others size tree (close allowance) = (refl, refl)
 
-exact-not : (size : ℕ) (tree : Tree) (c : Call) → NotBy 22 (callAnswer size tree c) × NotBy 24 (callAnswer size tree c)
-exact-not size tree c =
-    let (o, p) = exact-others size tree c in
+from-tree-not : (size : ℕ) (tree : Tree) (c : Call) → NotBy 22 (callAnswer size tree c) × NotBy 24 (callAnswer size tree c)
+from-tree-not size tree c =
+    let (o, p) = from-tree-others size tree c in
     (others-not 22 (callChecks size tree c) (callValue size tree c) o, others-not 24 (callChecks size tree c) (callValue size tree c) p)
 
 -- One answer.
@@ -157,17 +157,17 @@ answer-numbers true size tree c a h = (
   (λ _. refl, λ _. h),
 )
 answer-numbers false size tree c a h = (
-  λ t g e. exact-not size tree c .1 t (sym h ∙ g) e,
-  (λ g. absurd (exact-not size tree c .0 (refusal 22) (sym h ∙ g) refl), λ g. absurd (true≢false (sym g))),
+  λ t g e. from-tree-not size tree c .1 t (sym h ∙ g) e,
+  (λ g. absurd (from-tree-not size tree c .0 (refusal 22) (sym h ∙ g) refl), λ g. absurd (true≢false (sym g))),
 )
 
-exact-numbered : (cs : List Call) (answers : List (Answer ℕ)) (size : ℕ) (stopped : Bool) (tree : Tree) → AnswersFromTree size stopped tree cs answers
+from-tree-numbered : (cs : List Call) (answers : List (Answer ℕ)) (size : ℕ) (stopped : Bool) (tree : Tree) → AnswersFromTree size stopped tree cs answers
     → Numbered stopped cs answers
-exact-numbered [] answers size stopped tree x = tt
-exact-numbered (c ∷ cs) [] size stopped tree x = x
-exact-numbered (c ∷ cs) (a ∷ answers) size stopped tree x =
+from-tree-numbered [] answers size stopped tree x = tt
+from-tree-numbered (c ∷ cs) [] size stopped tree x = x
+from-tree-numbered (c ∷ cs) (a ∷ answers) size stopped tree x =
     let (not, only) = answer-numbers stopped size tree c a (x .0) in
-    (not, only, exact-numbered cs answers size (stopped || stops c a) (applyCall tree c (isAccepted a)) (x .1))
+    (not, only, from-tree-numbered cs answers size (stopped || stops c a) (applyCall tree c (isAccepted a)) (x .1))
 
 -- ---- Stores reported.
 
@@ -197,11 +197,11 @@ demand1 =
       refused-reads = λ image form strings entries h other ss es. rw h (wrong-reads other noReader ss es (none-belongs other ss es));
       refused-writes = λ run h e other text tree.
           rw (ap (λ (s : State). s .writer) (begin-leaves run .by-others _ h e)) (wrong-writes other noWriter text tree (none-belongs-here (length other) text tree));
-      run = run-exact;
+      run = run-from-tree;
       spent-run = λ run h e. run-spent run _ h (eq-eqb _ 23 e);
       refused-run = λ run h e. run-refused run _ h (ne-eqb _ 23 e);
-      exact-numbers = λ buffer stopped tree calls answers. exact-numbered calls answers buffer stopped tree;
+      exact-numbers = λ buffer stopped tree calls answers. from-tree-numbered calls answers buffer stopped tree;
       begin-reports = begin-reports;
       reports = reports-made;
-      areas = run-held;
+      areas = run-areas;
     }

@@ -23,7 +23,7 @@ use Rattle.aff_areas.proofs.StoreLaws.{apply-append, apply-length}
 use Rattle.aff_run.specs.TreeSizes.{nonVoidCount, sizeOf}
 use Rattle.aff_run.specs.Run.{State, storesOf, Run, runBegin, runStart, runStores, runState, runTree, runClosed}
 use Rattle.aff_read.specs.Shows.{Shows}
-use Rattle.aff_run.proofs.BeginInvariantLaws.{begin-good, begin-form, begin-stores}
+use Rattle.aff_run.proofs.BeginInvariantLaws.{begin-invariant, begin-form, begin-stores}
 use Rattle.aff_run.proofs.BeginRefusedLaws.{none-run, none-closed}
 use Rattle.aff_run.proofs.ClosedLaws.{closed}
 use Rattle.aff_run.proofs.CutLaws.{cut-run-stores, cut-run-buffer, cut-begin, cut-run-answers-before, cut-begin-out, cut-run-answer-out}
@@ -78,15 +78,15 @@ module _ (run : Run) {n : ℕ} (h : runBegin run .answer ≡ accepted n) where
   abbrev later : List Store
   later = storesOf (runStart run) (run .calls)
 
-  good : Invariant (runStart run) []
-  good = begin-good run h
+  kept : Invariant (runStart run) []
+  kept = begin-invariant run h
 
   sizes : (dataPlace ≤ length (run .buffer)) × (length (run .buffer) ≤ imageLimit) × (length (run .form) ≡ 12)
   unfolding sizeOf
   sizes =
       let l = apply-length (run .buffer) (runBegin run .stores) in
-      let f : length (run .form) ≡ 12 = ap length (sym (begin-form run h)) ∙ good .form-length in
-      (omega (arith, good .fits, good .buffer-length), omega (arith, good .buffer-length, good .buffer-allowed), f)
+      let f : length (run .form) ≡ 12 = ap length (sym (begin-form run h)) ∙ kept .form-length in
+      (omega (arith, kept .fits, kept .buffer-length), omega (arith, kept .buffer-length, kept .buffer-allowed), f)
 
   -- What holds of each closed buffer holds of the buffer after all stores.
   all-holds : (P : List ℕ → List ℕ → Tree → Type 0) → ((s : State) (tree : Tree) (g : Invariant s tree) → P (closed s tree g) (s .writer .form) tree)
@@ -94,7 +94,7 @@ module _ (run : Run) {n : ℕ} (h : runBegin run .answer ≡ accepted n) where
   all-holds P closes c =
       subst (λ (f : List ℕ). P (applyStores (run .buffer) (runStores run)) f (runTree run)) (begin-form run h)
       (subst (λ (r : List ℕ). P r (runStart run .writer .form) (runTree run)) (sym (apply-append (run .buffer) (runBegin run .stores) later))
-      (run-holds P closes (run .calls) (runStart run) [] good c))
+      (run-holds P closes (run .calls) (runStart run) [] kept c))
 
   all-is : runStores run ≡ record { at = 0; byte = 0 } ∷ later
   all-is = ap (λ (b : List Store). b ++ later) (begin-stores run h)

@@ -33,13 +33,13 @@ use Rattle.aff_run.specs.TreeSizes.{withChild, addName, namesFrom, namesOf, dat
 use Rattle.aff_run.specs.AnswersFromTree.{hasChild, tooLarge, closeNeeds, callAnswer, stops, AnswersFromTree}
 use Rattle.aff_run.specs.Run.{Call, make, put, close, State, step, afterCall, storesOf, beginStep, isAccepted, applyCall, treeAfter, closedBy, Run, runBegin, runStart, runAnswers, runStores, runTree, runClosed}
 use Rattle.aff_read.specs.Shows.{Shows}
-use Rattle.aff_run.proofs.BeginInvariantLaws.{begin-good, begin-form, begin-stores}
+use Rattle.aff_run.proofs.BeginInvariantLaws.{begin-invariant, begin-form, begin-stores}
 use Rattle.aff_run.proofs.ClosedLaws.{closed, front, header-is, closed-is, closed-buffer}
 use Rattle.aff_run.proofs.CutLaws.{make-stores, put-reports, close-reports}
-use Rattle.aff_run.proofs.AnswersFromTreeLaws.{run-exact}
+use Rattle.aff_run.proofs.AnswersFromTreeLaws.{run-from-tree}
 use Rattle.aff_run.proofs.InvariantLaws.{Each, Invariant, entry-in}
-use Rattle.aff_run.proofs.MakeInvariantLaws.{made-good}
-use Rattle.aff_run.proofs.PutInvariantLaws.{put-good}
+use Rattle.aff_run.proofs.MakeInvariantLaws.{made-invariant}
+use Rattle.aff_run.proofs.PutInvariantLaws.{put-invariant}
 use Rattle.aff_run.proofs.RunLaws.{step-form, needed-made}
 use Rattle.aff_run.proofs.StepLaws.{buffer-after, run-buffer}
 use Rattle.aff.specs.Demand3.{bufferAt}
@@ -55,14 +55,14 @@ expected size asleep tree (c ∷ cs) =
     let a = cond asleep (refused (refusal 22)) (callAnswer size tree c) in
     a ∷ expected size (asleep || stops c a) (applyCall tree c (isAccepted a)) cs
 
-exact-is : (cs : List Call) (size : ℕ) (asleep : Bool) (tree : Tree) (answers : List (Answer ℕ)) → length answers ≡ length cs → AnswersFromTree size asleep tree cs answers
+from-tree-is : (cs : List Call) (size : ℕ) (asleep : Bool) (tree : Tree) (answers : List (Answer ℕ)) → length answers ≡ length cs → AnswersFromTree size asleep tree cs answers
     → answers ≡ expected size asleep tree cs
-exact-is [] size asleep tree [] n h = refl
-exact-is [] size asleep tree (a ∷ answers) n h = absurd (omega arith)
-exact-is (c ∷ cs) size asleep tree [] n h = absurd h
-exact-is (c ∷ cs) size asleep tree (a ∷ answers) n h =
+from-tree-is [] size asleep tree [] n h = refl
+from-tree-is [] size asleep tree (a ∷ answers) n h = absurd (omega arith)
+from-tree-is (c ∷ cs) size asleep tree [] n h = absurd h
+from-tree-is (c ∷ cs) size asleep tree (a ∷ answers) n h =
     ap₂ (λ (x : Answer ℕ) (xs : List (Answer ℕ)). x ∷ xs) (h .0)
-    (exact-is cs size (asleep || stops c a) (applyCall tree c (isAccepted a)) answers (omega arith) (h .1)
+    (from-tree-is cs size (asleep || stops c a) (applyCall tree c (isAccepted a)) answers (omega arith) (h .1)
     ∙ ap (λ (x : Answer ℕ). expected size (asleep || stops c x) (applyCall tree c (isAccepted x)) cs) (h .0))
 
 expected-214 : (puts closes : ℕ) → 4 ≤ puts → 210 ≤ closes
@@ -191,7 +191,7 @@ module _ (buffer text tree : List ℕ) (begins puts closes : ℕ) (x : length te
   -- The answers are those expected in a buffer of that size.
   answers-are : (size : ℕ) → length buffer ≡ size → 168 ≤ size → size ≤ imageLimit → runAnswers run ≡ expected size false [] (run .calls)
   answers-are size r lo hi =
-      exact-is (run .calls) (length buffer) false [] (runAnswers run) refl (run-exact run (begin-accepted (omega arith) (omega arith)))
+      from-tree-is (run .calls) (length buffer) false [] (runAnswers run) refl (run-from-tree run (begin-accepted (omega arith) (omega arith)))
       ∙ ap (λ (n : ℕ). expected n false [] (run .calls)) r
 
 -- Demand 3 of a run with a close accepted: the buffer after all its stores shows the tree described.
@@ -243,12 +243,12 @@ module _ (buffer text tree : List ℕ) (begins puts closes : ℕ) (r : length bu
   abbrev s₃ : State
   s₃ = afterCall s₂ (put 2 3 minusSeventy puts)
 
-  good : Invariant s₃ workedTree
-  good =
-      let g₀ = begin-good it worked-begins in
-      let g₁ = made-good s₀ [] g₀ 0 nameA (answer-at 0) in
-      let g₂ = made-good s₁ (withChild [] 0 nameA) g₁ 1 nameN (answer-at 1) in
-      put-good s₂ (withChild (withChild [] 0 nameA) 1 nameN) g₂ 2 3 minusSeventy puts (answer-at 2)
+  kept : Invariant s₃ workedTree
+  kept =
+      let g₀ = begin-invariant it worked-begins in
+      let g₁ = made-invariant s₀ [] g₀ 0 nameA (answer-at 0) in
+      let g₂ = made-invariant s₁ (withChild [] 0 nameA) g₁ 1 nameN (answer-at 1) in
+      put-invariant s₂ (withChild (withChild [] 0 nameA) 1 nameN) g₂ 2 3 minusSeventy puts (answer-at 2)
 
   form-kept : s₃ .writer .form ≡ workedForm
   form-kept = step-form s₂ (put 2 3 minusSeventy puts) ∙ step-form s₁ (make 1 nameN) ∙ step-form s₀ (make 0 nameA) ∙ begin-form it worked-begins
@@ -271,8 +271,8 @@ module _ (buffer text tree : List ℕ) (begins puts closes : ℕ) (r : length bu
   worked-buffer =
       sym (run-buffer it)
       ∙ ap (applyStores (s₃ .buffer)) (needed-made s₃ (close closes) (answer-at 3))
-      ∙ sym (closed-buffer s₃ workedTree good)
-      ∙ file-here s₃ good form-kept buffer-kept
+      ∙ sym (closed-buffer s₃ workedTree kept)
+      ∙ file-here s₃ kept form-kept buffer-kept
 
   -- The calls describe the two nodes, and the file shows them, by demand 3.
   worked-tree : runTree it ≡ workedTree

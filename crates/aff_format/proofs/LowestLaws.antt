@@ -13,7 +13,7 @@ use Rattle.aff_format.specs.declared.lowest.Lowest.the-variants.{Nothing
 use Rattle.aff_format.proofs.AnswerLaws.{numbersReported}
 
 module _ (test : ℕ → Bool) where
-  -- One turn of a loop: the number after the first k is it, or the rest decides, or there is no rest.
+  -- One iteration of a loop: the number after the first k is it, or the rest decides, or there is no rest.
   pub lowest-here : (n k first : ℕ) → k < n → test (k + first) ≡ true → At (k + first) ≡ lowestFrom test (n - k) (k + first)
   unfolding lowestFrom
   lowest-here n k first h e = let z : n - k ≡ suc (n - (k + 1)) = omega arith in rw (z, e)

@@ -100,12 +100,12 @@ beOf-part-bound at w l o h = rw (length-part at w l h) at (beOf-bound (part at w
 pub beBytes-part : (at w : ℕ) (l : List ℕ) → Octets l → at + w ≤ length l → beBytes w (beOf (part at w l)) ≡ part at w l
 beBytes-part at w l o h = rw (length-part at w l h) at (beBytes-beOf (part at w l) (octets-part at w l o))
 
--- A turn of the loop that writes a number: the low byte of the rest comes after the bytes still to be written.
-pub put-turn : (at left rest : ℕ) (l : List ℕ) → 0 < left → at + left ≤ length l
+-- An iteration of the loop that writes a number: the low byte of the rest comes after the bytes still to be written.
+pub put-next : (at left rest : ℕ) (l : List ℕ) → 0 < left → at + left ≤ length l
     → spliced at (beBytes (left - 1) (rest / 256)) (set l (at + (left - 1)) (rest % 256)) ≡ spliced at (beBytes left rest) l
 unfolding beBytes
-put-turn at zero rest l h f = absurd (omega arith)
-put-turn at (suc w) rest l h f =
+put-next at zero rest l h f = absurd (omega arith)
+put-next at (suc w) rest l h f =
     let e = length-beBytes w (rest / 256) in
     rw (sub-one (suc w)) (rw e at (spliced-set at (rest % 256) (beBytes w (rest / 256)) l (omega arith)))
 

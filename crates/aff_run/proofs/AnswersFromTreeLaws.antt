@@ -35,14 +35,14 @@ use Rattle.aff_run.specs.TreeSizes.{withChild, withData, sizeOf}
 use Rattle.aff_run.specs.AnswersFromTree.{hasChild, tooLarge, closeNeeds, callChecks, callValue, callAnswer, stops, AnswersFromTree, AllWrongRecord}
 use Rattle.aff_run.specs.Run.{Call, make, put, close, State, Step, step, afterCall, answersOf, beginStep, isAccepted, applyCall, Run, runBegin, runStart, runAnswers, runStores}
 use Rattle.aff_run.proofs.BeginRefusedLaws.{begin-spent, asleep, none-run}
-use Rattle.aff_run.proofs.InvariantLaws.{Invariant, used-text, names-in, entry-in, stored-in, name-in, entries-in, sizes-in-bytes, size-in, good-belongs}
+use Rattle.aff_run.proofs.InvariantLaws.{Invariant, used-text, names-in, entry-in, stored-in, name-in, entries-in, sizes-in-bytes, size-in, invariant-belongs}
 use Rattle.aff_run.proofs.NamesLaws.{names-snoc}
 use Rattle.aff_run.proofs.MakeInvariantLaws.{child, size-child, length-snoc, strings-now, text-now}
 use Rattle.aff_run.proofs.PutInvariantLaws.{data-right, size-after}
 use Rattle.aff_run.proofs.ClosedLaws.{length-header}
 use Rattle.aff_run.proofs.StepLaws.{belongsIn, ownChecks, ownValue, answer-judged, judged-awake, asleep-step, asleep-next}
 use Rattle.aff_run.proofs.RunLaws.{Sleeps, sleeps-asleep, Outcome, goesOn, ends, outcome}
-use Rattle.aff_run.proofs.BeginInvariantLaws.{lengths-right, empty-good, begin-good}
+use Rattle.aff_run.proofs.BeginInvariantLaws.{lengths-right, empty-invariant, begin-invariant}
 
 -- ---- Checks that agree.
 
@@ -73,11 +73,11 @@ stores-length : (p q : ℕ) (x e h : List ℕ) → 1 ≤ length h
 stores-length p q x e h l =
     simp (length-append, length-storesFrom) (omega (arith, length-drop 1 h, length-take-le 1 h l))
 
--- ---- In a good state.
+-- ---- In a state with the invariant.
 
 module _ (s : State) (tree : Tree) (g : Invariant s tree) where
   it-belongs : belongsIn s ≡ true
-  it-belongs = record-belongs (good-belongs s tree g)
+  it-belongs = record-belongs (invariant-belongs s tree g)
 
   -- ---- Make.
 
@@ -181,8 +181,8 @@ module _ (s : State) (tree : Tree) (g : Invariant s tree) where
   value-same (put node type bytes allowance) = length-storesFrom (putPlace (s .writer)) bytes
   value-same (close allowance) = close-needs
 
-  exact-step : (c : Call) → step s c .answer ≡ callAnswer (length (s .buffer)) tree c
-  exact-step c =
+  from-tree-step : (c : Call) → step s c .answer ≡ callAnswer (length (s .buffer)) tree c
+  from-tree-step c =
       let own = ownChecks s c in
       answer-judged s c
       ∙ judged-awake (belongsIn s) (s .writer .live) it-belongs (g .live) own (ownValue s c)
@@ -197,12 +197,12 @@ unfolding writerBelongs writerSizesBelong textBelongs writerNodesBelong finished
 belongs-stopped size writer text tree = refl
 
 -- One that belongs answers 22, whatever the buffer and the tree.
-exact-asleep : (cs : List Call) (s : State) (size : ℕ) (tree : Tree) → s .writer .live ≡ false
+from-tree-asleep : (cs : List Call) (s : State) (size : ℕ) (tree : Tree) → s .writer .live ≡ false
     → belongsIn s ≡ true → AnswersFromTree size true tree cs (answersOf s cs)
-exact-asleep [] s size tree h b = tt
-exact-asleep (c ∷ cs) s size tree h b = (
+from-tree-asleep [] s size tree h b = tt
+from-tree-asleep (c ∷ cs) s size tree h b = (
   ap (λ (t : Step). t .answer) (asleep-step s h c) ∙ ap (λ (x : Bool). refused (cond x (refusal 22) (refusal 24))) b,
-  rw (asleep-next s h c, asleep-step s h c) (exact-asleep cs s size tree h b),
+  rw (asleep-next s h c, asleep-step s h c) (from-tree-asleep cs s size tree h b),
 )
 
 -- One that does not belong answers 24.
@@ -222,24 +222,25 @@ sleeps-belong s t z b =
 
 -- ---- The calls.
 
-abbrev ExactFrom : List Call → Type 0
-ExactFrom cs = (s : State) (tree : Tree) → Invariant s tree → AnswersFromTree (length (s .buffer)) false tree cs (answersOf s cs)
+-- What is shown of a list of calls, from any state with the invariant.
+abbrev AnswersFrom : List Call → Type 0
+AnswersFrom cs = (s : State) (tree : Tree) → Invariant s tree → AnswersFromTree (length (s .buffer)) false tree cs (answersOf s cs)
 
-module _ (s : State) (tree : Tree) (g : Invariant s tree) (c : Call) (cs : List Call) (later : ExactFrom cs) where
+module _ (s : State) (tree : Tree) (g : Invariant s tree) (c : Call) (cs : List Call) (later : AnswersFrom cs) where
   abbrev AnswersAfter : Bool → Tree → Type 0
   AnswersAfter asleep after = AnswersFromTree (length (s .buffer)) asleep after cs (answersOf (afterCall s c) cs)
 
   by-step : Outcome s tree c → AnswersAfter (stops c (step s c .answer)) (applyCall tree c (isAccepted (step s c .answer)))
-  by-step (goesOn e good rest) =
+  by-step (goesOn e kept rest) =
       rw e
       (subst (λ (r : ℕ). AnswersFromTree r false (applyCall tree c (isAccepted (step s c .answer))) cs (answersOf (afterCall s c) cs))
-      (apply-length (s .buffer) (step s c .stores)) (later (afterCall s c) _ good))
+      (apply-length (s .buffer) (step s c .stores)) (later (afterCall s c) _ kept))
   by-step (ends e t z) =
-      rw (e, t) (exact-asleep cs (afterCall s c) (length (s .buffer)) tree (sleeps-asleep s c z) (sleeps-belong s (step s c) z (it-belongs s tree g)))
+      rw (e, t) (from-tree-asleep cs (afterCall s c) (length (s .buffer)) tree (sleeps-asleep s c z) (sleeps-belong s (step s c) z (it-belongs s tree g)))
 
-exact-run : (cs : List Call) → ExactFrom cs
-exact-run [] s tree g = tt
-exact-run (c ∷ cs) s tree g = (exact-step s tree g c, by-step s tree g c cs (exact-run cs) (outcome s tree g c))
+from-tree-run : (cs : List Call) → AnswersFrom cs
+from-tree-run [] s tree g = tt
+from-tree-run (c ∷ cs) s tree g = (from-tree-step s tree g c, by-step s tree g c cs (from-tree-run cs) (outcome s tree g c))
 
 -- ---- A whole run, by what its begin answers.
 
@@ -248,13 +249,13 @@ begin-belongs : (size : ℕ) (buffer form text tree : List ℕ) → length buffe
     → dataPlace ≤ size → writerBelongs (length buffer) (stopped (freshWriter size form)) text tree ≡ true
 begin-belongs size buffer form text tree n f x t few large =
     belongs-stopped (length buffer) (freshWriter size form) text tree
-    ∙ it-belongs (record { writer = freshWriter size form; text = text; tree = tree; buffer = buffer }) [] (empty-good size buffer form text tree n f x t few large)
+    ∙ it-belongs (record { writer = freshWriter size form; text = text; tree = tree; buffer = buffer }) [] (empty-invariant size buffer form text tree n f x t few large)
 
 module _ (run : Run) where
-  pub run-exact : {n : ℕ} → runBegin run .answer ≡ accepted n → AnswersFromTree (length (run .buffer)) false [] (run .calls) (runAnswers run)
-  run-exact h =
+  pub run-from-tree : {n : ℕ} → runBegin run .answer ≡ accepted n → AnswersFromTree (length (run .buffer)) false [] (run .calls) (runAnswers run)
+  run-from-tree h =
       subst (λ (r : ℕ). AnswersFromTree r false [] (run .calls) (runAnswers run)) (apply-length (run .buffer) (runBegin run .stores))
-      (exact-run (run .calls) (runStart run) [] (begin-good run h))
+      (from-tree-run (run .calls) (runStart run) [] (begin-invariant run h))
 
   module _ (t : RefusalCode) (h : runBegin run .answer ≡ refused t) where
     module _ (spent : eqb (t .number) 23 ≡ true) where
@@ -268,7 +269,7 @@ module _ (run : Run) where
           (apply-length (run .buffer) (take (t .place) beginStores)) (a .0) (a .1) (a .2) (a .3) (ltb-false (length (run .buffer)) dataPlace (clear .1 .0)))
 
       pub run-spent : AnswersFromTree (length (run .buffer)) true [] (run .calls) (runAnswers run)
-      run-spent = exact-asleep (run .calls) (runStart run) (length (run .buffer)) [] (asleep run t h) spent-belongs
+      run-spent = from-tree-asleep (run .calls) (runStart run) (length (run .buffer)) [] (asleep run t h) spent-belongs
 
     module _ (other : eqb (t .number) 23 ≡ false) where
       none-here : belongsIn (runStart run) ≡ false

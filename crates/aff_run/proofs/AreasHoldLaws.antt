@@ -22,9 +22,9 @@ use Rattle.aff_run.specs.TreeSizes.{namesOf, dataSize}
 use Rattle.aff_run.specs.AreasHold.{SlotOf, AreasHold}
 use Rattle.aff_run.specs.Run.{Call, State, Step, next, step, afterCall, answersOf, stateAfter, isAccepted, applyCall, treeAfter, Run, runBegin, runStart, runState, runTree}
 use Rattle.aff_run.proofs.InvariantLaws.{Invariant, Blank, ZerosAfter, count-same, storables, stored-in, text-after, tree-after}
-use Rattle.aff_run.proofs.BeginInvariantLaws.{begin-good, begin-after}
+use Rattle.aff_run.proofs.BeginInvariantLaws.{begin-invariant, begin-after}
 use Rattle.aff_run.proofs.SlotsLaws.{slotsOf, length-slotsOf, drop-slots, node-storable}
-use Rattle.aff_run.proofs.StepLaws.{asleep-described, asleep-after}
+use Rattle.aff_run.proofs.StepLaws.{asleep-tree, asleep-after}
 use Rattle.aff_run.proofs.RunLaws.{Sleeps, sleeps-asleep, Outcome, goesOn, ends, outcome}
 
 -- ---- A live writer.
@@ -77,8 +77,8 @@ module _ (s : State) (tree : Tree) (g : Invariant s tree) where
         let z : Blank (g .tree-rest) = rw (tree-after s tree g) at (b .tree-blank) in
         z ∙ ap (λ (k : ℕ). replicate k 0) n
 
-    good-held : AreasHold tree s
-    good-held =
+    invariant-areas : AreasHold tree s
+    invariant-areas =
         record {
           text = g .text-is ∙ ap (λ (l : List ℕ). textOf (namesOf tree) ++ l) text-zeros;
           text-long = g .text-area;
@@ -117,15 +117,15 @@ module _ (s : State) (tree : Tree) (g : Invariant s tree) (b : ZerosAfter s tree
   -- The same, after call c.
   by-step : Outcome s tree c
       → AreasHold (treeAfter (applyCall tree c (isAccepted (step s c .answer))) cs (answersOf (afterCall s c) cs)) (stateAfter (afterCall s c) cs)
-  by-step (goesOn e good rest) = later (afterCall s c) _ good (rest b)
+  by-step (goesOn e kept rest) = later (afterCall s c) _ kept (rest b)
   by-step (ends e t z) =
       let asleep = sleeps-asleep s c z in
-      rw (t, asleep-described (afterCall s c) asleep tree cs, asleep-after (afterCall s c) asleep cs)
-      (sleeps-held tree s (step s c) z (good-held s tree g b))
+      rw (t, asleep-tree (afterCall s c) asleep tree cs, asleep-after (afterCall s c) asleep cs)
+      (sleeps-held tree s (step s c) z (invariant-areas s tree g b))
 
 areas-from : (cs : List Call) → AreasFrom cs
-areas-from [] s tree g b = good-held s tree g b
+areas-from [] s tree g b = invariant-areas s tree g b
 areas-from (c ∷ cs) s tree g b = by-step s tree g b c cs (areas-from cs) (outcome s tree g c)
 
-pub run-held : (run : Run) {n : ℕ} → runBegin run .answer ≡ accepted n → AreasHold (runTree run) (runState run)
-run-held run h = areas-from (run .calls) (runStart run) [] (begin-good run h) (begin-after run h)
+pub run-areas : (run : Run) {n : ℕ} → runBegin run .answer ≡ accepted n → AreasHold (runTree run) (runState run)
+run-areas run h = areas-from (run .calls) (runStart run) [] (begin-invariant run h) (begin-after run h)

@@ -45,10 +45,10 @@ blank-zeros : (n : ℕ) → Blank (replicate n 0)
 blank-zeros n = ap (λ (k : ℕ). replicate k 0) (sym (length-replicate n 0))
 
 -- The record of an accepted begin, over any areas of the right lengths.
-pub empty-good : (size : ℕ) (buffer form text tree : List ℕ) → length buffer ≡ size → length form ≡ 12 → length text ≡ textArea → length tree ≡ treeArea → size ≤ imageLimit
+pub empty-invariant : (size : ℕ) (buffer form text tree : List ℕ) → length buffer ≡ size → length form ≡ 12 → length text ≡ textArea → length tree ≡ treeArea → size ≤ imageLimit
     → dataPlace ≤ size → Invariant (record { writer = freshWriter size form; text = text; tree = tree; buffer = buffer }) []
 unfolding namesFrom textOf slotsOf dataSize
-empty-good size buffer form text tree n f x t few large =
+empty-invariant size buffer form text tree n f x t few large =
     record {
       entries = [];
       text-rest = text;
@@ -86,13 +86,13 @@ module _ (run : Run) {n : ℕ} (h : runBegin run .answer ≡ accepted n) where
   unfolding beginStep beginAnswer
   reported = passed-value checks 1 h
 
-  pub begin-good : Invariant (runStart run) []
+  pub begin-invariant : Invariant (runStart run) []
   unfolding beginStep
-  begin-good =
+  begin-invariant =
       let a = lengths-right (run .buffer) (run .form) (run .text) (run .tree) (clear .0) in
       let buffer = applyStores (run .buffer) (take n beginStores) in
       rw h
-      (empty-good (length (run .buffer)) buffer (run .form) (replicate (length (run .text)) 0) (replicate (length (run .tree)) 0)
+      (empty-invariant (length (run .buffer)) buffer (run .form) (replicate (length (run .text)) 0) (replicate (length (run .tree)) 0)
       (apply-length (run .buffer) (take n beginStores)) (a .0) (length-replicate (length (run .text)) 0 ∙ a .1) (length-replicate (length (run .tree)) 0 ∙ a .2)
       (a .3) (ltb-false (length (run .buffer)) dataPlace (clear .1 .0)))
 

@@ -305,8 +305,8 @@ module _ (s : State) (tree : Tree) (g : Invariant s tree) where
   tree-after = rw (g .tree-is) (drop-at (slotsOf (g .entries)) (g .tree-rest) (25 * length tree) (length-slotsOf (g .entries) ∙ ap (λ (n : ℕ). 25 * n) count-same))
 
   -- The record belongs to what is passed.
-  pub good-belongs : WriterBelongs (length (s .buffer)) (s .writer) (s .text) (s .tree)
-  good-belongs =
+  pub invariant-belongs : WriterBelongs (length (s .buffer)) (s .writer) (s .text) (s .tree)
+  invariant-belongs =
       record {
         length-recorded = g .buffer-length;
         length-allowed = g .buffer-allowed;

@@ -232,8 +232,8 @@ module _ (s : State) (tree : Tree) (g : Invariant s tree) (parent : ℕ) (name :
   unfolding step applyStores
   left-is = rw (h, take-nil n)
 
-  pub made-good : Invariant (afterCall s (make parent name)) (withChild tree parent name)
-  made-good = rw left-is made-left
+  pub made-invariant : Invariant (afterCall s (make parent name)) (withChild tree parent name)
+  made-invariant = rw left-is made-left
 
   -- Zeros after stay zeros.
   left-after : ZerosAfter s tree → ZerosAfter left (withChild tree parent name)

@@ -264,8 +264,8 @@ module _ (s : State) (tree : Tree) (g : Invariant s tree) (node type : ℕ) (byt
       let p : putPlace (s .writer) ≡ dataPlace + dataSize tree = ap (λ (d : ℕ). dataPlace + d) (g .data-count) in
       rw (h, ← all, take-length, p, apply-spliced (dataPlace + dataSize tree) bytes (s .buffer) fits-buffer)
 
-  pub put-good : Invariant (afterCall s (put node type bytes allowance)) after
-  put-good = rw left-is put-left
+  pub put-invariant : Invariant (afterCall s (put node type bytes allowance)) after
+  put-invariant = rw left-is put-left
 
   -- Zeros after stay zeros.
   left-after : ZerosAfter s tree → ZerosAfter left after

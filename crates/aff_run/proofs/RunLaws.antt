@@ -1,4 +1,4 @@
--- A call in a good state leaves a good one, with the call applied to the tree, or it closes or stops the writer (`outcome`). So where a close is accepted among some calls,
+-- A call in a state with the invariant leaves one with it, with the call applied to the tree, or it closes or stops the writer (`outcome`). So where a close is accepted among some calls,
 -- the buffer after all their stores has whatever each closed buffer has. By induction on the calls, and for each call by its answer. Assumes nothing.
 use mathlib.Core.Path.{_≡_, refl, sym, ap, _∙_, subst}
 use mathlib.Core.Bool.{Bool, true, false, cond, _&&_, _||_, true≢false}
@@ -19,10 +19,10 @@ use Rattle.aff_write.specs.Put.{putStores}
 use Rattle.aff_run.specs.AnswersFromTree.{isSpent, stops}
 use Rattle.aff_run.specs.Run.{Call, make, put, close, State, Step, answerTo, needed, completed, step, afterCall, answersOf, storesOf, isAccepted, applyCall, treeAfter, isClose, closedBy}
 use Rattle.aff_run.proofs.InvariantLaws.{Invariant, ZerosAfter}
-use Rattle.aff_run.proofs.MakeInvariantLaws.{made-good, made-after}
-use Rattle.aff_run.proofs.PutInvariantLaws.{put-good, put-after}
+use Rattle.aff_run.proofs.MakeInvariantLaws.{made-invariant, made-after}
+use Rattle.aff_run.proofs.PutInvariantLaws.{put-invariant, put-after}
 use Rattle.aff_run.proofs.ClosedLaws.{closed, closed-buffer}
-use Rattle.aff_run.proofs.StepLaws.{accepted-clear, step-refused, asleep-stores, asleep-closed, asleep-described}
+use Rattle.aff_run.proofs.StepLaws.{accepted-clear, step-refused, asleep-stores, asleep-closed, asleep-tree}
 
 -- ---- What a call leaves of the record.
 
@@ -71,7 +71,7 @@ pub next-unchanged : (s : State) (c : Call) (t : RefusalCode) → eqb (t .number
 unfolding applyStores
 next-unchanged s c t e h = rw (step-refused s t e c h)
 
--- ---- A call in a good state.
+-- ---- A call in a state with the invariant.
 
 -- The writer goes on, with the call applied to the tree; or the call closes or stops it, and the tree stays.
 pub data Outcome (s : State) (tree : Tree) (c : Call) : Type 0 where
@@ -86,9 +86,9 @@ module _ (s : State) (tree : Tree) (g : Invariant s tree) where
 
   by-answer : (c : Call) (a : Answer ℕ) → step s c .answer ≡ a → Outcome s tree c
   by-answer c (refused t) h = by-number c t (eqb (t .number) 23) refl h
-  by-answer (make parent name) (accepted n) h = goesOn (rw h) (rw h (made-good s tree g parent name h)) (rw h (made-after s tree g parent name h))
+  by-answer (make parent name) (accepted n) h = goesOn (rw h) (rw h (made-invariant s tree g parent name h)) (rw h (made-after s tree g parent name h))
   by-answer (put node type bytes allowance) (accepted n) h =
-      goesOn (rw h) (rw h (put-good s tree g node type bytes allowance h)) (rw h (put-after s tree g node type bytes allowance h))
+      goesOn (rw h) (rw h (put-invariant s tree g node type bytes allowance h)) (rw h (put-after s tree g node type bytes allowance h))
   by-answer (close allowance) (accepted n) h = ends (rw h) (rw h) (close-sleeps s allowance h)
 
   pub outcome : (c : Call) → Outcome s tree c
@@ -121,12 +121,12 @@ module _ (P : List ℕ → List ℕ → Tree → Type 0) (closes : (s : State) (
         P (applyStores (s .buffer) (step s c .stores ++ storesOf (afterCall s c) cs)) (s .writer .form) (treeAfter after cs (answersOf (afterCall s c) cs))
 
     goes-on : (after : Tree) → Invariant (afterCall s c) after → closedBy cs (answersOf (afterCall s c) cs) ≡ true → HoldsAfter after
-    goes-on after good z =
+    goes-on after kept z =
         let n = afterCall s c in
         let all = applyStores (s .buffer) (step s c .stores ++ storesOf n cs) in
         let shown = treeAfter after cs (answersOf n cs) in
         subst (λ (f : List ℕ). P all f shown) (step-form s c)
-        (subst (λ (r : List ℕ). P r (n .writer .form) shown) (sym (apply-append (s .buffer) (step s c .stores) (storesOf n cs))) (later n after good z))
+        (subst (λ (r : List ℕ). P r (n .writer .form) shown) (sym (apply-append (s .buffer) (step s c .stores) (storesOf n cs))) (later n after kept z))
 
     -- What comes after an accepted close changes nothing.
     closes-buffer : Sleeps s (step s c) → (isAccepted (step s c .answer) && isClose c) ≡ true → HoldsAfter tree
@@ -134,7 +134,7 @@ module _ (P : List ℕ → List ℕ → Tree → Type 0) (closes : (s : State) (
         let asleep = sleeps-asleep s c z in
         rw (
           asleep-stores (afterCall s c) asleep cs,
-          asleep-described (afterCall s c) asleep tree cs,
+          asleep-tree (afterCall s c) asleep tree cs,
           append-nil,
           close-made s c (step s c .answer) refl a,
           ← closed-buffer s tree g,
@@ -143,8 +143,8 @@ module _ (P : List ℕ → List ℕ → Tree → Type 0) (closes : (s : State) (
 
     by-step : Outcome s tree c → ((isAccepted (step s c .answer) && isClose c) || closedBy cs (answersOf (afterCall s c) cs)) ≡ true
         → HoldsAfter (applyCall tree c (isAccepted (step s c .answer)))
-    by-step (goesOn e good rest) z =
-        let a = step s c .answer in goes-on (applyCall tree c (isAccepted a)) good (rw (or-false (isAccepted a && isClose c) (isSpent a) e .0) at z)
+    by-step (goesOn e kept rest) z =
+        let a = step s c .answer in goes-on (applyCall tree c (isAccepted a)) kept (rw (or-false (isAccepted a && isClose c) (isSpent a) e .0) at z)
     by-step (ends e t sleeps) z =
         rw t (closes-buffer sleeps (or-left _ _ (asleep-closed (afterCall s c) (sleeps-asleep s c sleeps) cs) z))
 

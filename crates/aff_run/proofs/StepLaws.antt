@@ -96,9 +96,9 @@ pub asleep-closed : (s : State) → s .writer .live ≡ false → (cs : List Cal
 asleep-closed s h [] = refl
 asleep-closed s h (c ∷ cs) = rw (asleep-next s h c, asleep-step s h c) (asleep-closed s h cs)
 
-pub asleep-described : (s : State) → s .writer .live ≡ false → (tree : Tree) (cs : List Call) → treeAfter tree cs (answersOf s cs) ≡ tree
-asleep-described s h tree [] = refl
-asleep-described s h tree (c ∷ cs) = rw (asleep-next s h c, asleep-step s h c) (asleep-described s h tree cs)
+pub asleep-tree : (s : State) → s .writer .live ≡ false → (tree : Tree) (cs : List Call) → treeAfter tree cs (answersOf s cs) ≡ tree
+asleep-tree s h tree [] = refl
+asleep-tree s h tree (c ∷ cs) = rw (asleep-next s h c, asleep-step s h c) (asleep-tree s h tree cs)
 
 pub asleep-after : (s : State) → s .writer .live ≡ false → (cs : List Call) → stateAfter s cs ≡ s
 asleep-after s h [] = refl

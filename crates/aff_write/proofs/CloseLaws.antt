@@ -184,12 +184,12 @@ module _ (buffer : List ℕ) (writer : Writer) (text tree : List ℕ) (allowance
       (judged-other (length buffer) writer text tree v reported q e)
       (judge-refuses (length buffer) writer text tree v reported more (length (closeStores buffer writer text tree)) q e)
 
-  pub judge-passes : (w : Writing) {image′ : List ℕ} → v ≡ Accepted
+  pub judge-passes : (w : Writing) {buffer′ : List ℕ} → v ≡ Accepted
       → (answerOfNumber (w .answer) ≡ firstWrong (storeChecks buffer writer text tree allowance) (length (closeStores buffer writer text tree)))
-      × ((w .writer ≡ stopped writer) × (image′ ≡ bufferAfter (answerOfNumber (w .answer)) (closeStores buffer writer text tree) buffer))
+      × ((w .writer ≡ stopped writer) × (buffer′ ≡ bufferAfter (answerOfNumber (w .answer)) (closeStores buffer writer text tree) buffer))
       → (answerOfNumber (w .answer) ≡ closeAnswer buffer writer text tree allowance)
       × ((w .writer ≡ writerAfter (answerOfNumber (w .answer)) (stopped writer) writer)
-      × (image′ ≡ bufferAfter (answerOfNumber (w .answer)) (closeStores buffer writer text tree) buffer))
+      × (buffer′ ≡ bufferAfter (answerOfNumber (w .answer)) (closeStores buffer writer text tree) buffer))
   unfolding closeAnswer
   judge-passes w e h = (
     h .0

@@ -34,15 +34,15 @@ take-long (suc k) [] h = (omega arith, refl)
 take-long {A} (suc k) (x ∷ l) h = let (a, b) = take-long k l (omega arith) in (omega arith, ap (λ (r : List A). x ∷ r) b)
 
 -- What a call promises of its answer, its record and the buffer.
-abbrev pub RefusalCode : List Check → List Store → Writer → Writer → List ℕ → List ℕ → Writing → Type 0
-RefusalCode checks stores next given buffer₀ buffer₁ w =
+abbrev pub WritingPromise : List Check → List Store → Writer → Writer → List ℕ → List ℕ → Writing → Type 0
+WritingPromise checks stores next given buffer₀ buffer₁ w =
     (answerOfNumber (w .answer) ≡ firstWrong checks (length stores))
     × ((w .writer ≡ writerAfter (answerOfNumber (w .answer)) next given) × (buffer₁ ≡ bufferAfter (answerOfNumber (w .answer)) stores buffer₀))
 
 -- A refusal other than 23 leaves record and buffer.
 pub reported-refused : (checks : List Check) (stores : List Store) (next given : Writer) (buffer : List ℕ) (q : Refusal) (w : Writing)
     → w ≡ record { answer = answered.Refused q; writer = given } → eqb (codeOfRefusal q .number) 23 ≡ false
-    → refused (codeOfRefusal q) ≡ firstWrong checks (length stores) → RefusalCode checks stores next given buffer buffer w
+    → refused (codeOfRefusal q) ≡ firstWrong checks (length stores) → WritingPromise checks stores next given buffer buffer w
 unfolding applyStores
 reported-refused checks stores next given buffer q w e o h = rw e (h, (rw o, rw o))
 
@@ -65,7 +65,7 @@ module _ (stores : List Store) (allowance made : ℕ) (buffer₀ buffer₁ : Lis
       r ∙ ap (λ (k : ℕ). applyStores buffer₀ (take k stores)) (sym (m ∙ b))
 
   pub reported-spent : (next given s : Writer) (w : Writing) → made < length stores → s ≡ stopped given
-      → w ≡ record { answer = answered.Refused (AllowanceSpent made); writer = s } → RefusalCode (spentCheck stores allowance) stores next given buffer₀ buffer₁ w
+      → w ≡ record { answer = answered.Refused (AllowanceSpent made); writer = s } → WritingPromise (spentCheck stores allowance) stores next given buffer₀ buffer₁ w
   reported-spent next given s w h t e = rw e (spent-answer h, (t, spent-buffer h))
 
   -- All were made.

@@ -12,7 +12,7 @@ struct Taken {
     state: State,
 }
 
-fn turn(state: State, buffer: &mut [u8], text: &mut [u8], tree: &mut [u8]) -> Taken {
+fn next_step(state: State, buffer: &mut [u8], text: &mut [u8], tree: &mut [u8]) -> Taken {
     let mut block = [0u8; 65536];
     let next = console::next_image(&mut block);
     if next.found {
@@ -39,7 +39,7 @@ fn script(buffer: &mut [u8], text: &mut [u8], tree: &mut [u8]) {
     };
     let mut k: usize = 0;
     while k < 100000 {
-        let next = turn(state, buffer, text, tree);
+        let next = next_step(state, buffer, text, tree);
         if !next.found {
             return;
         }

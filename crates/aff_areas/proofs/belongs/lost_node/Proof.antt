@@ -24,17 +24,17 @@ loop-holds c = (omega arith, rw sub-zero)
 returns : tie.Need-returns Inv-loop μ-loop
 returns c =
     let f = c .before .before in
-    let turn = f .before in
-    lowest-here _ _ _ 1 (turn .loop-test .taken) (node-judged _ _ _ _ (f .found-slot .ensures) (c .before .slot-lost .ensures) (c .if1 .taken))
-    ∙ turn .before .loop .inv .1
+    let iteration = f .before in
+    lowest-here _ _ _ 1 (iteration .loop-test .taken) (node-judged _ _ _ _ (f .found-slot .ensures) (c .before .slot-lost .ensures) (c .if1 .taken))
+    ∙ iteration .before .loop .inv .1
 
 loop-again : tie.Need-loop-again Inv-loop μ-loop
 loop-again c =
     let f = c .before .before in
-    let turn = f .before in (
+    let iteration = f .before in (
       omega arith,
-      lowest-on _ _ _ 1 (turn .loop-test .taken) (node-judged _ _ _ _ (f .found-slot .ensures) (c .before .slot-lost .ensures) (c .if1 .left))
-          ∙ turn .before .loop .inv .1,
+      lowest-on _ _ _ 1 (iteration .loop-test .taken) (node-judged _ _ _ _ (f .found-slot .ensures) (c .before .slot-lost .ensures) (c .if1 .left))
+          ∙ iteration .before .loop .inv .1,
     )
 
 returns-2 : tie.Need-returns-2 Inv-loop μ-loop

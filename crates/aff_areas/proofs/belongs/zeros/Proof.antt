@@ -42,10 +42,10 @@ loop-holds c = (omega arith, omega arith, omega arith)
 
 loop-again : tie.Need-loop-again Inv-loop μ-loop
 loop-again c =
-    let turn = c .before .before in
-    let lp = turn .before in
+    let iteration = c .before .before in
+    let lp = iteration .before in
     let l = lp .before .args .bytes .now in
-    let h = turn .loop-test .taken in
+    let h = iteration .loop-test .taken in
     let k = lp .loop .inv .2 in (
       omega arith,
       ⊎-elim (λ w. omega (arith, w .1)) (λ w. omega (arith, w .1)) (c .if1 .came),

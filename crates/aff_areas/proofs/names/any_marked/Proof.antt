@@ -22,13 +22,13 @@ loop-holds c = (omega arith, rw sub-zero)
 
 returns : tie.Need-returns Inv-loop μ-loop
 returns c =
-    let turn = c .before .before in
-    ap isAt (lowest-here _ _ _ 1 (turn .loop-test .taken) (sym (c .before .is-marked .ensures) ∙ c .if1 .taken) ∙ turn .before .loop .inv .1)
+    let iteration = c .before .before in
+    ap isAt (lowest-here _ _ _ 1 (iteration .loop-test .taken) (sym (c .before .is-marked .ensures) ∙ c .if1 .taken) ∙ iteration .before .loop .inv .1)
 
 loop-again : tie.Need-loop-again Inv-loop μ-loop
 loop-again c =
-    let turn = c .before .before in
-    (omega arith, lowest-on _ _ _ 1 (turn .loop-test .taken) (sym (c .before .is-marked .ensures) ∙ c .if1 .left) ∙ turn .before .loop .inv .1)
+    let iteration = c .before .before in
+    (omega arith, lowest-on _ _ _ 1 (iteration .loop-test .taken) (sym (c .before .is-marked .ensures) ∙ c .if1 .left) ∙ iteration .before .loop .inv .1)
 
 returns-2 : tie.Need-returns-2 Inv-loop μ-loop
 returns-2 c = ap isAt (lowest-end _ _ _ 1 (c .loop-test .left) ∙ c .before .loop .inv .1)

@@ -21,15 +21,15 @@ loop-holds c = (omega arith, zero-add _)
 
 returns : tie.Need-returns Inv-loop μ-loop
 returns c =
-    let turn = c .before .before in
-    let lp = turn .before in
-    sym (first-here _ _ _ (lp .before .pre) (turn .loop-test .taken) (c .if1 .taken)) ∙ lp .loop .inv .1
+    let iteration = c .before .before in
+    let lp = iteration .before in
+    sym (first-here _ _ _ (lp .before .pre) (iteration .loop-test .taken) (c .if1 .taken)) ∙ lp .loop .inv .1
 
 loop-again : tie.Need-loop-again Inv-loop μ-loop
 loop-again c =
-    let turn = c .before .before in
-    let lp = turn .before in
-    (omega arith, first-on _ _ _ (lp .before .pre) (turn .loop-test .taken) (c .if1 .left) ∙ lp .loop .inv .1)
+    let iteration = c .before .before in
+    let lp = iteration .before in
+    (omega arith, first-on _ _ _ (lp .before .pre) (iteration .loop-test .taken) (c .if1 .left) ∙ lp .loop .inv .1)
 
 returns-2 : tie.Need-returns-2 Inv-loop μ-loop
 returns-2 c = let lp = c .before in sym (first-end _ _ _ (lp .before .pre) (c .loop-test .left)) ∙ lp .loop .inv .1

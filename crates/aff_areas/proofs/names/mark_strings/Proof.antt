@@ -18,30 +18,30 @@ loop-holds c = mark-start _ _ _ (c .before .before .before .pre .0)
 
 slice-write-marks : tie.Need-slice-write-marks Inv-loop μ-loop
 slice-write-marks c =
-    let turn = c .before .before .before in
-    let lp = turn .before in
-    mark-buffer (lp .loop .inv) (turn .loop-test .taken) (c .before .before .name-end .ensures .0) (lp .before .before .before .before .pre .1)
+    let iteration = c .before .before .before in
+    let lp = iteration .before in
+    mark-buffer (lp .loop .inv) (iteration .loop-test .taken) (c .before .before .name-end .ensures .0) (lp .before .before .before .before .pre .1)
 
 add-i : tie.Need-add-i Inv-loop μ-loop
 add-i c =
-    let turn = c .before .before .before in
-    let lp = turn .before in
+    let iteration = c .before .before .before in
+    let lp = iteration .before in
     omega (
       arith,
-      mark-buffer (lp .loop .inv) (turn .loop-test .taken) (c .before .before .name-end .ensures .0) (lp .before .before .before .before .pre .1),
+      mark-buffer (lp .loop .inv) (iteration .loop-test .taken) (c .before .before .name-end .ensures .0) (lp .before .before .before .before .pre .1),
       lp .loop .inv .laid .long,
     )
 
 add-at : tie.Need-add-at Inv-loop μ-loop
 add-at c =
-    let turn = c .before .before .before in
-    omega (arith, mark-inside (turn .before .loop .inv) (turn .loop-test .taken) (c .before .before .name-end .ensures .0))
+    let iteration = c .before .before .before in
+    omega (arith, mark-inside (iteration .before .loop .inv) (iteration .loop-test .taken) (c .before .before .name-end .ensures .0))
 
 loop-again : tie.Need-loop-again Inv-loop μ-loop
 loop-again c =
-    let turn = c .before .before .before in
-    let lp = turn .before in
-    mark-next (lp .loop .inv) (turn .loop-test .taken) (c .before .before .name-end .ensures .0) (lp .before .before .before .before .pre .1) (c .mark .ensures)
+    let iteration = c .before .before .before in
+    let lp = iteration .before in
+    mark-next (lp .loop .inv) (iteration .loop-test .taken) (c .before .before .name-end .ensures .0) (lp .before .before .before .before .pre .1) (c .mark .ensures)
 
 same-length : tie.Need-same-length Inv-loop μ-loop
 same-length c = c .before .loop .inv .laid .long

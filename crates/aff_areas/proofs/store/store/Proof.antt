@@ -27,8 +27,8 @@ slice-write-buffer c = let lp = c .before .before .before in omega (arith, lp .b
 
 loop-again : tie.Need-loop-again Inv-loop μ-loop
 loop-again c =
-    let turn = c .before .before in
-    storing-next (turn .before .loop .inv) (turn .loop-test .taken) (c .before .if1 .left)
+    let iteration = c .before .before in
+    storing-next (iteration .before .loop .inv) (iteration .loop-test .taken) (c .before .if1 .left)
 
 same-length-2 : tie.Need-same-length-2 Inv-loop μ-loop
 same-length-2 c = c .before .loop .inv .sized

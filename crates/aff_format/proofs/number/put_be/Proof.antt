@@ -6,7 +6,7 @@ use mathlib.Core.Path.{_≡_, refl, sym, _∙_}
 use lib.ListN.{length, length-set}
 use Rattle.aff_format.specs.Bytes.{spliced}
 use Rattle.aff_format.specs.Number.{beBytes}
-use Rattle.aff_format.proofs.NumberLaws.{put-turn, put-done}
+use Rattle.aff_format.proofs.NumberLaws.{put-next, put-done}
 use Rattle.aff_format.proofs.number.put_be.Statement.{statement}
 use Rattle.aff_format.proofs.number.put_be.Tie as tie
 
@@ -24,8 +24,8 @@ loop-again : tie.Need-loop-again Inv-loop μ-loop
 loop-again c =
     let l = c .before .loop in
     let a = c .before .before .args in
-    let turn = put-turn (a .at) (l .left) (l .rest) (l .out) (c .loop-test .taken) (omega (arith, c .before .before .pre)) in
-    (omega arith, simp length-set (l .inv .1), turn ∙ l .inv .2)
+    let iteration = put-next (a .at) (l .left) (l .rest) (l .out) (c .loop-test .taken) (omega (arith, c .before .before .pre)) in
+    (omega arith, simp length-set (l .inv .1), iteration ∙ l .inv .2)
 
 same-length : tie.Need-same-length Inv-loop μ-loop
 same-length c = c .before .loop .inv .1

@@ -20,15 +20,15 @@ loop-holds c = (omega arith, omega arith, refl)
 
 returns : tie.Need-returns Inv-loop μ-loop
 returns c =
-    let turn = c .before .before in
-    let lp = turn .before in
-    (sym (ends-here _ _ _ (turn .loop-test .taken) (lp .before .pre .1) (c .if1 .taken)) ∙ lp .loop .inv .2, omega arith, omega arith)
+    let iteration = c .before .before in
+    let lp = iteration .before in
+    (sym (ends-here _ _ _ (iteration .loop-test .taken) (lp .before .pre .1) (c .if1 .taken)) ∙ lp .loop .inv .2, omega arith, omega arith)
 
 loop-again : tie.Need-loop-again Inv-loop μ-loop
 loop-again c =
-    let turn = c .before .before in
-    let lp = turn .before in
-    (omega arith, omega arith, ends-on _ _ _ (turn .loop-test .taken) (lp .before .pre .1) (c .if1 .left) ∙ lp .loop .inv .2)
+    let iteration = c .before .before in
+    let lp = iteration .before in
+    (omega arith, omega arith, ends-on _ _ _ (iteration .loop-test .taken) (lp .before .pre .1) (c .if1 .left) ∙ lp .loop .inv .2)
 
 returns-2 : tie.Need-returns-2 Inv-loop μ-loop
 returns-2 c = (sym (ends-past _ _ _ (c .loop-test .left)) ∙ c .before .loop .inv .2, omega arith, omega arith)

@@ -1,4 +1,4 @@
--- `fill` meets its contract: `Filling` holds at each turn.
+-- `fill` meets its contract: `Filling` holds at each iteration.
 use borrow.Author.Needs.{needs}
 use mathlib.Core.Path.{_≡_}
 use Prim.Native.Nat.{_+_, _-_, _≤_}

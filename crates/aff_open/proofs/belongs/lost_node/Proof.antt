@@ -31,10 +31,10 @@ loop-holds c = (omega arith, refl, rw sub-zero, record { parent = λ k l h. absu
 returns : tie.Need-returns Inv-loop μ-loop
 returns c =
     let e = c .before .before .before in
-    let turn = e .before .before .before in (
-      lowest-here _ _ _ 1 (turn .loop-test .taken)
+    let iteration = e .before .before .before in (
+      lowest-here _ _ _ 1 (iteration .loop-test .taken)
           (node-whole _ _ _ (e .before .before .found-entry .ensures) _ _ (e .entry .given .0 .0) (e .entry .given .1) (c .before .entry-lost .ensures) (c .if1 .taken))
-          ∙ turn .before .loop .inv .2,
+          ∙ iteration .before .loop .inv .2,
       λ q. absurd (let z : _≡_ {A = ℕ} 0 1 = cc in omega arith),
     )
 
@@ -47,8 +47,8 @@ cast-parents c =
 loop-again : tie.Need-loop-again Inv-loop μ-loop
 loop-again c =
     let e = c .before .before .before .before in
-    let turn = e .before .before .before in
-    let lp = turn .before in
+    let iteration = e .before .before .before in
+    let lp = iteration .before in
     let z = lp .before .before .before .before .args in
     let inv = lp .loop .inv in
     let found = e .before .before .found-entry .ensures in
@@ -56,15 +56,15 @@ loop-again c =
     let p = found-parent (z .image .now) (z .entries .now) (lp .loop .k + 1) found (omega arith) (is .0 .0) (is .1) in (
       omega arith,
       simp length-set (inv .1),
-      lowest-on _ _ _ 1 (turn .loop-test .taken) (node-whole _ _ _ found _ _ (is .0 .0) (is .1) (c .before .before .entry-lost .ensures) (c .before .if1 .left)) ∙ inv .2,
+      lowest-on _ _ _ 1 (iteration .loop-test .taken) (node-whole _ _ _ found _ _ (is .0 .0) (is .1) (c .before .before .entry-lost .ensures) (c .before .if1 .left)) ∙ inv .2,
       copied-more (inv .3) (omega (arith, inv .1)) p,
     )
 
 returns-2 : tie.Need-returns-2 Inv-loop μ-loop
 returns-2 c =
-    let turn = c .before .before .before in (
-      lowest-here _ _ _ 1 (turn .loop-test .taken) (node-broken _ _ _ (c .before .before .found-entry .ensures) _ _ (c .enum-told .given .1))
-          ∙ turn .before .loop .inv .2,
+    let iteration = c .before .before .before in (
+      lowest-here _ _ _ 1 (iteration .loop-test .taken) (node-broken _ _ _ (c .before .before .found-entry .ensures) _ _ (c .enum-told .given .1))
+          ∙ iteration .before .loop .inv .2,
       λ q. absurd (let z : _≡_ {A = ℕ} 0 1 = cc in omega arith),
     )
 

@@ -33,8 +33,8 @@ trail-requires c κs =
 returns : tie.Need-returns Inv-loop μ-loop
 returns c =
     let t = c .before .before in
-    let turn = t .before .before in
-    next-endless (turn .before .loop .inv .1) (turn .loop-test .taken) (t .trail .ensures) (not-true _ (c .if1 .taken))
+    let iteration = t .before .before in
+    next-endless (iteration .before .loop .inv .1) (iteration .loop-test .taken) (t .trail .ensures) (not-true _ (c .if1 .taken))
 
 loop-less : tie.Need-loop-less Inv-loop μ-loop
 loop-less c = omega arith
@@ -42,9 +42,9 @@ loop-less c = omega arith
 loop-again : tie.Need-loop-again Inv-loop μ-loop
 loop-again c =
     let t = c .before .before in
-    let turn = t .before .before in
-    let inv = turn .before .loop .inv in
-    (omega (arith, t .trail .kept, inv .0), next-passed (inv .1) (turn .loop-test .taken) (t .trail .ensures) (not-false _ (c .if1 .left)))
+    let iteration = t .before .before in
+    let inv = iteration .before .loop .inv in
+    (omega (arith, t .trail .kept, inv .0), next-passed (inv .1) (iteration .loop-test .taken) (t .trail .ensures) (not-false _ (c .if1 .left)))
 
 returns-2 : tie.Need-returns-2 Inv-loop μ-loop
 returns-2 c = all-passed (c .before .loop .inv .1) (c .loop-test .left)

@@ -32,8 +32,8 @@ loop-less c =
 loop-again : tie.Need-loop-again Inv-loop μ-loop
 loop-again c =
     let t = c .before .before in
-    let turn = t .before .before .before .before in
-    on-step (turn .before .loop .inv) _ (turn .loop-test .taken) (sym (t .before .before .index .ensures) ∙ t .if2 .left) (c .index2 .ensures)
+    let iteration = t .before .before .before .before in
+    on-step (iteration .before .loop .inv) _ (iteration .loop-test .taken) (sym (t .before .before .index .ensures) ∙ t .if2 .left) (c .index2 .ensures)
 
 returns-3 : tie.Need-returns-3 Inv-loop μ-loop
 returns-3 c = at-root (c .before .loop .inv) (c .loop-test .left)

@@ -29,18 +29,18 @@ is-outside-requires c κs = omega (arith, c .before .before .before .before .bef
 returns : tie.Need-returns Inv-loop μ-loop
 returns c =
     let t = c .before in
-    let turn = t .before .before in
-    let z = turn .before .before .before .before .args in
+    let iteration = t .before .before in
+    let z = iteration .before .before .before .before .args in
     let e = sym (t .is-outside .ensures ∙ ap (outside (z .from) (z .size)) (t .before .recorded-entry .ensures)) in
-    lowest-here _ _ _ 1 (turn .loop-test .taken) (e ∙ c .if1 .taken) ∙ turn .before .loop .inv .1
+    lowest-here _ _ _ 1 (iteration .loop-test .taken) (e ∙ c .if1 .taken) ∙ iteration .before .loop .inv .1
 
 loop-again : tie.Need-loop-again Inv-loop μ-loop
 loop-again c =
     let t = c .before in
-    let turn = t .before .before in
-    let z = turn .before .before .before .before .args in
+    let iteration = t .before .before in
+    let z = iteration .before .before .before .before .args in
     let e = sym (t .is-outside .ensures ∙ ap (outside (z .from) (z .size)) (t .before .recorded-entry .ensures)) in
-    (omega arith, lowest-on _ _ _ 1 (turn .loop-test .taken) (e ∙ c .if1 .left) ∙ turn .before .loop .inv .1)
+    (omega arith, lowest-on _ _ _ 1 (iteration .loop-test .taken) (e ∙ c .if1 .left) ∙ iteration .before .loop .inv .1)
 
 returns-2 : tie.Need-returns-2 Inv-loop μ-loop
 returns-2 c = lowest-end _ _ _ 1 (c .loop-test .left) ∙ c .before .loop .inv .1

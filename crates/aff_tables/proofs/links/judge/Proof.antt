@@ -19,15 +19,15 @@ loop-holds c = (refl, λ k h. absurd (omega arith))
 
 judged-requires : tie.Need-judged-requires Inv-loop μ-loop
 judged-requires c κs =
-    let turn = c .before in
-    let p = turn .before .before .before .before .before .pre .0 in
-    (rw (c .place .ensures) (p .begins _ (turn .loop-test .taken)), p .inside)
+    let iteration = c .before in
+    let p = iteration .before .before .before .before .before .pre .0 in
+    (rw (c .place .ensures) (p .begins _ (iteration .loop-test .taken)), p .inside)
 
 loop-again : tie.Need-loop-again Inv-loop μ-loop
 loop-again c =
-    let turn = c .before .before in
-    let lp = turn .before .loop in
-    let places = turn .before .before .before .before .before .args .places .now in
+    let iteration = c .before .before in
+    let lp = iteration .before .loop in
+    let places = iteration .before .before .before .before .before .args .places .now in
     let h : lp .i < length (lp .sound) = omega arith in
     (simp length-set (lp .inv .0), judged-more _ _ _ places _ (lp .sound) _ _ h (lp .inv .1) (c .before .place .ensures) (c .judged .ensures))
 

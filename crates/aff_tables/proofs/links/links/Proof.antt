@@ -34,12 +34,12 @@ link-bad-requires c κs = omega arith
 returns : tie.Need-returns Inv-loop μ-loop
 returns c =
     let t = c .before in
-    let turn = t .before .before in
-    let inv = turn .before .loop .inv in
-    let s = turn .before .before .before .before .before .before .before in
+    let iteration = t .before .before in
+    let inv = iteration .before .loop .inv in
+    let s = iteration .before .before .before .before .before .before .before in
     let bad = linkBad (s .args .nodes) (s .args .strings) (s .args .sound .now) in
     let e = sym (t .link-bad .ensures ∙ ap bad (t .before .recorded-entry .ensures)) in
-    (lowest-here _ _ _ 1 (turn .loop-test .taken) (e ∙ c .if1 .taken) ∙ inv .4, λ q. let z : _≡_ {A = ℕ} 0 1 = cc in absurd (omega arith))
+    (lowest-here _ _ _ 1 (iteration .loop-test .taken) (e ∙ c .if1 .taken) ∙ inv .4, λ q. let z : _≡_ {A = ℕ} 0 1 = cc in absurd (omega arith))
 
 cast-parents : tie.Need-cast-parents Inv-loop μ-loop
 cast-parents c =
@@ -52,9 +52,9 @@ cast-parents c =
 loop-again : tie.Need-loop-again Inv-loop μ-loop
 loop-again c =
     let t = c .before .before in
-    let turn = t .before .before in
-    let lp = turn .before .loop in
-    let s = turn .before .before .before .before .before .before .before in
+    let iteration = t .before .before in
+    let lp = iteration .before .loop in
+    let s = iteration .before .before .before .before .before .before .before in
     let bad = linkBad (s .args .nodes) (s .args .strings) (s .args .sound .now) in
     let e = sym (t .link-bad .ensures ∙ ap bad (t .before .recorded-entry .ensures)) in
     let p : lp .k + 1 < length (lp .parents) = omega (arith, s .pre .2) in
@@ -63,7 +63,7 @@ loop-again c =
       simp length-set (lp .inv .1),
       simp length-set (lp .inv .2),
       copied-more _ (lp .parents) (lp .names) _ p n (lp .inv .3) _ (t .before .recorded-entry .ensures),
-      lowest-on _ _ _ 1 (turn .loop-test .taken) (e ∙ c .before .if1 .left) ∙ lp .inv .4,
+      lowest-on _ _ _ 1 (iteration .loop-test .taken) (e ∙ c .before .if1 .left) ∙ lp .inv .4,
     )
 
 returns-2 : tie.Need-returns-2 Inv-loop μ-loop

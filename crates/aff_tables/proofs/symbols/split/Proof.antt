@@ -1,4 +1,4 @@
--- `split` meets its contract: each turn and each end is one law of the walk `Splitting`. Assumes nothing.
+-- `split` meets its contract: each iteration and each end is one law of the walk `Splitting`. Assumes nothing.
 use borrow.Author.Needs.{needs}
 use Prim.Native.Nat.{_-_}
 use native.Mathlib.Omega.{arith}

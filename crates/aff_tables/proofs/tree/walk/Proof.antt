@@ -1,4 +1,4 @@
--- `walk` meets its contract: each turn and each end is one law of the walk `Walking`. Assumes nothing.
+-- `walk` meets its contract: each iteration and each end is one law of the walk `Walking`. Assumes nothing.
 use borrow.Author.Needs.{needs}
 use mathlib.Core.Logic.{⊎-elim}
 use Prim.Native.Nat.{_-_}

@@ -22,10 +22,10 @@ use Rattle.aff_write.proofs.beginning.begin.Tie as tie
 module _ (buffer form text tree : List ℕ) (allowance : ℕ) where
   -- What is promised of an answer and of buffer and areas after it.
   abbrev Promised : Writing → List ℕ → List ℕ → List ℕ → Type 0
-  Promised r image' text' tree' =
+  Promised r buffer' text' tree' =
       (answerOfNumber (r .answer) ≡ beginAnswer buffer form text tree allowance)
       × ((r .writer ≡ beginWriter (answerOfNumber (r .answer)) (length buffer) form)
-      × ((image' ≡ bufferAfter (answerOfNumber (r .answer)) beginStores buffer)
+      × ((buffer' ≡ bufferAfter (answerOfNumber (r .answer)) beginStores buffer)
       × ((text' ≡ beginArea (answerOfNumber (r .answer)) text)
       × (tree' ≡ beginArea (answerOfNumber (r .answer)) tree))))
 
