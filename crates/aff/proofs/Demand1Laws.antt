@@ -139,14 +139,14 @@ module _ (buffer : List ℕ) (w : Writer) (text tree : List ℕ) where
 -- ---- What a run's answers say of 24 and 22.
 
 -- The checks of a call of a run report neither.
-from-tree-others : (size : ℕ) (tree : Tree) (c : Call) → Others 22 (callChecks size tree c) × Others 24 (callChecks size tree c)
-from-tree-others size tree (make parent name) = (refl, refl)
-from-tree-others size tree (put node type bytes allowance) = (refl, refl)
-from-tree-others size tree (close allowance) = (refl, refl)
+call-others : (size : ℕ) (tree : Tree) (c : Call) → Others 22 (callChecks size tree c) × Others 24 (callChecks size tree c)
+call-others size tree (make parent name) = (refl, refl)
+call-others size tree (put node type bytes allowance) = (refl, refl)
+call-others size tree (close allowance) = (refl, refl)
 
-from-tree-not : (size : ℕ) (tree : Tree) (c : Call) → NotBy 22 (callAnswer size tree c) × NotBy 24 (callAnswer size tree c)
-from-tree-not size tree c =
-    let (o, p) = from-tree-others size tree c in
+call-never : (size : ℕ) (tree : Tree) (c : Call) → NotBy 22 (callAnswer size tree c) × NotBy 24 (callAnswer size tree c)
+call-never size tree c =
+    let (o, p) = call-others size tree c in
     (others-not 22 (callChecks size tree c) (callValue size tree c) o, others-not 24 (callChecks size tree c) (callValue size tree c) p)
 
 -- One answer.
@@ -157,17 +157,17 @@ answer-numbers true size tree c a h = (
   (λ _. refl, λ _. h),
 )
 answer-numbers false size tree c a h = (
-  λ t g e. from-tree-not size tree c .1 t (sym h ∙ g) e,
-  (λ g. absurd (from-tree-not size tree c .0 (refusal 22) (sym h ∙ g) refl), λ g. absurd (true≢false (sym g))),
+  λ t g e. call-never size tree c .1 t (sym h ∙ g) e,
+  (λ g. absurd (call-never size tree c .0 (refusal 22) (sym h ∙ g) refl), λ g. absurd (true≢false (sym g))),
 )
 
-from-tree-numbered : (cs : List Call) (answers : List (Answer ℕ)) (size : ℕ) (stopped : Bool) (tree : Tree) → AnswersFromTree size stopped tree cs answers
+answers-numbered : (cs : List Call) (answers : List (Answer ℕ)) (size : ℕ) (stopped : Bool) (tree : Tree) → AnswersFromTree size stopped tree cs answers
     → Numbered stopped cs answers
-from-tree-numbered [] answers size stopped tree x = tt
-from-tree-numbered (c ∷ cs) [] size stopped tree x = x
-from-tree-numbered (c ∷ cs) (a ∷ answers) size stopped tree x =
+answers-numbered [] answers size stopped tree x = tt
+answers-numbered (c ∷ cs) [] size stopped tree x = x
+answers-numbered (c ∷ cs) (a ∷ answers) size stopped tree x =
     let (not, only) = answer-numbers stopped size tree c a (x .0) in
-    (not, only, from-tree-numbered cs answers size (stopped || stops c a) (applyCall tree c (isAccepted a)) (x .1))
+    (not, only, answers-numbered cs answers size (stopped || stops c a) (applyCall tree c (isAccepted a)) (x .1))
 
 -- ---- Stores reported.
 
@@ -200,7 +200,7 @@ demand1 =
       run = run-from-tree;
       spent-run = λ run h e. run-spent run _ h (eq-eqb _ 23 e);
       refused-run = λ run h e. run-refused run _ h (ne-eqb _ 23 e);
-      exact-numbers = λ buffer stopped tree calls answers. from-tree-numbered calls answers buffer stopped tree;
+      run-numbers = λ buffer stopped tree calls answers. answers-numbered calls answers buffer stopped tree;
       begin-reports = begin-reports;
       reports = reports-made;
       areas = run-areas;

@@ -55,14 +55,14 @@ expected size asleep tree (c ∷ cs) =
     let a = cond asleep (refused (refusal 22)) (callAnswer size tree c) in
     a ∷ expected size (asleep || stops c a) (applyCall tree c (isAccepted a)) cs
 
-from-tree-is : (cs : List Call) (size : ℕ) (asleep : Bool) (tree : Tree) (answers : List (Answer ℕ)) → length answers ≡ length cs → AnswersFromTree size asleep tree cs answers
+answers-expected : (cs : List Call) (size : ℕ) (asleep : Bool) (tree : Tree) (answers : List (Answer ℕ)) → length answers ≡ length cs → AnswersFromTree size asleep tree cs answers
     → answers ≡ expected size asleep tree cs
-from-tree-is [] size asleep tree [] n h = refl
-from-tree-is [] size asleep tree (a ∷ answers) n h = absurd (omega arith)
-from-tree-is (c ∷ cs) size asleep tree [] n h = absurd h
-from-tree-is (c ∷ cs) size asleep tree (a ∷ answers) n h =
+answers-expected [] size asleep tree [] n h = refl
+answers-expected [] size asleep tree (a ∷ answers) n h = absurd (omega arith)
+answers-expected (c ∷ cs) size asleep tree [] n h = absurd h
+answers-expected (c ∷ cs) size asleep tree (a ∷ answers) n h =
     ap₂ (λ (x : Answer ℕ) (xs : List (Answer ℕ)). x ∷ xs) (h .0)
-    (from-tree-is cs size (asleep || stops c a) (applyCall tree c (isAccepted a)) answers (omega arith) (h .1)
+    (answers-expected cs size (asleep || stops c a) (applyCall tree c (isAccepted a)) answers (omega arith) (h .1)
     ∙ ap (λ (x : Answer ℕ). expected size (asleep || stops c x) (applyCall tree c (isAccepted x)) cs) (h .0))
 
 expected-214 : (puts closes : ℕ) → 4 ≤ puts → 210 ≤ closes
@@ -191,7 +191,7 @@ module _ (buffer text tree : List ℕ) (begins puts closes : ℕ) (x : length te
   -- The answers are those expected in a buffer of that size.
   answers-are : (size : ℕ) → length buffer ≡ size → 168 ≤ size → size ≤ imageLimit → runAnswers run ≡ expected size false [] (run .calls)
   answers-are size r lo hi =
-      from-tree-is (run .calls) (length buffer) false [] (runAnswers run) refl (run-from-tree run (begin-accepted (omega arith) (omega arith)))
+      answers-expected (run .calls) (length buffer) false [] (runAnswers run) refl (run-from-tree run (begin-accepted (omega arith) (omega arith)))
       ∙ ap (λ (n : ℕ). expected n false [] (run .calls)) r
 
 -- Demand 3 of a run with a close accepted: the buffer after all its stores shows the tree described.

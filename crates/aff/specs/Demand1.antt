@@ -122,7 +122,7 @@ pub record Demand1 : Type 0 where
   pub refused-run : (run : Run) {t : RefusalCode} → runBegin run .answer ≡ refused t → (t .number ≡ 23 → ⊥)
       → AllWrongRecord (runAnswers run) × (runStores run ≡ [])
   -- What `AnswersFromTree` says of 24 and 22.
-  pub exact-numbers : (size : ℕ) (stopped : Bool) (tree : Tree) (calls : List Call) (answers : List (Answer ℕ))
+  pub run-numbers : (size : ℕ) (stopped : Bool) (tree : Tree) (calls : List Call) (answers : List (Answer ℕ))
       → AnswersFromTree size stopped tree calls answers → Numbered stopped calls answers
   -- No answer reports more stores than its call needs, and none are reported but where a call is accepted or answers 23. (By definition the stores of
   -- `beginStep` and `step` are the first of those needed, as many as the answer reports. That an accepted call reports all of them and a 23 the allowance is

@@ -13,7 +13,8 @@ use Rattle.aff_format.specs.Kind.{elementSize, isVoid}
 use Rattle.aff_format.specs.Limits.{imageLimit, stringLimit, nodeLimit, textArea, treeArea}
 use Rattle.aff_format.specs.Lowest.{lowestFrom, noneFrom}
 use Rattle.aff_format.specs.Refusal.{codeOfRefusal}
-use Rattle.aff_format.specs.Strings.{endsInZero, zerosIn}
+use Rattle.aff_format.specs.Strings.{endsInZero}
+use Rattle.aff_format.specs.passes.Counts.{zerosIn}
 use Rattle.aff_format.specs.Verdict.{answerOfVerdict}
 use Rattle.aff_format.specs.declared.entry.Entry.{Entry}
 use Rattle.aff_format.specs.declared.entry.FoundEntry.{FoundEntry}

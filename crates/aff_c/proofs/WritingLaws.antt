@@ -18,7 +18,7 @@ use Rattle.aff_write.specs.Close.{closeStores, closeAnswer}
 use Rattle.aff_write.specs.Make.{madeWriter, madeText, madeTree, makeAnswer}
 use Rattle.aff_write.specs.Put.{putStores, putWriter, putTree, putAnswer}
 use Rattle.aff_c.specs.Reading.{numberBy}
-use Rattle.aff_c.specs.Writing.{writerIn, numbersBy, reportedNumber, numbersRefused, numbersLeft, beginReturned, begunRecord, makeReturned, numbersMade, textMade, treeMade, putReturned, numbersPut, bufferPut, treePut, closeReturned, numbersClosed, bufferClosed}
+use Rattle.aff_c.specs.Writing.{writerIn, numbersBy, reportedNumber, numbersRefused, numbersLeft, beginReturned, beginRecord, makeReturned, numbersMade, textMade, treeMade, putReturned, numbersPut, bufferPut, treePut, closeReturned, numbersClosed, bufferClosed}
 
 either : (b : Bool) (place : ℕ) (halted given : Writer) (kept : List ℕ)
     → cond b (numbersBy place (cond b halted given)) kept ≡ cond b (numbersBy place halted) kept
@@ -41,17 +41,17 @@ module _ (numbers : List ℕ) (t : RefusalCode) (w : Writer) (n p : ℕ) (number
 
 module _ (buffer form text tree : List ℕ) (allowance : ℕ) (done : Writing) (r : ℕ) (l : List ℕ)
     (number : r ≡ numberBy (answerOfNumber (done .answer))) (numbers : l ≡ numbersBy (reportedNumber (answerOfNumber (done .answer))) (done .writer)) where
-  pub begun-left : (o x y : List ℕ)
+  pub begin-left : (o x y : List ℕ)
       → (answerOfNumber (done .answer) ≡ beginAnswer buffer form text tree allowance)
       × ((done .writer ≡ beginWriter (answerOfNumber (done .answer)) (length buffer) form)
       × ((o ≡ bufferAfter (answerOfNumber (done .answer)) beginStores buffer)
       × ((x ≡ beginArea (answerOfNumber (done .answer)) text) × (y ≡ beginArea (answerOfNumber (done .answer)) tree))))
       → (r ≡ numberBy (beginReturned buffer form text tree allowance))
-      × ((l ≡ numbersBy (reportedNumber (beginReturned buffer form text tree allowance)) (begunRecord buffer form text tree allowance))
-      × ((done .writer .form ≡ begunRecord buffer form text tree allowance .form)
+      × ((l ≡ numbersBy (reportedNumber (beginReturned buffer form text tree allowance)) (beginRecord buffer form text tree allowance))
+      × ((done .writer .form ≡ beginRecord buffer form text tree allowance .form)
       × ((o ≡ bufferAfter (beginReturned buffer form text tree allowance) beginStores buffer)
       × ((x ≡ beginArea (beginReturned buffer form text tree allowance) text) × (y ≡ beginArea (beginReturned buffer form text tree allowance) tree)))))
-  begun-left o x y h = (
+  begin-left o x y h = (
     rw (number, h .0),
     (
       rw (numbers, h .1 .0, h .0),

@@ -50,8 +50,8 @@ module _ (buffer form text tree : List ℕ) (allowance : ℕ) where
   abbrev pub beginReturned : Answer ℕ
   beginReturned = beginAnswer buffer form text tree allowance
 
-  abbrev pub begunRecord : Writer
-  begunRecord = beginWriter beginReturned (length buffer) form
+  abbrev pub beginRecord : Writer
+  beginRecord = beginWriter beginReturned (length buffer) form
 
 module _ (buffer numbers kept text tree : List ℕ) where
   abbrev pub given : Writer

@@ -13,7 +13,7 @@ ghost use Rattle.aff_format.specs.Verdict.{answerOfNumber};
 ghost use Rattle.aff_areas.specs.Stores.{bufferAfter};
 ghost use Rattle.aff_write.specs.Begin.{beginStores, beginArea};
 ghost use Rattle.aff_c.specs.Reading.{numberBy};
-ghost use Rattle.aff_c.specs.Writing.{writerIn, numbersBy, reportedNumber, numbersRefused, numbersLeft, beginReturned, begunRecord, makeReturned, numbersMade, textMade, treeMade, putReturned, numbersPut, bufferPut, treePut, closeReturned, numbersClosed, bufferClosed};
+ghost use Rattle.aff_c.specs.Writing.{writerIn, numbersBy, reportedNumber, numbersRefused, numbersLeft, beginReturned, beginRecord, makeReturned, numbersMade, textMade, treeMade, putReturned, numbersPut, bufferPut, treePut, closeReturned, numbersClosed, bufferClosed};
 
 fn writer_of(numbers: &[u64; 7], kept: &[u8; 12]) -> Writer
     ensures { λ r. ⌜ r ≡ writerIn (now (numbers .entry)) (now (kept .entry)) ⌝ }
@@ -122,8 +122,8 @@ pub extern "C" fn aff_begin(
     kept: &mut [u8; 12],
 ) -> u32
     ensures number { λ r. ⌜ r ≡ numberBy (beginReturned (now (buffer .entry)) (now (form .entry)) (now (text .entry)) (now (tree .entry)) allowance) ⌝ }
-    ensures numbers { λ _. ⌜ now (numbers .exit) ≡ numbersBy (reportedNumber (beginReturned (now (buffer .entry)) (now (form .entry)) (now (text .entry)) (now (tree .entry)) allowance)) (begunRecord (now (buffer .entry)) (now (form .entry)) (now (text .entry)) (now (tree .entry)) allowance) ⌝ }
-    ensures kept { λ _. ⌜ now (kept .exit) ≡ begunRecord (now (buffer .entry)) (now (form .entry)) (now (text .entry)) (now (tree .entry)) allowance .form ⌝ }
+    ensures numbers { λ _. ⌜ now (numbers .exit) ≡ numbersBy (reportedNumber (beginReturned (now (buffer .entry)) (now (form .entry)) (now (text .entry)) (now (tree .entry)) allowance)) (beginRecord (now (buffer .entry)) (now (form .entry)) (now (text .entry)) (now (tree .entry)) allowance) ⌝ }
+    ensures kept { λ _. ⌜ now (kept .exit) ≡ beginRecord (now (buffer .entry)) (now (form .entry)) (now (text .entry)) (now (tree .entry)) allowance .form ⌝ }
     ensures buffer { λ _. ⌜ now (buffer .exit) ≡ bufferAfter (beginReturned (now (buffer .entry)) (now (form .entry)) (now (text .entry)) (now (tree .entry)) allowance) beginStores (now (buffer .entry)) ⌝ }
     ensures text { λ _. ⌜ now (text .exit) ≡ beginArea (beginReturned (now (buffer .entry)) (now (form .entry)) (now (text .entry)) (now (tree .entry)) allowance) (now (text .entry)) ⌝ }
     ensures tree { λ _. ⌜ now (tree .exit) ≡ beginArea (beginReturned (now (buffer .entry)) (now (form .entry)) (now (text .entry)) (now (tree .entry)) allowance) (now (tree .entry)) ⌝ }

@@ -107,10 +107,10 @@ fn fill(buffer: &mut [u8], writer: Writer, text: &mut [u8], tree: &mut [u8], all
 fn write(buffer: &mut [u8], form: &[u8], text: &mut [u8], tree: &mut [u8], allowance: usize)
     ensures { λ _. ⌜ CutRun (now (buffer .entry)) (now (form .entry)) (now (text .entry)) (now (tree .entry)) allowance (now (buffer .exit)) ⌝ }
 {
-    let begun = aff::begin(buffer, form, text, tree, allowance);
-    let answer = begun.answer;
+    let start = aff::begin(buffer, form, text, tree, allowance);
+    let answer = start.answer;
     let rest = left(allowance, answer);
-    fill(buffer, begun.writer, text, tree, rest);
+    fill(buffer, start.writer, text, tree, rest);
 }
 
 // Opens a buffer with areas of its own.

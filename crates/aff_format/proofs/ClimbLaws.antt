@@ -13,12 +13,12 @@ use Rattle.aff_format.specs.Tree.{reachesBy}
 pub absurd-bool : {A : Type 0} → false ≡ true → A
 absurd-bool e = let z : _≡_ {A = ℕ} 0 1 = cc in absurd (omega arith)
 
-order-by : (m n : ℕ) (b : Bool) → leb m n ≡ b → (m ≤ n) ⊎ (n < m)
-order-by m n true e = inl (leb-true m n e)
-order-by m n false e = inr (leb-false m n e)
+le-or-lt-by : (m n : ℕ) (b : Bool) → leb m n ≡ b → (m ≤ n) ⊎ (n < m)
+le-or-lt-by m n true e = inl (leb-true m n e)
+le-or-lt-by m n false e = inr (leb-false m n e)
 
-pub order : (m n : ℕ) → (m ≤ n) ⊎ (n < m)
-order m n = order-by m n (leb m n) refl
+pub le-or-lt : (m n : ℕ) → (m ≤ n) ⊎ (n < m)
+le-or-lt m n = le-or-lt-by m n (leb m n) refl
 
 -- how many numbers below n a test holds of
 bit : Bool → ℕ
@@ -113,7 +113,7 @@ module _ (parent : ℕ → ℕ) (nodes : ℕ) (linked : (k : ℕ) → 0 < k → 
       (λ (c : count (reachesBy parent (suc j)) (suc nodes) ≤ count (reachesBy parent j) (suc nodes)).
       inl (stays j (count-back (reachesBy parent j) (reachesBy parent (suc j)) (longer parent j) (suc nodes) c)))
       (λ c. inr (omega arith))
-      (order (count (reachesBy parent (suc j)) (suc nodes)) (count (reachesBy parent j) (suc nodes))))
+      (le-or-lt (count (reachesBy parent (suc j)) (suc nodes)) (count (reachesBy parent j) (suc nodes))))
       (grows j)
 
   -- with as many steps as nodes, more change nothing

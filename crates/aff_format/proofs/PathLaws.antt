@@ -13,7 +13,8 @@ use lib.Seq.{drop-cons, drop-drop, length-take-le, take-all}
 use borrow.Author.Tests.{eq-eqb, ne-eqb, eqb-true}
 use Rattle.aff_format.specs.Bytes.{part, Without, EachWithout}
 use Rattle.aff_format.specs.Subkey.{subkeyFrom, isSound, isSubkey}
-use Rattle.aff_format.specs.Path.{ahead, betweenSlashes, untilSlash, orElse, partsFrom, afterSlash, pathGrammar, isPath, joinedPath, Subkeys, WellFormed, root, subkeys}
+use Rattle.aff_format.specs.Path.{ahead, betweenSlashes, orElse, partsFrom, afterSlash, pathGrammar, isPath, joinedPath, Subkeys, WellFormed, root, subkeys}
+use Rattle.aff_format.specs.passes.Counts.{untilSlash}
 use Rattle.aff_format.proofs.SubkeyLaws.{subkey-no-slash, sound-shift, sound-is}
 use Rattle.aff_format.specs.declared.edition.Edition.{Edition}
 use Rattle.aff_format.specs.declared.subkey.Grammar.{Grammar}

@@ -14,7 +14,8 @@ use borrow.Author.Tests.{eqb-true, ltb-true, ltb-false, lt-ltb}
 use Rattle.aff_format.specs.Bytes.{part, sameBytes, Without, EachWithout}
 use Rattle.aff_format.specs.Path.{ahead}
 use Rattle.aff_format.proofs.BytesLaws.{drop-take}
-use Rattle.aff_format.specs.Strings.{stringsOf, lastOr, endsInZero, withLastZero, placesOf, textOf, upToZero, zerosIn, isIn, indexIn}
+use Rattle.aff_format.specs.Strings.{stringsOf, lastOr, endsInZero, withLastZero, placesOf, textOf, upToZero, isIn, indexIn}
+use Rattle.aff_format.specs.passes.Counts.{zerosIn}
 use Rattle.aff_format.proofs.SameLaws.{same-eq, same-refl, same-ne, ne-same}
 
 -- The last byte.

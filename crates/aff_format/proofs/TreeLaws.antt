@@ -12,7 +12,7 @@ use Rattle.aff_format.specs.Path.{isPath, joinedPath, Subkeys, root, sub
 use Rattle.aff_format.specs.Subkey.{isSubkey}
 use Rattle.aff_format.specs.Tree.{reachesBy, frontBy, pathBy}
 use Rattle.aff_format.specs.declared.edition.Edition.{Edition}
-use Rattle.aff_format.proofs.ClimbLaws.{at-zero, order, reaches-up}
+use Rattle.aff_format.proofs.ClimbLaws.{at-zero, le-or-lt, reaches-up}
 use Rattle.aff_format.proofs.PathLaws.{joined-more, subkeys-more, ends-in-slash, last-slash, path-complete}
 use Rattle.aff_format.proofs.SubkeyLaws.{subkey-no-slash, subkey-not-empty}
 
@@ -107,7 +107,7 @@ module _ (e : Edition) (parent : ℕ → ℕ) (name : ℕ → List ℕ) (m : ℕ
     sibling-same j k lj lk hj hk p n =
         ⊎-elim (λ (l : j ≤ k). ⊎-elim (λ (q : j ≡ k). q) (λ (q : j < k). absurd (siblings j k lj q hk p n)) (eq-or-lt-of-le l))
         (λ (l : k < j). absurd (siblings k j lk l hj (sym p) (sym n)))
-        (order j k)
+        (le-or-lt j k)
 
     -- Equal fronts end in equal names, and before these are the fronts of the parents.
     front-unique : (steps i j : ℕ) → i ≤ m → j ≤ m → reachesBy parent steps i ≡ true → reachesBy parent steps j ≡ true

@@ -9,6 +9,7 @@ pub mod Refusal
 pub mod Number
 pub mod Element
 pub mod Subkey
+pub mod passes
 pub mod Path
 pub mod Strings
 pub mod Entry

@@ -20,11 +20,6 @@ unfoldable pub betweenSlashes : List ℕ → List (List ℕ)
 betweenSlashes [] = [] ∷ []
 betweenSlashes (x ∷ l) = cond (eqb x 47) ([] ∷ betweenSlashes l) (ahead x (betweenSlashes l))
 
--- How many bytes are before the first slash.
-unfoldable pub untilSlash : List ℕ → ℕ
-untilSlash [] = 0
-untilSlash (x ∷ l) = cond (eqb x 47) 0 (untilSlash l + 1)
-
 -- The first fault of two.
 abbrev pub orElse : Grammar → Grammar → Grammar
 orElse Sound next = next

@@ -42,11 +42,6 @@ unfoldable pub upToZero : List ℕ → List ℕ
 upToZero [] = []
 upToZero (x ∷ l) = cond (eqb x 0) [] (x ∷ upToZero l)
 
--- How many bytes are zero.
-unfoldable pub zerosIn : List ℕ → ℕ
-zerosIn [] = 0
-zerosIn (x ∷ l) = cond (eqb x 0) (zerosIn l + 1) (zerosIn l)
-
 -- Whether one of some strings is x.
 unfoldable pub isIn : List ℕ → List (List ℕ) → Bool
 isIn x [] = false

@@ -5,7 +5,8 @@ use crate::subkey::Grammar;
 ghost use mathlib.Core.Path.{_≡_};
 ghost use Prim.Native.Nat.{_+_, _≤_, _<_};
 ghost use lib.ListN.{length, drop};
-ghost use Rattle.aff_format.specs.Path.{betweenSlashes, untilSlash, partsFrom, pathGrammar};
+ghost use Rattle.aff_format.specs.Path.{betweenSlashes, partsFrom, pathGrammar};
+ghost use Rattle.aff_format.specs.passes.Counts.{untilSlash};
 
 // The place of the first slash from a place on, or the length.
 fn next_slash(path: &[u8], from: usize) -> usize

@@ -18,10 +18,10 @@ use Rattle.aff_open.specs.declared.reader.Reader.{Reader}
 use Rattle.aff_read.specs.declared.choice.Choice.{Choice}
 use Rattle.aff_read.specs.passes.Written.{Written}
 use Rattle.aff_read.proofs.WrittenLaws.{written-front, written-taken}
-use Rattle.aff_list.specs.Lister.{inputLimit, isLong, Ready, Fills, Starts, judged, answerOfBegun, linesBy, linesAfter, orderAfter, printedText, refusalLine, tooLongLine, listed, printed, rowsFrom}
-use Rattle.aff_list.specs.declared.blocks.Begun.{Begun}
+use Rattle.aff_list.specs.Lister.{inputLimit, isLong, Ready, Fills, Starts, judged, answerOfPrepared, linesBy, linesAfter, orderAfter, printedText, refusalLine, tooLongLine, listed, printed, rowsFrom}
+use Rattle.aff_list.specs.declared.blocks.Prepared.{Prepared}
 use Rattle.aff_list.proofs.PrintedLaws.{printed-long, printed-short, rows-end}
-use Rattle.aff_list.proofs.ReadyLaws.{Decided, begun-ready}
+use Rattle.aff_list.proofs.ReadyLaws.{Decided, prepared-ready}
 
 -- A text that is whole in the block, and has no lines of nodes.
 starts-whole : {image : List ℕ} {reader : Reader} {strings entries text numbers : List ℕ} {lines used : ℕ} {before after : List ℕ}
@@ -58,7 +58,7 @@ starts-lines {image} {reader} {strings} {entries} {text} {numbers} {lines} {next
 
 -- What opening answered for an input that is not too long, and then what was put into the block.
 module _ (image : List ℕ) (choice : Choice) (strings entries numbers : List ℕ) (short : length image ≤ inputLimit) (s : length strings ≡ 2048) (e : length entries ≡ 2048)
-    (o : Begun) {ss es ns : List ℕ} (b : Decided image choice strings entries numbers (answerOfBegun o) (o .reader) (o .lines) ss es ns) where
+    (o : Prepared) {ss es ns : List ℕ} (b : Decided image choice strings entries numbers (answerOfPrepared o) (o .reader) (o .lines) ss es ns) where
   reported-is : (v : Verdict) → o .verdict ≡ v → verdictOf v (o .reader) ≡ judged image choice strings entries
   reported-is v h = ap (λ (w : Verdict). verdictOf w (o .reader)) (sym h) ∙ b .0
 
@@ -81,7 +81,7 @@ module _ (image : List ℕ) (choice : Choice) (strings entries numbers : List �
       → Fills image (o .reader) ss es (take (o .lines) ns) 0 next used before after
       → Starts image (o .reader) ss es (printed choice image) ns (o .lines) next used before after
   first-accepted h f =
-      let l = begun-ready image choice strings entries numbers o b h in
+      let l = prepared-ready image choice strings entries numbers o b h in
       starts-lines (l .few) (printed-is Accepted h ∙ rw (l .ordered)) (rw (l .ordered) (l .ready)) f
 
 -- What is left of an input: the first block, the record, the number of lines, the areas and listing order.

@@ -29,8 +29,8 @@ use Rattle.aff_read.specs.declared.choice.Choice.{Choice}
 use Rattle.aff_read.specs.passes.Capped.{capped}
 use Rattle.aff_read.proofs.CappedLaws.{capped-over, capped-exact}
 use Rattle.aff_read.proofs.ListedLaws.{order-exist, order-length, count-most}
-use Rattle.aff_list.specs.Lister.{pathLimit, pathTooLong, pathChecks, Ready, withPaths, judged, answerOfBegun, linesBy, linesAfter, withOrder, orderAfter}
-use Rattle.aff_list.specs.declared.blocks.Begun.{Begun}
+use Rattle.aff_list.specs.Lister.{pathLimit, pathTooLong, pathChecks, Ready, withPaths, judged, answerOfPrepared, linesBy, linesAfter, withOrder, orderAfter}
+use Rattle.aff_list.specs.declared.blocks.Prepared.{Prepared}
 
 -- Whether a path is too long, by its length as it is counted.
 module _ (image : List ℕ) (reader : Reader) (strings entries : List ℕ) (k : ℕ) {n : ℕ} (is : n ≡ capped pathLimit (length (pathAt image reader strings entries k))) where
@@ -110,22 +110,22 @@ module _ (image : List ℕ) (choice : Choice) (strings entries numbers : List �
   entries-left : es ≡ entriesAfter image (formFor image) strings entries
   entries-left = e ∙ ap (λ (l : List ℕ). entriesAfter image l strings entries) f
 
-  pub begun-refused : o .reader ≡ readerAfter (answerOfOpening o) → (q : Refusal) → o .verdict ≡ Refused q
+  pub prepared-refused : o .reader ≡ readerAfter (answerOfOpening o) → (q : Refusal) → o .verdict ≡ Refused q
       → Decided image choice strings entries numbers (refused (codeOfRefusal q)) (o .reader) 0 ss es numbers
-  begun-refused g q h =
+  prepared-refused g q h =
       let j = judged-is (Refused q) h in
       let r = g ∙ ap (λ (w : Verdict). readerAfter (verdictOf w (o .reader))) h ∙ ap readerAfter j in
       (j, (r, (lines-is j, (strings-left, (entries-left, order-is (Refused q) h)))))
 
   module _ (h : o .verdict ≡ Accepted) where
-    pub begun-belongs : ReaderBelongs image (o .reader) ss es
-    begun-belongs = rw (s, e) (belongs-record (opened-belongs image form strings entries (opened-is Accepted h)))
+    pub prepared-belongs : ReaderBelongs image (o .reader) ss es
+    prepared-belongs = rw (s, e) (belongs-record (opened-belongs image form strings entries (opened-is Accepted h)))
 
-    pub begun-judged : (p : Begun) {ns : List ℕ} → answerOfBegun p ≡ withPaths image ss es choice (accepted (o .reader))
-        → p .reader ≡ readerAfter (answerOfBegun p) → p .lines ≡ linesBy image ss es choice (answerOfBegun p)
+    pub prepared-judged : (p : Prepared) {ns : List ℕ} → answerOfPrepared p ≡ withPaths image ss es choice (accepted (o .reader))
+        → p .reader ≡ readerAfter (answerOfPrepared p) → p .lines ≡ linesBy image ss es choice (answerOfPrepared p)
         → ns ≡ withOrder image ss es choice numbers (accepted (o .reader))
-        → Decided image choice strings entries numbers (answerOfBegun p) (p .reader) (p .lines) ss es ns
-    begun-judged p a g l n =
+        → Decided image choice strings entries numbers (answerOfPrepared p) (p .reader) (p .lines) ss es ns
+    prepared-judged p a g l n =
         let j = a ∙ judged-is Accepted h in
         (j, (g ∙ ap readerAfter j, (l ∙ lines-is j, (strings-left, (entries-left, n ∙ order-is Accepted h)))))
 
@@ -159,9 +159,9 @@ module _ (image : List ℕ) (choice : Choice) (strings entries numbers : List �
   unfolding judged orderAfter
   judged-ready a h = by-opening (openAnswer image (formFor image) (length strings) (length entries)) refl a h
 
-  pub begun-ready : (o : Begun) {ss′ es′ ns : List ℕ} → Decided image choice strings entries numbers (answerOfBegun o) (o .reader) (o .lines) ss′ es′ ns → o .verdict ≡ Accepted
+  pub prepared-ready : (o : Prepared) {ss′ es′ ns : List ℕ} → Decided image choice strings entries numbers (answerOfPrepared o) (o .reader) (o .lines) ss′ es′ ns → o .verdict ≡ Accepted
       → Listed image (o .reader) ss′ es′ choice (o .lines) ns
   unfolding linesAfter
-  begun-ready o (j, (g, (l, (s, (e, n))))) h =
+  prepared-ready o (j, (g, (l, (s, (e, n))))) h =
       let a : judged image choice strings entries ≡ accepted (o .reader) = sym j ∙ ap (λ (v : Verdict). verdictOf v (o .reader)) h in
       rw (s, e, n, l, a) (judged-ready (o .reader) a)

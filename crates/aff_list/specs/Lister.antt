@@ -19,7 +19,7 @@ use Rattle.aff_read.specs.Recall.{kindAt, pathAt}
 use Rattle.aff_read.specs.declared.choice.Choice.{Choice}
 use Rattle.aff_read.specs.declared.choice.Choice.the-variants.{NotVoid}
 use Rattle.aff_list.specs.Line.{decimal, lineAt}
-use Rattle.aff_list.specs.declared.blocks.Begun.{Begun}
+use Rattle.aff_list.specs.declared.blocks.Prepared.{Prepared}
 
 -- The longest input that is listed, and whether an input is longer.
 abbrev pub inputLimit : ℕ
@@ -109,8 +109,8 @@ judged image choice strings entries =
     (openAnswer image (formFor image) (length strings) (length entries))
 
 -- The answer that `begin` returns.
-abbrev pub answerOfBegun : Begun → Answer Reader
-answerOfBegun b = verdictOf (b .verdict) (b .reader)
+abbrev pub answerOfPrepared : Prepared → Answer Reader
+answerOfPrepared b = verdictOf (b .verdict) (b .reader)
 
 -- How many lines there are: one for each node listed; none after a refusal.
 abbrev pub linesBy : List ℕ → List ℕ → List ℕ → Choice → Answer Reader → ℕ

@@ -20,7 +20,7 @@ ghost use Rattle.aff_open.specs.Belongs.{ReaderBelongs};
 ghost use Rattle.aff_open.specs.Opening.{readerAfter, stringsAfter, entriesAfter};
 ghost use Rattle.aff_open.specs.Reader.{noReader};
 ghost use Rattle.aff_open.specs.Sections.{formFor};
-ghost use Rattle.aff_list.specs.Lister.{pathChecks, row, Exist, Ready, Fills, Starts, inputLimit, isLong, withPaths, judged, linesBy, linesAfter, withOrder, orderAfter, answerOfBegun, printed};
+ghost use Rattle.aff_list.specs.Lister.{pathChecks, row, Exist, Ready, Fills, Starts, inputLimit, isLong, withPaths, judged, linesBy, linesAfter, withOrder, orderAfter, answerOfPrepared, printed};
 ghost use Rattle.aff_list.specs.passes.Block.{endAfter, putAfter};
 
 // 21 where one of the first `lines` nodes of an order has a path above 65,536 bytes, for a record that belongs. One climb a node.
@@ -48,7 +48,7 @@ fn measure(
 
 // What is decided before the first line: opening's verdict or 21, the record, and how many lines there are. The record of a refusal is all zero, and it
 // has no lines.
-pub struct Begun {
+pub struct Prepared {
     pub verdict: Verdict,
     pub reader: Reader,
     pub lines: usize,
@@ -62,22 +62,22 @@ fn prepare(
     entries: &[u32],
     choice: Choice,
     order: &mut [u32; 2049],
-) -> Begun
+) -> Prepared
     requires { ⌜ ReaderBelongs (now image) reader (now strings) (now entries) ⌝ }
-    ensures answer { λ r. ⌜ answerOfBegun r ≡ withPaths (now (image .entry)) (now (strings .entry)) (now (entries .entry)) choice (accepted reader) ⌝ }
-    ensures record { λ r. ⌜ r .reader ≡ readerAfter (answerOfBegun r) ⌝ }
-    ensures lines { λ r. ⌜ r .lines ≡ linesBy (now (image .entry)) (now (strings .entry)) (now (entries .entry)) choice (answerOfBegun r) ⌝ }
+    ensures answer { λ r. ⌜ answerOfPrepared r ≡ withPaths (now (image .entry)) (now (strings .entry)) (now (entries .entry)) choice (accepted reader) ⌝ }
+    ensures record { λ r. ⌜ r .reader ≡ readerAfter (answerOfPrepared r) ⌝ }
+    ensures lines { λ r. ⌜ r .lines ≡ linesBy (now (image .entry)) (now (strings .entry)) (now (entries .entry)) choice (answerOfPrepared r) ⌝ }
     ensures order { λ _. ⌜ now (order .exit) ≡ withOrder (now (image .entry)) (now (strings .entry)) (now (entries .entry)) choice (now (order .entry)) (accepted reader) ⌝ }
 {
     let lines = listing::listing_of(image, reader, strings, entries, choice, order);
     let none = Reader::none();
     match measure(image, reader, strings, entries, order, lines) {
-        Verdict::Refused(refusal) => Begun {
+        Verdict::Refused(refusal) => Prepared {
             verdict: Verdict::Refused(refusal),
             reader: none,
             lines: 0,
         },
-        Verdict::Accepted => Begun {
+        Verdict::Accepted => Prepared {
             verdict: Verdict::Accepted,
             reader,
             lines,
@@ -94,8 +94,8 @@ pub fn begin(
     strings: &mut [u32],
     entries: &mut [u32],
     order: &mut [u32; 2049],
-) -> Begun
-    ensures answer { λ r. ⌜ answerOfBegun r ≡ judged (now (image .entry)) choice (now (strings .entry)) (now (entries .entry)) ⌝ }
+) -> Prepared
+    ensures answer { λ r. ⌜ answerOfPrepared r ≡ judged (now (image .entry)) choice (now (strings .entry)) (now (entries .entry)) ⌝ }
     ensures record { λ r. ⌜ r .reader ≡ readerAfter (judged (now (image .entry)) choice (now (strings .entry)) (now (entries .entry))) ⌝ }
     ensures lines { λ r. ⌜ r .lines ≡ linesAfter (now (image .entry)) choice (now (strings .entry)) (now (entries .entry)) ⌝ }
     ensures strings { λ _. ⌜ now (strings .exit) ≡ stringsAfter (now (image .entry)) (formFor (now (image .entry))) (now (strings .entry)) (now (entries .entry)) ⌝ }
@@ -107,7 +107,7 @@ pub fn begin(
     let verdict = opening.verdict;
     let reader = opening.reader;
     match verdict {
-        Verdict::Refused(refusal) => Begun {
+        Verdict::Refused(refusal) => Prepared {
             verdict: Verdict::Refused(refusal),
             reader,
             lines: 0,
@@ -214,10 +214,10 @@ fn first_lines(
     ensures entries { λ _. ⌜ now (entries .exit) ≡ entriesAfter (now (image .entry)) (formFor (now (image .entry))) (now (strings .entry)) (now (entries .entry)) ⌝ }
     ensures order { λ _. ⌜ now (order .exit) ≡ orderAfter (now (image .entry)) choice (now (strings .entry)) (now (entries .entry)) (now (order .entry)) ⌝ }
 {
-    let begun = begin(image, choice, strings, entries, order);
-    let verdict = begun.verdict;
-    let reader = begun.reader;
-    let lines = begun.lines;
+    let prepared = begin(image, choice, strings, entries, order);
+    let verdict = prepared.verdict;
+    let reader = prepared.reader;
+    let lines = prepared.lines;
     match verdict {
         Verdict::Refused(refusal) => First {
             reader,

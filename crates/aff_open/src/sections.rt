@@ -81,12 +81,12 @@ fn sum_wrong(image: &[u8], edition: Edition, section: Section) -> bool
     requires { ⌜ (headerSize edition ≤ length (now image)) × (endsPast edition section (now image) ≡ false) ⌝ }
     ensures { λ r. ⌜ r ≡ sumWrong edition section (now (image .entry)) ⌝ }
 {
-    let part = span(image, edition, section);
+    let bounds = span(image, edition, section);
     header::sum_differs(
         image,
         edition.section_sum_at(section),
-        part.offset,
-        part.size,
+        bounds.offset,
+        bounds.size,
     )
 }
 

@@ -8,7 +8,7 @@ use native.Mathlib.Omega.{arith}
 use lib.ListN.{length, getD, set}
 use lib.Seq.{getD-set-same, getD-set-other}
 use Rattle.aff_tables.proofs.OrderLaws.{split}
-use Rattle.aff_read.specs.passes.Children.{NextChild, ChildTables, ParentsExist, FrontFilled}
+use Rattle.aff_read.specs.passes.Children.{NextChild, ChildTables, ParentsWithin, FrontFilled}
 
 pub filled-more : {v i : ℕ} {table : List ℕ} → FrontFilled v i table → i < length table → FrontFilled v (i + 1) (set table i v)
 filled-more {v} {i} {table} f h =

@@ -18,7 +18,7 @@ use Rattle.aff_read.specs.Once.{occurrences}
 use Rattle.aff_read.specs.Recall.{parentAt}
 use Rattle.aff_read.specs.declared.choice.Choice.{Choice}
 use Rattle.aff_read.specs.declared.choice.Choice.the-variants.{AllNodes}
-use Rattle.aff_read.specs.passes.Children.{ParentsExist}
+use Rattle.aff_read.specs.passes.Children.{ParentsWithin}
 use Rattle.aff_read.specs.passes.Written.{Written}
 use Rattle.aff_read.proofs.KeptLaws.{preorder-kept, kept-count, kept-length, kept-none, kept-most, every-below}
 use Rattle.aff_read.proofs.ListingLaws.{preorder-same}
@@ -79,7 +79,7 @@ module _ {image : List ℕ} {reader : Reader} {strings entries : List ℕ} (b : 
 
   module _ {parents : List ℕ} (copied : ParentsCopied (recordedEntry image entries) (reader .nodes) parents) where
     -- The parents copied exist.
-    pub copied-exist : ParentsExist (parentIn parents) (reader .nodes)
+    pub copied-exist : ParentsWithin (parentIn parents) (reader .nodes)
     copied-exist = record { exists = λ k lo hi. rw (copied .parent k lo hi) (b .parent-exists k lo hi) }
 
     abbrev made : List ℕ

@@ -181,8 +181,8 @@ module _ (s : State) (tree : Tree) (g : Invariant s tree) where
   value-same (put node type bytes allowance) = length-storesFrom (putPlace (s .writer)) bytes
   value-same (close allowance) = close-needs
 
-  from-tree-step : (c : Call) → step s c .answer ≡ callAnswer (length (s .buffer)) tree c
-  from-tree-step c =
+  step-answer : (c : Call) → step s c .answer ≡ callAnswer (length (s .buffer)) tree c
+  step-answer c =
       let own = ownChecks s c in
       answer-judged s c
       ∙ judged-awake (belongsIn s) (s .writer .live) it-belongs (g .live) own (ownValue s c)
@@ -197,12 +197,12 @@ unfolding writerBelongs writerSizesBelong textBelongs writerNodesBelong finished
 belongs-stopped size writer text tree = refl
 
 -- One that belongs answers 22, whatever the buffer and the tree.
-from-tree-asleep : (cs : List Call) (s : State) (size : ℕ) (tree : Tree) → s .writer .live ≡ false
+answers-asleep : (cs : List Call) (s : State) (size : ℕ) (tree : Tree) → s .writer .live ≡ false
     → belongsIn s ≡ true → AnswersFromTree size true tree cs (answersOf s cs)
-from-tree-asleep [] s size tree h b = tt
-from-tree-asleep (c ∷ cs) s size tree h b = (
+answers-asleep [] s size tree h b = tt
+answers-asleep (c ∷ cs) s size tree h b = (
   ap (λ (t : Step). t .answer) (asleep-step s h c) ∙ ap (λ (x : Bool). refused (cond x (refusal 22) (refusal 24))) b,
-  rw (asleep-next s h c, asleep-step s h c) (from-tree-asleep cs s size tree h b),
+  rw (asleep-next s h c, asleep-step s h c) (answers-asleep cs s size tree h b),
 )
 
 -- One that does not belong answers 24.
@@ -236,11 +236,11 @@ module _ (s : State) (tree : Tree) (g : Invariant s tree) (c : Call) (cs : List 
       (subst (λ (r : ℕ). AnswersFromTree r false (applyCall tree c (isAccepted (step s c .answer))) cs (answersOf (afterCall s c) cs))
       (apply-length (s .buffer) (step s c .stores)) (later (afterCall s c) _ kept))
   by-step (ends e t z) =
-      rw (e, t) (from-tree-asleep cs (afterCall s c) (length (s .buffer)) tree (sleeps-asleep s c z) (sleeps-belong s (step s c) z (it-belongs s tree g)))
+      rw (e, t) (answers-asleep cs (afterCall s c) (length (s .buffer)) tree (sleeps-asleep s c z) (sleeps-belong s (step s c) z (it-belongs s tree g)))
 
-from-tree-run : (cs : List Call) → AnswersFrom cs
-from-tree-run [] s tree g = tt
-from-tree-run (c ∷ cs) s tree g = (from-tree-step s tree g c, by-step s tree g c cs (from-tree-run cs) (outcome s tree g c))
+answers-run : (cs : List Call) → AnswersFrom cs
+answers-run [] s tree g = tt
+answers-run (c ∷ cs) s tree g = (step-answer s tree g c, by-step s tree g c cs (answers-run cs) (outcome s tree g c))
 
 -- ---- A whole run, by what its begin answers.
 
@@ -255,7 +255,7 @@ module _ (run : Run) where
   pub run-from-tree : {n : ℕ} → runBegin run .answer ≡ accepted n → AnswersFromTree (length (run .buffer)) false [] (run .calls) (runAnswers run)
   run-from-tree h =
       subst (λ (r : ℕ). AnswersFromTree r false [] (run .calls) (runAnswers run)) (apply-length (run .buffer) (runBegin run .stores))
-      (from-tree-run (run .calls) (runStart run) [] (begin-invariant run h))
+      (answers-run (run .calls) (runStart run) [] (begin-invariant run h))
 
   module _ (t : RefusalCode) (h : runBegin run .answer ≡ refused t) where
     module _ (spent : eqb (t .number) 23 ≡ true) where
@@ -269,7 +269,7 @@ module _ (run : Run) where
           (apply-length (run .buffer) (take (t .place) beginStores)) (a .0) (a .1) (a .2) (a .3) (ltb-false (length (run .buffer)) dataPlace (clear .1 .0)))
 
       pub run-spent : AnswersFromTree (length (run .buffer)) true [] (run .calls) (runAnswers run)
-      run-spent = from-tree-asleep (run .calls) (runStart run) (length (run .buffer)) [] (asleep run t h) spent-belongs
+      run-spent = answers-asleep (run .calls) (runStart run) (length (run .buffer)) [] (asleep run t h) spent-belongs
 
     module _ (other : eqb (t .number) 23 ≡ false) where
       none-here : belongsIn (runStart run) ≡ false

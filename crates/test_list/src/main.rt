@@ -43,7 +43,7 @@ fn answers(image: &[u8], reader: Reader, strings: &[u32], entries: &[u32], choic
 }
 
 // The answers for an image that opens, and that the programs list.
-fn opened(image: &[u8], choice: Choice) {
+fn open_and_print(image: &[u8], choice: Choice) {
     if 65536 < image.len() {
         return;
     }
@@ -62,11 +62,11 @@ fn both(k: usize, image: &[u8]) {
     console::decimal(k as u64);
     console::text(b" list\n");
     test_list_brief::print(image, Choice::NotVoid);
-    opened(image, Choice::NotVoid);
+    open_and_print(image, Choice::NotVoid);
     console::decimal(k as u64);
     console::text(b" listall\n");
     test_list_brief::print(image, Choice::AllNodes);
-    opened(image, Choice::AllNodes);
+    open_and_print(image, Choice::AllNodes);
 }
 
 // Image k; false where there is none.

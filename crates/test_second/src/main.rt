@@ -53,7 +53,7 @@ fn nodes(image: &[u8], reader: Reader, strings: &[u32], entries: &[u32]) {
     }
 }
 
-fn opened(image: &[u8]) {
+fn open_and_print(image: &[u8]) {
     let mut strings = [0u32; 2048];
     let mut entries = [0u32; 2048];
     let form = aff::form_for(image);
@@ -78,7 +78,7 @@ fn one(k: usize) -> bool {
     let size = next.size;
     console::decimal(k as u64);
     console::text(b"\n");
-    opened(&image[..size]);
+    open_and_print(&image[..size]);
     true
 }
 

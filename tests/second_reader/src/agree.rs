@@ -1,6 +1,6 @@
 //! Compares the library with this reader, call by call, over images and over altered memory.
 
-use crate::answers::{decoded, judged, Choice, Element, Lent, Reader};
+use crate::answers::{decoded, judged, Choice, Element, Passed, Reader};
 use crate::format::{form_for, Kind, MOST};
 use crate::images::{image, Image};
 use crate::library;
@@ -23,7 +23,7 @@ pub fn compare(seed: u64, number: u64, report: &mut Report) {
     let reported = open_lent(&image.bytes, &form, MOST, MOST);
     report.opened(&image, &reported);
     if let Ok(opened) = reported {
-        let passed = Lent {
+        let passed = Passed {
             image: &image.bytes,
             record: opened.record,
             strings: &strings,
@@ -97,7 +97,7 @@ fn here<T>(
 }
 
 /// Every call over what is passed, refused by 24 or not.
-fn answers(random: &Random, passed: &Lent, report: &mut Report) {
+fn answers(random: &Random, passed: &Passed, report: &mut Report) {
     let reader = judged(passed);
     report.judged(reader.is_ok());
     let nodes = reader.as_ref().map_or(passed.record.nodes, Reader::nodes);
@@ -127,7 +127,7 @@ fn asked(random: &Random, nodes: u64) -> Vec<u64> {
 
 fn node_answers(
     random: &Random,
-    passed: &Lent,
+    passed: &Passed,
     reader: &Result<Reader, u32>,
     node: u64,
     report: &mut Report,
@@ -163,7 +163,7 @@ fn part(
 /// Path into an output that is long enough, just long enough, or one byte too short; then lookup of it and of others near it.
 fn path(
     random: &Random,
-    passed: &Lent,
+    passed: &Passed,
     reader: &Result<Reader, u32>,
     node: u64,
     report: &mut Report,
@@ -202,7 +202,7 @@ fn near_path(random: &Random, path: &[u8]) -> Vec<u8> {
     near
 }
 
-fn lookup(passed: &Lent, reader: &Result<Reader, u32>, path: &[u8], report: &mut Report) {
+fn lookup(passed: &Passed, reader: &Result<Reader, u32>, path: &[u8], report: &mut Report) {
     let ours = here(reader, |r| r.lookup(path));
     report.same("lookup", &ours, &library::lookup(passed, path));
 }
@@ -217,7 +217,7 @@ fn indices(random: &Random, count: u64) -> Vec<u64> {
     indices
 }
 
-fn element(passed: &Lent, reader: &Result<Reader, u32>, node: u64, index: u64, report: &mut Report) {
+fn element(passed: &Passed, reader: &Result<Reader, u32>, node: u64, index: u64, report: &mut Report) {
     let ours = here(reader, |r| r.element(node, index));
     let theirs = library::element(passed, node, index);
     same_element(&ours, &theirs, report);
@@ -276,7 +276,7 @@ const NAN: u64 = 0x7ff8_0000_0000_0000;
 /// Listing order into areas of exactly the length needed, one place less, and more; where 24 is due, into areas of some lengths.
 fn listing(
     random: &Random,
-    passed: &Lent,
+    passed: &Passed,
     reader: &Result<Reader, u32>,
     choice: Choice,
     report: &mut Report,
@@ -295,7 +295,7 @@ fn listing(
 }
 
 /// The same calls after one to three things passed have been altered since opening.
-fn altered(random: &Random, passed: &Lent, report: &mut Report) {
+fn altered(random: &Random, passed: &Passed, report: &mut Report) {
     let mut image = passed.image.to_vec();
     let mut record = passed.record;
     let mut strings = passed.strings.to_vec();
@@ -314,7 +314,7 @@ fn altered(random: &Random, passed: &Lent, report: &mut Report) {
             _ => alter_end(random, &mut image, record.symbols),
         }
     }
-    let passed = Lent {
+    let passed = Passed {
         image: &image,
         record,
         strings: &strings,
@@ -491,7 +491,7 @@ pub fn limits(report: &mut Report) {
             edition: 2,
             ..Record::default()
         };
-        let passed = Lent {
+        let passed = Passed {
             image: &image,
             record,
             strings: &areas,

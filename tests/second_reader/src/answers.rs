@@ -5,7 +5,7 @@ use crate::open::{open, reaches_root, until_zero, Record, Span};
 
 /// What a caller passes to a reading call.
 #[derive(Clone, Copy)]
-pub struct Lent<'a> {
+pub struct Passed<'a> {
     pub image: &'a [u8],
     pub record: Record,
     pub strings: &'a [u32],
@@ -36,7 +36,7 @@ pub struct Reader<'a> {
 }
 
 /// "24 is judged over all that is recorded, whether or not the call comes to it." The calls stand on what passes.
-pub fn judged<'a>(passed: &Lent<'a>) -> Result<Reader<'a>, u32> {
+pub fn judged<'a>(passed: &Passed<'a>) -> Result<Reader<'a>, u32> {
     let fits = sizes_fit(passed) && sections_fit(passed);
     let names = if fits { names_of(passed) } else { None };
     let nodes = if fits { nodes_of(passed) } else { None };
@@ -52,7 +52,7 @@ pub fn judged<'a>(passed: &Lent<'a>) -> Result<Reader<'a>, u32> {
 
 /// "the image's length is not the recorded one, an area's not its size, or a count passes its size"; an image has at most
 /// 2,147,483,647 bytes.
-fn sizes_fit(passed: &Lent) -> bool {
+fn sizes_fit(passed: &Passed) -> bool {
     let record = &passed.record;
     passed.image.len() as u64 == record.length
         && record.length <= LONGEST_IMAGE
@@ -63,7 +63,7 @@ fn sizes_fit(passed: &Lent) -> bool {
 }
 
 /// "the recorded edition does not exist; a section ... falls outside the image".
-fn sections_fit(passed: &Lent) -> bool {
+fn sections_fit(passed: &Passed) -> bool {
     let record = &passed.record;
     let sections = [record.symbols, record.tree, record.data];
     let inside = sections
@@ -81,7 +81,7 @@ fn whole(image: &[u8]) -> Span {
 
 /// "a string does not begin ... inside the symbol section": otherwise the strings, without zeros. C-13: "24 takes the section's end as the end of
 /// its last string", so a string ends at the first zero from its place on, or at the section's end. A place at the section's end begins none.
-fn names_of(passed: &Lent) -> Option<Vec<Span>> {
+fn names_of(passed: &Passed) -> Option<Vec<Span>> {
     let symbols = passed.record.symbols;
     let end = (symbols.offset + symbols.size) as usize;
     let places = &passed.strings[..passed.record.strings as usize];
@@ -97,7 +97,7 @@ fn names_of(passed: &Lent) -> Option<Vec<Span>> {
 }
 
 /// "an entry or a node's data falls outside the image; ... a type, parent or string number does not exist".
-fn nodes_of(passed: &Lent) -> Option<Vec<Entry>> {
+fn nodes_of(passed: &Passed) -> Option<Vec<Entry>> {
     let record = &passed.record;
     let places = &passed.entries[..record.nodes as usize];
     let node = |place: &u32| {
@@ -306,7 +306,7 @@ pub fn listing(input: &[u8], choice: Choice) -> Vec<u8> {
     match open(input, &form_for(input)) {
         Err((number, place)) => refused(number, place),
         Ok(opened) => {
-            let passed = Lent {
+            let passed = Passed {
                 image: input,
                 record: opened.record,
                 strings: &opened.strings,
@@ -322,7 +322,7 @@ fn refused(number: u32, place: u64) -> Vec<u8> {
 }
 
 /// "path, a space, type word, a space, count"; 21 for a path above 65,536 bytes, which "looks only at the nodes listed".
-fn lines(passed: &Lent, choice: Choice) -> Result<Vec<u8>, u32> {
+fn lines(passed: &Passed, choice: Choice) -> Result<Vec<u8>, u32> {
     let reader = judged(passed)?;
     let listed = reader.listed(choice);
     let mut output = Vec::new();

@@ -1,6 +1,6 @@
 //! The frozen sample of the gate: images and this reader's answers, in the form that the program `test_second` reads and writes.
 
-use crate::answers::{self, Element, Lent};
+use crate::answers::{self, Element, Passed};
 use crate::format::form_for;
 use crate::images;
 use crate::open::open;
@@ -36,7 +36,7 @@ pub fn sample(seed: u64, count: usize) -> Result<Sample, u32> {
 fn answer(image: &[u8]) -> Result<Vec<u8>, u32> {
     match open(image, &form_for(image)) {
         Err((number, place)) => Ok(format!("refused {number} {place}\n").into_bytes()),
-        Ok(opened) => nodes(&Lent {
+        Ok(opened) => nodes(&Passed {
             image,
             record: opened.record,
             strings: &opened.strings,
@@ -45,7 +45,7 @@ fn answer(image: &[u8]) -> Result<Vec<u8>, u32> {
     }
 }
 
-fn nodes(passed: &Lent) -> Result<Vec<u8>, u32> {
+fn nodes(passed: &Passed) -> Result<Vec<u8>, u32> {
     let reader = answers::judged(passed)?;
     let mut output = Vec::new();
     for number in reader.order() {

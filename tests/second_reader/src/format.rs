@@ -84,7 +84,7 @@ impl Edition {
     }
 }
 
-/// The form that the programs lend: edition 1's where the text is edition 1's, else edition 2's.
+/// The form that the programs pass: edition 1's where the text is edition 1's, else edition 2's.
 pub fn form_for(image: &[u8]) -> [u8; 12] {
     Edition::from_text(image).unwrap_or(Edition::Two).form()
 }

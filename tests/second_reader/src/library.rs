@@ -1,7 +1,7 @@
 //! The library through its C side: the functions of the crate aff_c, as the heads of its sources give them. A slice is a pointer
 //! and a length.
 
-use crate::answers::{Choice, Lent};
+use crate::answers::{Choice, Passed};
 use crate::format::Refusal;
 use crate::open::{Record, Span};
 use crate::runs::{Alteration, Call, Desk, Run};
@@ -127,7 +127,7 @@ reading! {
     aff_element(node: u64, index: u64, value: *mut f64, imaginary: *mut f64);
 }
 
-/// The 12 bytes that the library's programs lend.
+/// The 12 bytes that the library's programs pass.
 pub fn form_for(image: &[u8]) -> [u8; 12] {
     let mut form = [0; 12];
     // SAFETY: pointers and lengths are of live slices that do not overlap.
@@ -251,19 +251,19 @@ macro_rules! ask {
     }};
 }
 
-pub fn lookup(passed: &Lent, path: &[u8]) -> Result<u64, u32> {
+pub fn lookup(passed: &Passed, path: &[u8]) -> Result<u64, u32> {
     let mut node = NONE;
     let number = ask!(aff_lookup, passed, path.as_ptr(), path.len(), &mut node);
     reported(number, node, NONE)
 }
 
-pub fn name(passed: &Lent, node: u64) -> Result<Span, u32> {
+pub fn name(passed: &Passed, node: u64) -> Result<Span, u32> {
     let (mut offset, mut size) = (NONE, NONE);
     let number = ask!(aff_name, passed, node, &mut offset, &mut size);
     reported(number, Span { offset, size }, span_unset())
 }
 
-pub fn view(passed: &Lent, node: u64) -> Result<Span, u32> {
+pub fn view(passed: &Passed, node: u64) -> Result<Span, u32> {
     let (mut offset, mut size) = (NONE, NONE);
     let number = ask!(aff_view, passed, node, &mut offset, &mut size);
     reported(number, Span { offset, size }, span_unset())
@@ -276,19 +276,19 @@ fn span_unset() -> Span {
     }
 }
 
-pub fn kind(passed: &Lent, node: u64) -> Result<u64, u32> {
+pub fn kind(passed: &Passed, node: u64) -> Result<u64, u32> {
     let mut kind = NONE;
     let number = ask!(aff_kind, passed, node, &mut kind);
     reported(number, kind, NONE)
 }
 
-pub fn count(passed: &Lent, node: u64) -> Result<u64, u32> {
+pub fn count(passed: &Passed, node: u64) -> Result<u64, u32> {
     let mut count = NONE;
     let number = ask!(aff_count, passed, node, &mut count);
     reported(number, count, NONE)
 }
 
-pub fn path_into(passed: &Lent, node: u64, output: &mut [u8]) -> Result<u64, u32> {
+pub fn path_into(passed: &Passed, node: u64, output: &mut [u8]) -> Result<u64, u32> {
     let mut size = NONE;
     let number = ask!(
         aff_path,
@@ -301,7 +301,7 @@ pub fn path_into(passed: &Lent, node: u64, output: &mut [u8]) -> Result<u64, u32
     reported(number, size, NONE)
 }
 
-pub fn order_into(passed: &Lent, choice: Choice, output: &mut [u32]) -> Result<u64, u32> {
+pub fn order_into(passed: &Passed, choice: Choice, output: &mut [u32]) -> Result<u64, u32> {
     let mut count = NONE;
     let number = ask!(
         aff_listing,
@@ -314,7 +314,7 @@ pub fn order_into(passed: &Lent, choice: Choice, output: &mut [u32]) -> Result<u
     reported(number, count, NONE)
 }
 
-pub fn element(passed: &Lent, node: u64, index: u64) -> Result<(f64, f64), u32> {
+pub fn element(passed: &Passed, node: u64, index: u64) -> Result<(f64, f64), u32> {
     let (mut value, mut imaginary) = (UNSET, UNSET);
     let number = ask!(aff_element, passed, node, index, &mut value, &mut imaginary);
     reported(number, (value, imaginary), (UNSET, UNSET))

@@ -1,7 +1,7 @@
 //! Random runs of the writer: the model's images beside the tree that the calls describe, cut after any number of stores,
 //! and beside the library's writer where it is linked.
 
-use crate::answers::{decoded, judged, Choice, Lent, Reader};
+use crate::answers::{decoded, judged, Choice, Passed, Reader};
 use crate::format::{Edition, Kind, MOST};
 use crate::images::subkey;
 use crate::open::open;
@@ -204,7 +204,7 @@ fn shows(buffer: &[u8], form: &[u8], tree: &[Described], report: &mut Report) {
     let opened = open(buffer, form);
     report.same("opened", &true, &opened.is_ok());
     let Ok(opened) = opened else { return };
-    let passed = Lent {
+    let passed = Passed {
         image: buffer,
         record: opened.record,
         strings: &opened.strings,

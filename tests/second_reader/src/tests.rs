@@ -1,7 +1,7 @@
 //! Document 01's worked file and cases, the symbol tables of requests C-11 and C-13, request C-12's listings, and the generator's images beside
 //! what their maker knows.
 
-use crate::answers::{decoded, judged, listing, Choice, Element, Lent, LISTED};
+use crate::answers::{decoded, judged, listing, Choice, Element, Passed, LISTED};
 use crate::format::{big, form_for, is_path, is_subkey, Edition, Kind, Refusal};
 use crate::images::{image, Draft, Node, DATA, SYMBOLS, TREE};
 use crate::open::{open, Opened, Span};
@@ -13,8 +13,8 @@ fn desk(buffer: usize) -> Writer {
     Writer::passed(vec![0; buffer], vec![0; TEXT_AREA], vec![0; TREE_AREA])
 }
 
-fn passed<'a>(image: &'a [u8], opened: &'a Opened) -> Lent<'a> {
-    Lent {
+fn passed<'a>(image: &'a [u8], opened: &'a Opened) -> Passed<'a> {
+    Passed {
         image,
         record: opened.record,
         strings: &opened.strings,
@@ -323,7 +323,7 @@ fn strings_in_altered_memory() {
         strings[1] = place;
         let mut record = opened.record;
         (record.symbols.offset, record.symbols.size) = span;
-        let passed = Lent {
+        let passed = Passed {
             image,
             record,
             strings: &strings,

@@ -2,7 +2,7 @@
 //! library's. A sample is the processor time of BATCH calls in a row, divided by BATCH; the median in seconds is printed. An answer
 //! that is not the expected one is an error. For Linux on 64 bits.
 
-use crate::answers::{decoded, judged, Choice, Element, Lent};
+use crate::answers::{decoded, judged, Choice, Element, Passed};
 use crate::format::{form_for, Edition, Kind, MOST};
 use crate::md5::md5;
 use crate::open::{open, Opened};
@@ -129,8 +129,8 @@ fn accepted(image: &[u8]) -> Fallible<Opened> {
     open(image, &form_for(image)).map_err(|refusal| format!("refused {refusal:?}").into())
 }
 
-fn passed<'a>(image: &'a [u8], opened: &'a Opened) -> Lent<'a> {
-    Lent {
+fn passed<'a>(image: &'a [u8], opened: &'a Opened) -> Passed<'a> {
+    Passed {
         image,
         record: opened.record,
         strings: &opened.strings,

@@ -17,7 +17,7 @@ pub record ChildTables (parent : ℕ → ℕ) (nodes from : ℕ) (first next : L
   pub next-sibling : (k : ℕ) → from ≤ k → k ≤ nodes → NextChild parent nodes (parent k) (k + 1) (getD next k 0)
 
 -- Each node's parent exists.
-pub record ParentsExist (parent : ℕ → ℕ) (nodes : ℕ) : Type 0 where
+pub record ParentsWithin (parent : ℕ → ℕ) (nodes : ℕ) : Type 0 where
   pub exists : (k : ℕ) → 0 < k → k ≤ nodes → parent k ≤ nodes
 
 -- The first n numbers of a table are v.

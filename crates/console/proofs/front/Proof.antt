@@ -5,8 +5,5 @@ use lib.Seq.{length-take-le}
 use Rattle.console.proofs.front.Statement.{statement}
 use Rattle.console.proofs.front.Tie as tie
 
-slice-aggregate-text : tie.Need-slice-aggregate-text
-slice-aggregate-text c = sym (length-take-le _ _ (search needs))
-
 pub front-spec : {M : Type 1} → statement M
-front-spec = tie.close (tie.spec (λ c. search needs) slice-aggregate-text (λ c κs. search needs) (λ c. search needs))
+front-spec = tie.close (tie.spec (λ c. search needs) (λ c. sym (length-take-le _ _ (search needs))) (λ c κs. search needs) (λ c. search needs))

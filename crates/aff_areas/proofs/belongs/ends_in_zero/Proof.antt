@@ -5,12 +5,9 @@ use Rattle.aff_format.proofs.StringsLaws.{endsInZero-none, endsInZero-last}
 use Rattle.aff_areas.proofs.belongs.ends_in_zero.Statement.{statement}
 use Rattle.aff_areas.proofs.belongs.ends_in_zero.Tie as tie
 
-returns : tie.Need-returns
-returns c = endsInZero-none _ (c .if1 .taken)
-
 returns-2 : tie.Need-returns-2
 returns-2 c = let h = c .before .if1 .left in endsInZero-last (c .before .before .args .bytes .now) (omega arith)
 
 pub ends-in-zero-spec : {M : Type 1} → statement M
 ends-in-zero-spec =
-    tie.close (tie.spec returns (λ c. search needs) (λ c. search needs) returns-2)
+    tie.close (tie.spec (λ c. endsInZero-none _ (c .if1 .taken)) (λ c. search needs) (λ c. search needs) returns-2)

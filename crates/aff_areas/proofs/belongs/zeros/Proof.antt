@@ -9,7 +9,7 @@ use lib.ListN.{length, getD, drop, drop-of-length-le}
 use lib.Seq.{drop-cons}
 use borrow.Author.Needs.{needs}
 use borrow.Author.Tests.{eq-eqb, ne-eqb}
-use Rattle.aff_format.specs.Strings.{zerosIn}
+use Rattle.aff_format.specs.passes.Counts.{zerosIn}
 use Rattle.aff_areas.proofs.belongs.zeros.Statement.{statement}
 use Rattle.aff_areas.proofs.belongs.zeros.Tie as tie
 

@@ -1,6 +1,6 @@
 -- `aff_begin` meets its contract: the answer of `begin`, and the record that it leaves. Assumes nothing.
 use borrow.Author.Needs.{needs}
-use Rattle.aff_c.proofs.WritingLaws.{begun-left}
+use Rattle.aff_c.proofs.WritingLaws.{begin-left}
 use Rattle.aff_c.proofs.writing.aff_begin.Statement.{statement}
 use Rattle.aff_c.proofs.writing.aff_begin.Tie as tie
 
@@ -8,7 +8,7 @@ returns : tie.Need-returns
 returns c =
     let d = c .before .before .before .before .before .before .before .before .before .before in
     let a = d .before .before .before .before .before .before .before .before .args in
-    begun-left (a .buffer .now) (a .form .now) (a .text .now) (a .tree .now) (a .allowance) (d .begin .result) (c .leave .result) (c .leave .last .1 .0)
+    begin-left (a .buffer .now) (a .form .now) (a .text .now) (a .tree .now) (a .allowance) (d .begin .result) (c .leave .result) (c .leave .last .1 .0)
     (c .leave .ensures .0) (c .leave .ensures .1) (d .begin .last .0) (d .begin .last .1 .1 .0) (d .begin .last .1 .1 .1 .0) (d .begin .ensures)
 
 pub aff-begin-spec : {M : Type 1} → statement M

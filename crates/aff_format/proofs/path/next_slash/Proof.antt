@@ -3,7 +3,7 @@ use mathlib.Core.Path.{_≡_, refl, sym, _∙_}
 use Prim.Native.Nat.{_≤_, _+_, _-_}
 use native.Mathlib.Omega.{arith}
 use lib.ListN.{length, drop}
-use Rattle.aff_format.specs.Path.{untilSlash}
+use Rattle.aff_format.specs.passes.Counts.{untilSlash}
 use Rattle.aff_format.proofs.PathLaws.{slash-here, slash-later, slash-none}
 use Rattle.aff_format.proofs.path.next_slash.Statement.{statement}
 use Rattle.aff_format.proofs.path.next_slash.Tie as tie

@@ -3,8 +3,5 @@ use borrow.Author.Needs.{needs}
 use Rattle.aff_format.proofs.recorded.or_none.Statement.{statement}
 use Rattle.aff_format.proofs.recorded.or_none.Tie as tie
 
-returns-2 : tie.Need-returns-2
-returns-2 c = rw (c .enum-told .given .1)
-
 pub or-none-spec : {M : Type 1} → statement M
-or-none-spec = tie.close (tie.spec (λ c. search needs) (λ c. search needs) (λ c. search needs) returns-2)
+or-none-spec = tie.close (tie.spec (λ c. search needs) (λ c. search needs) (λ c. search needs) (λ c. rw (c .enum-told .given .1)))

@@ -3,11 +3,5 @@ use borrow.Author.Tests.{le-leb, lt-leb}
 use Rattle.aff_format.proofs.subkey.between.Statement.{statement}
 use Rattle.aff_format.proofs.subkey.between.Tie as tie
 
-returns : tie.Need-returns
-returns c = rw (lt-leb _ _ (c .if1 .taken))
-
-returns-2 : tie.Need-returns-2
-returns-2 c = rw (le-leb _ _ (c .if1 .left))
-
 pub between-spec : {M : Type 1} → statement M
-between-spec = tie.close (tie.spec returns returns-2)
+between-spec = tie.close (tie.spec (λ c. rw (lt-leb _ _ (c .if1 .taken))) (λ c. rw (le-leb _ _ (c .if1 .left))))

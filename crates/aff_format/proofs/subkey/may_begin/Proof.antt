@@ -3,18 +3,6 @@ use borrow.Author.Needs.{needs}
 use Rattle.aff_format.proofs.subkey.may_begin.Statement.{statement}
 use Rattle.aff_format.proofs.subkey.may_begin.Tie as tie
 
-enum-told : tie.Need-enum-told
-enum-told c = search needs
-
-narrow-first-requires : tie.Need-narrow-first-requires
-narrow-first-requires c κs = search needs
-
-enum-told-2 : tie.Need-enum-told-2
-enum-told-2 c = search needs
-
-narrow-first-requires-2 : tie.Need-narrow-first-requires-2
-narrow-first-requires-2 c κs = search needs
-
 returns : tie.Need-returns
 returns c = rw (c .before .enum-told .given .1) (c .narrow-first .ensures)
 
@@ -25,9 +13,9 @@ pub may-begin-spec : {M : Type 1} → statement M
 may-begin-spec =
     tie.close
     (tie.spec
-    enum-told
-    narrow-first-requires
-    enum-told-2
-    narrow-first-requires-2
+    (λ c. search needs)
+    (λ c κs. search needs)
+    (λ c. search needs)
+    (λ c κs. search needs)
     returns
     returns-2)

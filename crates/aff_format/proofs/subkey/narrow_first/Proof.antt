@@ -6,9 +6,6 @@ use Rattle.aff_format.specs.Subkey.{narrowFirst}
 use Rattle.aff_format.proofs.subkey.narrow_first.Statement.{statement}
 use Rattle.aff_format.proofs.subkey.narrow_first.Tie as tie
 
-is-letter-requires : tie.Need-is-letter-requires
-is-letter-requires c κs = search needs
-
 returns : tie.Need-returns
 unfolding narrowFirst
 returns c = simp (sym (c .before .is-letter .ensures) ∙ c .if1 .taken)
@@ -22,4 +19,4 @@ unfolding narrowFirst
 returns-3 c = simp (sym (c .before .before .is-letter .ensures) ∙ c .before .if1 .left, ne-eqb _ _ (c .if2 .left))
 
 pub narrow-first-spec : {M : Type 1} → statement M
-narrow-first-spec = tie.close (tie.spec is-letter-requires returns returns-2 returns-3)
+narrow-first-spec = tie.close (tie.spec (λ c κs. search needs) returns returns-2 returns-3)

@@ -6,15 +6,9 @@ use Rattle.aff_format.specs.Subkey.{narrowNext}
 use Rattle.aff_format.proofs.subkey.narrow_next.Statement.{statement}
 use Rattle.aff_format.proofs.subkey.narrow_next.Tie as tie
 
-narrow-first-requires : tie.Need-narrow-first-requires
-narrow-first-requires c κs = search needs
-
 returns : tie.Need-returns
 unfolding narrowNext
 returns c = simp (sym (c .before .narrow-first .ensures) ∙ c .if1 .taken)
-
-between-requires : tie.Need-between-requires
-between-requires c κs = search needs
 
 returns-2 : tie.Need-returns-2
 unfolding narrowNext
@@ -35,4 +29,4 @@ returns-4 c =
 pub narrow-next-spec : {M : Type 1} → statement M
 narrow-next-spec =
     tie.close
-    (tie.spec narrow-first-requires returns between-requires returns-2 returns-3 returns-4)
+    (tie.spec (λ c κs. search needs) returns (λ c κs. search needs) returns-2 returns-3 returns-4)

@@ -6,11 +6,8 @@ use Rattle.aff_format.proofs.BytesLaws.{part-whole}
 use Rattle.aff_format.proofs.subkey.subkey.Statement.{statement}
 use Rattle.aff_format.proofs.subkey.subkey.Tie as tie
 
-subkey-within-requires : tie.Need-subkey-within-requires
-subkey-within-requires c κs = search needs
-
 returns : tie.Need-returns
 returns c = c .subkey-within .ensures ∙ ap (subkeyFrom _ 0) (part-whole _)
 
 pub subkey-spec : {M : Type 1} → statement M
-subkey-spec = tie.close (tie.spec subkey-within-requires returns)
+subkey-spec = tie.close (tie.spec (λ c κs. search needs) returns)

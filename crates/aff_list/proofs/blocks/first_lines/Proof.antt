@@ -2,7 +2,7 @@
 use borrow.Author.Needs.{needs}
 use native.Mathlib.Omega.{arith}
 use Rattle.aff_list.proofs.FirstLaws.{first-refused, first-accepted}
-use Rattle.aff_list.proofs.ReadyLaws.{begun-ready}
+use Rattle.aff_list.proofs.ReadyLaws.{prepared-ready}
 use Rattle.aff_list.proofs.blocks.first_lines.Statement.{statement}
 use Rattle.aff_list.proofs.blocks.first_lines.Tie as tie
 
@@ -12,7 +12,7 @@ first-lines-spec =
     (tie.spec (λ c κs. search needs) (λ c. search needs) (λ c κs. search needs) (λ c. search needs)
     (λ c κs.
     let b = c .before .before .before .before .before .before .before .begin in
-    let l = begun-ready _ _ _ _ _ (b .result) (b .ensures) (c .before .before .before .before .enum-told .given .1) in
+    let l = prepared-ready _ _ _ _ _ (b .result) (b .ensures) (c .before .before .before .before .enum-told .given .1) in
     (rw (l .ordered) (l .ready), l .few, omega arith))
     (λ c.
     let d = c .before .before .before .before .before .before in

@@ -7,14 +7,8 @@ use Rattle.aff_open.proofs.BelongsLaws.{sizes-decide, sections-decide, 
 use Rattle.aff_open.proofs.belongs.belongs.Statement.{statement}
 use Rattle.aff_open.proofs.belongs.belongs.Tie as tie
 
-sizes-requires : tie.Need-sizes-requires
-sizes-requires c κs = search needs
-
 returns : tie.Need-returns
 returns c = sym (sizes-decide _ _ _ _ (sym (c .before .sizes .ensures) ∙ not-true _ (c .if1 .taken)))
-
-sections-inside-requires : tie.Need-sections-inside-requires
-sections-inside-requires c κs = search needs
 
 returns-2 : tie.Need-returns-2
 returns-2 c = sym (sections-decide _ _ _ _ (sym (c .before .sections-inside .ensures) ∙ not-true _ (c .if2 .taken)))
@@ -35,9 +29,9 @@ pub belongs-spec : {M : Type 1} → statement M
 belongs-spec =
     tie.close
     (tie.spec
-    sizes-requires
+    (λ c κs. search needs)
     returns
-    sections-inside-requires
+    (λ c κs. search needs)
     returns-2
     tables-belong-requires
     returns-3)

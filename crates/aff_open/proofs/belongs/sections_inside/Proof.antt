@@ -7,22 +7,13 @@ use Rattle.aff_open.specs.passes.Belongs.{sectionsInside}
 use Rattle.aff_open.proofs.belongs.sections_inside.Statement.{statement}
 use Rattle.aff_open.proofs.belongs.sections_inside.Tie as tie
 
-span-inside-requires : tie.Need-span-inside-requires
-span-inside-requires c κs = search needs
-
 returns : tie.Need-returns
 unfolding sectionsInside
 returns c = simp (sym (c .before .span-inside .ensures) ∙ not-true _ (c .if1 .taken))
 
-span-inside-requires-2 : tie.Need-span-inside-requires-2
-span-inside-requires-2 c κs = search needs
-
 returns-2 : tie.Need-returns-2
 unfolding sectionsInside
 returns-2 c = simp (sym (c .before .span-inside2 .ensures) ∙ not-true _ (c .if2 .taken), and-false)
-
-span-inside-requires-3 : tie.Need-span-inside-requires-3
-span-inside-requires-3 c κs = search needs
 
 returns-3 : tie.Need-returns-3
 unfolding sectionsInside
@@ -34,9 +25,9 @@ pub sections-inside-spec : {M : Type 1} → statement M
 sections-inside-spec =
     tie.close
     (tie.spec
-    span-inside-requires
+    (λ c κs. search needs)
     returns
-    span-inside-requires-2
+    (λ c κs. search needs)
     returns-2
-    span-inside-requires-3
+    (λ c κs. search needs)
     returns-3)

@@ -5,18 +5,6 @@ use Rattle.aff_open.specs.passes.Belongs.{tablesBelong}
 use Rattle.aff_open.proofs.belongs.tables_belong.Statement.{statement}
 use Rattle.aff_open.proofs.belongs.tables_belong.Tie as tie
 
-lost-string-requires : tie.Need-lost-string-requires
-lost-string-requires c κs = search needs
-
-enum-told : tie.Need-enum-told
-enum-told c = search needs
-
-enum-told-2 : tie.Need-enum-told-2
-enum-told-2 c = search needs
-
-nodes-belong-requires : tie.Need-nodes-belong-requires
-nodes-belong-requires c κs = search needs
-
 returns : tie.Need-returns
 unfolding tablesBelong
 returns c = rw (sym (c .before .before .lost-string .ensures) ∙ c .enum-told .given .1)
@@ -28,4 +16,4 @@ returns-2 c = rw (sym (c .before .before .before .lost-string .ensures) ∙ c .b
 pub tables-belong-spec : {M : Type 1} → statement M
 tables-belong-spec =
     tie.close
-    (tie.spec (λ c. search needs) lost-string-requires enum-told enum-told-2 nodes-belong-requires returns returns-2)
+    (tie.spec (λ c. search needs) (λ c κs. search needs) (λ c. search needs) (λ c. search needs) (λ c κs. search needs) returns returns-2)

@@ -4,9 +4,6 @@ use borrow.Author.Tests.{lt-ltb, le-ltb, le-leb, lt-leb}
 use Rattle.aff_tables.proofs.links.link_bad.Statement.{statement}
 use Rattle.aff_tables.proofs.links.link_bad.Tie as tie
 
-returns : tie.Need-returns
-returns c = rw (lt-ltb _ _ (c .if1 .taken))
-
 returns-2 : tie.Need-returns-2
 returns-2 c = rw (le-ltb _ _ (c .before .before .if1 .left), le-leb _ _ (c .if2 .taken))
 
@@ -16,4 +13,4 @@ returns-3 c =
     rw (le-ltb _ _ (t .before .before .if1 .left), lt-leb _ _ (t .if2 .left))
 
 pub link-bad-spec : {M : Type 1} → statement M
-link-bad-spec = tie.close (tie.spec returns (λ c. search needs) returns-2 (λ c. search needs) returns-3)
+link-bad-spec = tie.close (tie.spec (λ c. rw (lt-ltb _ _ (c .if1 .taken))) (λ c. search needs) returns-2 (λ c. search needs) returns-3)

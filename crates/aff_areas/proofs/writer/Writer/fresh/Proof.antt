@@ -3,9 +3,6 @@ use borrow.Author.Needs.{needs}
 use Rattle.aff_areas.proofs.writer.Writer.fresh.Statement.{statement}
 use Rattle.aff_areas.proofs.writer.Writer.fresh.Tie as tie
 
-returns : tie.Need-returns
-returns c = rw (c .form-of .ensures)
-
 pub fresh-spec : {M : Type 1} → statement M
 fresh-spec =
-    tie.close (tie.spec (λ c κs. search needs) returns)
+    tie.close (tie.spec (λ c κs. search needs) (λ c. rw (c .form-of .ensures)))
