@@ -40,7 +40,7 @@ use Rattle.aff_run.proofs.AreasHoldLaws.{run-areas}
 use Rattle.aff.specs.Demand1.{NotBy, Is24, Not24, Is24Unless, EachReading, EachWriting, Numbered, callStores, Demand1}
 use Rattle.aff.proofs.LeavesLaws.{opening-leaves, reading-leaves, begin-leaves, writing-leaves}
 use Rattle.aff.proofs.RulesLaws.{opening-by, decode-by, reading-by, begin-by, writing-by}
-use Rattle.aff_read.specs.ListingOrder.{listedCount, listingAnswer}
+use Rattle.aff_listing.specs.ListingOrder.{listedCount, listingAnswer}
 
 -- ---- Checks that report other numbers.
 

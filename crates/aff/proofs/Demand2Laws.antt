@@ -43,20 +43,20 @@ use Rattle.aff_read.specs.Paths.{editionBy, found, lookupAnswer}
 use Rattle.aff_read.specs.Lookup.{NoneWith, OnlyWith}
 use Rattle.aff_read.specs.Recall.{kindAt, parentAt, nameAt, dataSpan, spanBytes, bytesAt, pathAt}
 use Rattle.aff_read.proofs.FrontLaws.{name-bytes}
-use Rattle.aff_read.proofs.ListingLaws.{preorder-same}
+use Rattle.aff_listing.proofs.ListingLaws.{preorder-same}
 use Rattle.aff_read.proofs.LookupLaws.{lookup-malformed, lookup-accepts, lookup-absent}
-use Rattle.aff_read.proofs.KeptLaws.{preorder-kept, kept-count, every-below}
-use Rattle.aff_read.proofs.ListedLaws.{order-count, order-only, order-length}
+use Rattle.aff_listing.proofs.KeptLaws.{preorder-kept, kept-count, every-below}
+use Rattle.aff_listing.proofs.ListedLaws.{order-count, order-only, order-length}
 use Rattle.aff_read.proofs.UniqueLaws.{lookup-only, lookup-path}
 use Rattle.aff_read.specs.Shows.{PartIs}
 use Rattle.aff_run.proofs.ShownLaws.{name-part, view-part, number-absent}
 use Rattle.aff.specs.Demand2.{dataNamed, Reads, itsEntry, itsName, itsParent, itsPath, ItsNode, NoNode, ReadsFile, Demand2}
 use Rattle.aff.proofs.CasesLaws.{cases-hold}
 use Rattle.aff.proofs.Demand1Laws.{others-not}
-use Rattle.aff_read.specs.ListingOrder.{lists, own, preorder, kept, isListed, listingOrder, listedCount, listingAnswer}
-use Rattle.aff_read.specs.Once.{occurrences}
-use Rattle.aff_read.specs.declared.choice.Choice.{Choice}
-use Rattle.aff_read.specs.declared.choice.Choice.the-variants.{AllNodes, NotVoid}
+use Rattle.aff_listing.specs.ListingOrder.{lists, own, preorder, kept, isListed, listingOrder, listedCount, listingAnswer}
+use Rattle.aff_listing.specs.Once.{occurrences}
+use Rattle.aff_listing.specs.declared.choice.Choice.{Choice}
+use Rattle.aff_listing.specs.declared.choice.Choice.the-variants.{AllNodes, NotVoid}
 
 -- ---- What is read with a record that belongs.
 

@@ -20,7 +20,7 @@ use Rattle.aff_open.proofs.NumbersLaws.{open-numbers}
 use Rattle.aff_read.specs.Answers.{existsChecks as numberChecks}
 use Rattle.aff_read.specs.Paths.{pathAnswer}
 use Rattle.aff_read.specs.Recall.{pathAt}
-use Rattle.aff_read.proofs.ListedLaws.{order-length}
+use Rattle.aff_listing.proofs.ListedLaws.{order-length}
 use Rattle.aff_areas.specs.Stores.{applyStores}
 use Rattle.aff_areas.specs.Writer.{stopped}
 use Rattle.aff_run.specs.Run.{Call, make, put, close, State, next, beginStep, needed, completed, step, afterCall, Run, runBegin, runStart}
@@ -28,8 +28,8 @@ use Rattle.aff_run.proofs.BeginInvariantLaws.{begin-stores}
 use Rattle.aff_run.proofs.BeginRefusedLaws.{none-stored}
 use Rattle.aff_run.proofs.RunLaws.{needed-made, next-unchanged}
 use Rattle.aff.specs.Leaves.{OpeningLeaves, ReadingLeaves, BeginLeaves, WritingLeaves}
-use Rattle.aff_read.specs.ListingOrder.{listingOrder, listedCount, listingAnswer}
-use Rattle.aff_read.specs.declared.choice.Choice.{Choice}
+use Rattle.aff_listing.specs.ListingOrder.{listingOrder, listedCount, listingAnswer}
+use Rattle.aff_listing.specs.declared.choice.Choice.{Choice}
 use Rattle.aff_read.proofs.OutputLaws.{text-fits, wrote}
 
 -- ---- Opening.

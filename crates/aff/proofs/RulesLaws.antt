@@ -55,7 +55,7 @@ use Rattle.aff_write.specs.Put.{takesNone, wrongData, putPlace, putStores, data
 use Rattle.aff_run.proofs.BeginInvariantLaws.{lengths-right}
 use Rattle.aff_run.proofs.InvariantLaws.{is-void}
 use Rattle.aff.specs.Rules.{fits, decodeRules, existsRules, lookupRules, ReadingByRules, beginRules, DataFits, writerRules, NoSuchChild, Few, makeRules, putRules, closeRules, WritingByRules}
-use Rattle.aff_read.specs.ListingOrder.{listedCount, listingAnswer}
+use Rattle.aff_listing.specs.ListingOrder.{listedCount, listingAnswer}
 
 -- ---- Tests and what they ask.
 

@@ -35,8 +35,8 @@ use Rattle.aff_run.specs.Run.{Call, make, put, close, State, step, Run, runBegi
 use Rattle.aff.specs.Leaves.{OpeningLeaves, ReadingLeaves, BeginLeaves, WritingLeaves}
 use Rattle.aff_format.specs.Rule.{By, Is}
 use Rattle.aff.specs.Rules.{decodeRules, ReadingByRules, beginRules, WritingByRules}
-use Rattle.aff_read.specs.ListingOrder.{listingAnswer}
-use Rattle.aff_read.specs.declared.choice.Choice.{Choice}
+use Rattle.aff_listing.specs.ListingOrder.{listingAnswer}
+use Rattle.aff_listing.specs.declared.choice.Choice.{Choice}
 
 -- An answer is no refusal by this number.
 abbrev pub NotBy : {A : Type 0} → ℕ → Answer A → Type 0

@@ -33,13 +33,13 @@ use Rattle.aff_open.specs.declared.reader.Reader.{Reader}
 use Rattle.aff_read.specs.Answers.{nameAnswer, kindAnswer, countAnswer, viewAnswer, elementAnswer}
 use Rattle.aff_read.specs.Paths.{editionBy, lookupAnswer}
 use Rattle.aff_read.specs.Lookup.{LowestWith, NoneWith}
-use Rattle.aff_read.specs.Once.{occurrences}
+use Rattle.aff_listing.specs.Once.{occurrences}
 use Rattle.aff_read.specs.Recall.{nameAt, pathAt}
 use Rattle.aff_read.specs.Shows.{PartIs, Absent}
 use Rattle.aff.specs.Cases.{EachHolds, caseTable}
-use Rattle.aff_read.specs.ListingOrder.{lists, preorder, kept, keptBelow, listingOrder, listingAnswer}
-use Rattle.aff_read.specs.declared.choice.Choice.{Choice}
-use Rattle.aff_read.specs.declared.choice.Choice.the-variants.{AllNodes, NotVoid}
+use Rattle.aff_listing.specs.ListingOrder.{lists, preorder, kept, keptBelow, listingOrder, listingAnswer}
+use Rattle.aff_listing.specs.declared.choice.Choice.{Choice}
+use Rattle.aff_listing.specs.declared.choice.Choice.the-variants.{AllNodes, NotVoid}
 
 -- The bytes that an entry names: its count of elements, from its offset on; none where it is Void.
 abbrev pub dataNamed : List ℕ → Entry → List ℕ

@@ -19,8 +19,8 @@ use Rattle.aff_read.specs.Recall.{pathAt}
 use Rattle.aff_areas.specs.Stores.{applyStores}
 use Rattle.aff_areas.specs.Writer.{noWriter, freshWriter, stopped}
 use Rattle.aff_run.specs.Run.{Call, State, needed, completed, step, afterCall, Run, runBegin, runStart}
-use Rattle.aff_read.specs.ListingOrder.{listingOrder, listingAnswer}
-use Rattle.aff_read.specs.declared.choice.Choice.{Choice}
+use Rattle.aff_listing.specs.ListingOrder.{listingOrder, listingAnswer}
+use Rattle.aff_listing.specs.declared.choice.Choice.{Choice}
 
 -- ---- Opening.
 

@@ -29,8 +29,8 @@ use Rattle.aff_areas.specs.declared.writer.Writer.{Writer}
 use Rattle.aff_write.specs.Close.{closeStores, closeAnswer}
 use Rattle.aff_write.specs.Make.{addedStrings, addedText, makeAnswer}
 use Rattle.aff_write.specs.Put.{putAnswer}
-use Rattle.aff_read.specs.ListingOrder.{listedCount, listingAnswer}
-use Rattle.aff_read.specs.declared.choice.Choice.{Choice}
+use Rattle.aff_listing.specs.ListingOrder.{listedCount, listingAnswer}
+use Rattle.aff_listing.specs.declared.choice.Choice.{Choice}
 
 -- 21: an output has a place for so many bytes or numbers.
 abbrev pub fits : ℕ → ℕ → List Rule

@@ -8,10 +8,10 @@ pub use aff_open::form_for;
 pub use aff_open::open;
 
 // Answers of an opened image.
-pub use aff_read::Choice;
+pub use aff_listing::Choice;
+pub use aff_listing::listing::listing;
 pub use aff_read::KindAnswer;
 pub use aff_read::PartAnswer;
-pub use aff_read::listing::listing;
 pub use aff_read::node::count;
 pub use aff_read::node::element;
 pub use aff_read::node::kind;

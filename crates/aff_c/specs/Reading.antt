@@ -14,8 +14,8 @@ use Rattle.aff_format.specs.declared.element.Element.the-variants.{Byte, Int, R
 use Rattle.aff_format.specs.declared.kind.FoundKind.{FoundKind}
 use Rattle.aff_format.specs.declared.kind.FoundKind.the-variants.{Known, Unknown}
 use Rattle.aff_open.specs.declared.reader.Reader.{Reader}
-use Rattle.aff_read.specs.declared.choice.Choice.{Choice}
-use Rattle.aff_read.specs.declared.choice.Choice.the-variants.{AllNodes, NotVoid}
+use Rattle.aff_listing.specs.declared.choice.Choice.{Choice}
+use Rattle.aff_listing.specs.declared.choice.Choice.the-variants.{AllNodes, NotVoid}
 
 -- The edition of 64 bits: 0, which does not exist, where it has more than 32.
 unfoldable pub editionNumberIn : ℕ → ℕ

@@ -9,7 +9,7 @@ use aff_format::NumberAnswer;
 use aff_format::element;
 use aff_open::Reader;
 use aff_open::Span;
-use aff_read::Choice;
+use aff_listing::Choice;
 use aff_read::KindAnswer;
 use aff_read::PartAnswer;
 ghost use mathlib.Core.Path.{_≡_};
@@ -23,7 +23,7 @@ ghost use Rattle.aff_read.specs.Answers.{answerOfKind, answerOfPart, nameAnswer
 ghost use Rattle.aff_read.specs.Paths.{frontWritten, pathAnswer, lookupAnswer};
 ghost use Rattle.aff_read.specs.Recall.{pathAt};
 ghost use Rattle.aff_c.specs.Reading.{editionNumberIn, readerIn, numberBy, choiceBy, leftBy, realPart, imaginaryPart, decodedAnswer};
-ghost use Rattle.aff_read.specs.ListingOrder.{listingOrder, listingAnswer};
+ghost use Rattle.aff_listing.specs.ListingOrder.{listingOrder, listingAnswer};
 
 fn edition_of(number: u64) -> u32
     ensures { λ r. ⌜ r ≡ editionNumberIn number ⌝ }
@@ -248,7 +248,7 @@ fn choice_of(all: bool) -> Choice
     Choice::NotVoid
 }
 
-// Writes listing order at the front of an output, as `aff_read::listing::listing` does, and reports how many numbers it wrote.
+// Writes listing order at the front of an output, as `aff_listing::listing::listing` does, and reports how many numbers it wrote.
 #[no_mangle]
 pub extern "C" fn aff_listing(
     image: &[u8],
@@ -263,7 +263,7 @@ pub extern "C" fn aff_listing(
     ensures output { λ _. ⌜ now (output .exit) ≡ frontWritten (listingAnswer (now (image .entry)) (readerIn (now («record» .entry))) (now (strings .entry)) (now (entries .entry)) (choiceBy all) (length (now (output .entry)))) (listingOrder (now (image .entry)) (readerIn (now («record» .entry))) (now (strings .entry)) (now (entries .entry)) (choiceBy all)) (now (output .entry)) ⌝ }
     ensures count { λ _. ⌜ now (count .exit) ≡ leftBy (λ (n : ℕ). n) (now (count .entry)) (listingAnswer (now (image .entry)) (readerIn (now («record» .entry))) (now (strings .entry)) (now (entries .entry)) (choiceBy all) (length (now (output .entry)))) ⌝ }
 {
-    let answer = aff_read::listing::listing(
+    let answer = aff_listing::listing::listing(
         image,
         reader_of(record),
         strings,

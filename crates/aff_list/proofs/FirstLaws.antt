@@ -15,7 +15,7 @@ use Rattle.aff_open.specs.Opening.{verdictOf, readerAfter, stringsAfter, entrie
 use Rattle.aff_open.specs.Reader.{noReader}
 use Rattle.aff_open.specs.Sections.{formFor}
 use Rattle.aff_open.specs.declared.reader.Reader.{Reader}
-use Rattle.aff_read.specs.declared.choice.Choice.{Choice}
+use Rattle.aff_listing.specs.declared.choice.Choice.{Choice}
 use Rattle.aff_read.specs.passes.Written.{Written}
 use Rattle.aff_read.proofs.WrittenLaws.{written-front, written-taken}
 use Rattle.aff_list.specs.Lister.{inputLimit, isLong, Ready, Fills, Starts, judged, answerOfPrepared, linesBy, linesAfter, orderAfter, printedText, refusalLine, tooLongLine, listed, printed, rowsFrom}

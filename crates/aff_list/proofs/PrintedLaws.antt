@@ -21,11 +21,11 @@ use Rattle.aff_open.proofs.BelongsLaws.{belongs-record}
 use Rattle.aff_open.proofs.OpenedLaws.{opened-belongs}
 use Rattle.aff_open.proofs.FaultLaws.{lengths-asks}
 use Rattle.aff_tables.proofs.OrderLaws.{split}
-use Rattle.aff_read.specs.ListingOrder.{listingOrder}
+use Rattle.aff_listing.specs.ListingOrder.{listingOrder}
 use Rattle.aff_read.specs.Recall.{kindAt}
-use Rattle.aff_read.specs.declared.choice.Choice.{Choice}
-use Rattle.aff_read.specs.declared.choice.Choice.the-variants.{NotVoid}
-use Rattle.aff_read.proofs.ListedLaws.{order-none}
+use Rattle.aff_listing.specs.declared.choice.Choice.{Choice}
+use Rattle.aff_listing.specs.declared.choice.Choice.the-variants.{NotVoid}
+use Rattle.aff_listing.proofs.ListedLaws.{order-none}
 use Rattle.aff_list.specs.Lister.{inputLimit, rows, rowsFrom, Starts, FilledFrom, none, more, judged, withPaths, printedText, tooLongLine, listed, zeroArea, printed, Printing}
 use Rattle.aff_list.proofs.DigitLaws.{digits-enough}
 

@@ -23,12 +23,12 @@ use Rattle.aff_open.specs.declared.opening.Opening.{Opening}
 use Rattle.aff_open.specs.declared.reader.Reader.{Reader}
 use Rattle.aff_open.proofs.BelongsLaws.{belongs-record}
 use Rattle.aff_open.proofs.OpenedLaws.{opened-belongs}
-use Rattle.aff_read.specs.ListingOrder.{listingOrder, listedCount}
+use Rattle.aff_listing.specs.ListingOrder.{listingOrder, listedCount}
 use Rattle.aff_read.specs.Recall.{pathAt}
-use Rattle.aff_read.specs.declared.choice.Choice.{Choice}
+use Rattle.aff_listing.specs.declared.choice.Choice.{Choice}
 use Rattle.aff_read.specs.passes.Capped.{capped}
 use Rattle.aff_read.proofs.CappedLaws.{capped-over, capped-exact}
-use Rattle.aff_read.proofs.ListedLaws.{order-exist, order-length, count-most}
+use Rattle.aff_listing.proofs.ListedLaws.{order-exist, order-length, count-most}
 use Rattle.aff_list.specs.Lister.{pathLimit, pathTooLong, pathChecks, Ready, withPaths, judged, answerOfPrepared, linesBy, linesAfter, withOrder, orderAfter}
 use Rattle.aff_list.specs.declared.blocks.Prepared.{Prepared}
 

@@ -14,10 +14,10 @@ use Rattle.aff_open.specs.Opening.{openAnswer, verdictOf, stringsAfter, entries
 use Rattle.aff_open.specs.Sections.{formFor}
 use Rattle.aff_open.specs.declared.reader.Reader.{Reader}
 use Rattle.aff_read.specs.Paths.{frontWritten}
-use Rattle.aff_read.specs.ListingOrder.{listingOrder, listedCount}
+use Rattle.aff_listing.specs.ListingOrder.{listingOrder, listedCount}
 use Rattle.aff_read.specs.Recall.{kindAt, pathAt}
-use Rattle.aff_read.specs.declared.choice.Choice.{Choice}
-use Rattle.aff_read.specs.declared.choice.Choice.the-variants.{NotVoid}
+use Rattle.aff_listing.specs.declared.choice.Choice.{Choice}
+use Rattle.aff_listing.specs.declared.choice.Choice.the-variants.{NotVoid}
 use Rattle.aff_list.specs.Line.{decimal, lineAt}
 use Rattle.aff_list.specs.declared.blocks.Prepared.{Prepared}
 

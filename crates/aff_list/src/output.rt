@@ -1,7 +1,7 @@
 // The programs `list` and `listall`. No contract can say what is read or written: `first_block` and `fill` promise that the blocks, one after another, are the
 // text that is to be printed of the input (`in-order` of `Printing`), and the functions here write them in that order.
 use crate::blocks;
-use aff_read::Choice;
+use aff_listing::Choice;
 use libc::STDIN_FILENO;
 ghost use Prim.Native.Nat.{_≤_, _<_};
 ghost use lib.ListN.{length};

@@ -10,11 +10,5 @@ pub mod ChainLaws
 pub mod StepLaws
 pub mod LookupLaws
 pub mod WrittenLaws
-pub mod ListingLaws
-pub mod ChildLaws
-pub mod OnceLaws
-pub mod KeptLaws
-pub mod ListedLaws
 pub mod UniqueLaws
-pub mod WholeLaws
 pub mod OutputLaws

@@ -2,8 +2,6 @@
 pub mod Recall
 pub mod Answers
 pub mod Paths
-pub mod ListingOrder
 pub mod Lookup
-pub mod Once
 pub mod passes
 pub mod Shows

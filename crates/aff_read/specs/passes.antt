@@ -3,4 +3,3 @@ pub mod Written
 pub mod Capped
 pub mod Climb
 pub mod Fit
-pub mod Children

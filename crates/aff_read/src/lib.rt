@@ -4,10 +4,6 @@
 pub mod answers; // what the calls return
 pub mod node; // name, kind, count and data of a node
 pub mod paths; // the path of a node, and lookup by path
-pub mod choice; // which nodes a listing has
-mod children; // the children of each node in number order
-pub mod listing; // listing order
 
 pub use answers::KindAnswer;
 pub use answers::PartAnswer;
-pub use choice::Choice;

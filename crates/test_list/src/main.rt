@@ -4,8 +4,8 @@
 use aff_format::NumberAnswer;
 use aff_format::Verdict;
 use aff_open::Reader;
-use aff_read::Choice;
-use aff_read::listing;
+use aff_listing::Choice;
+use aff_listing::listing;
 
 // The answer of the listing call for an output of so many places.
 fn answer(

@@ -1,7 +1,7 @@
 // For tests: what `list` or `listall` prints of an image, by the same functions, with a block above 1,024 bytes shown by its length and its MD5 sum.
 use aff_format::number;
 use aff_list::blocks;
-use aff_read::Choice;
+use aff_listing::Choice;
 use libc::STDOUT_FILENO;
 
 fn brief(block: &[u8]) {

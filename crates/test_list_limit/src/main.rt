@@ -1,5 +1,5 @@
 // The program `list` again, run here on one byte above its limit.
-use aff_read::Choice;
+use aff_listing::Choice;
 
 fn main() {
     aff_list::run(Choice::NotVoid);

@@ -5,7 +5,7 @@
 // Prints: # some text, s sums of what is passed, x the buffer, l the buffer as `listall` prints it, o the buffer opened and read.
 use crate::record;
 use aff_format::number;
-use aff_read::Choice;
+use aff_listing::Choice;
 use aff_write::Writer;
 use aff_write::Writing;
 use test_dump::show;

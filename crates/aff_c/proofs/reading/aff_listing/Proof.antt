@@ -6,8 +6,8 @@ use Prim.Native.Nat.{ℕ}
 use lib.ListN.{length}
 use Rattle.aff_format.specs.Answer.{Answer}
 use Rattle.aff_open.specs.declared.reader.Reader.{Reader}
-use Rattle.aff_read.specs.ListingOrder.{listingOrder, listingAnswer}
-use Rattle.aff_read.specs.declared.choice.Choice.{Choice}
+use Rattle.aff_listing.specs.ListingOrder.{listingOrder, listingAnswer}
+use Rattle.aff_listing.specs.declared.choice.Choice.{Choice}
 use Rattle.aff_c.specs.Reading.{readerIn, numberBy, leftBy}
 use Rattle.aff_c.proofs.ReadingLaws.{front-by}
 use Rattle.aff_c.proofs.reading.aff_listing.Statement.{statement}

@@ -2,7 +2,7 @@
 use borrow.Author.Needs.{needs}
 use mathlib.Core.Path.{refl}
 use native.Mathlib.Omega.{arith}
-use Rattle.aff_read.proofs.ListedLaws.{order-exist}
+use Rattle.aff_listing.proofs.ListedLaws.{order-exist}
 use Rattle.aff_list.proofs.ReadyLaws.{order-front, paths-refuse, paths-accept, order-few}
 use Rattle.aff_list.proofs.blocks.prepare.Statement.{statement}
 use Rattle.aff_list.proofs.blocks.prepare.Tie as tie

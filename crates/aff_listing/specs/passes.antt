@@ -1,0 +1,2 @@
+-- What only the contracts of inner passes cite; a user of the library needs none of it.
+pub mod Children
