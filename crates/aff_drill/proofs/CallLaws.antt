@@ -20,7 +20,7 @@ use Rattle.aff_run.specs.Cut.{limitCalls}
 use Rattle.aff_run.specs.Run.{Call, make, put, close, State, next, beginStep, answerTo, step, afterCall, stateAfter, Run, runBegin, runStart}
 use Rattle.aff_run.proofs.CutLaws.{make-stores, put-reports, begin-reports}
 use Rattle.aff.specs.Worked.{nameA, nameN, minusSeventy, workedCalls}
-use Rattle.aff_drill.specs.Drill.{given, named, lastCalls, CutFrom, drillRun, CutRun}
+use Rattle.aff_drill.specs.Drill.{stateOf, named, lastCalls, CutFrom, drillRun, CutRun}
 
 -- ---- The stores reported.
 
@@ -35,7 +35,7 @@ reported-none t u e n = rw (← e, ne-eqb (t .number) 23 n)
 -- What a make leaves is what the next call is given.
 module _ (w : Writer) (x t i : List ℕ) (parent : ℕ) (name : List ℕ) (a : Answer ℕ) (w′ : Writer) (x′ t′ : List ℕ) where
   made-next : a ≡ makeAnswer (length i) w x t parent name → w′ ≡ writerAfter a (madeWriter w x name) w → x′ ≡ areaAfter a (madeText w x name) x
-      → t′ ≡ areaAfter a (madeTree w x t parent name) t → afterCall (given w x t i) (make parent name) ≡ given w′ x′ t′ i
+      → t′ ≡ areaAfter a (madeTree w x t parent name) t → afterCall (stateOf w x t i) (make parent name) ≡ stateOf w′ x′ t′ i
   unfolding step applyStores
   made-next ha hw hx ht = rw (hw, hx, ht, ha, take-nil (storesReported (makeAnswer (length i) w x t parent name)))
 
@@ -44,12 +44,12 @@ module _ (w : Writer) (x t i : List ℕ) (a b : Answer ℕ) (w₁ : Writer) (x�
     (ht : t₁ ≡ areaAfter a (madeTree w x t 0 nameA) t)
     (hb : b ≡ makeAnswer (length i) w₁ x₁ t₁ 1 nameN) (kw : w₂ ≡ writerAfter b (madeWriter w₁ x₁ nameN) w₁) (kx : x₂ ≡ areaAfter b (madeText w₁ x₁ nameN) x₁)
     (kt : t₂ ≡ areaAfter b (madeTree w₁ x₁ t₁ 1 nameN) t₁) where
-  both-made : named (given w x t i) ≡ given w₂ x₂ t₂ i
+  both-made : named (stateOf w x t i) ≡ stateOf w₂ x₂ t₂ i
   both-made =
       ap (λ (s : State). afterCall s (make 1 nameN)) (made-next w x t i 0 nameA a w₁ x₁ t₁ ha hw hx ht)
       ∙ made-next w₁ x₁ t₁ i 1 nameN b w₂ x₂ t₂ hb kw kx kt
 
-  pub both-left : (w₂ ≡ named (given w x t i) .writer) × ((x₂ ≡ named (given w x t i) .text) × (t₂ ≡ named (given w x t i) .tree))
+  pub both-left : (w₂ ≡ named (stateOf w x t i) .writer) × ((x₂ ≡ named (stateOf w x t i) .text) × (t₂ ≡ named (stateOf w x t i) .tree))
   both-left =
       (ap (λ (s : State). s .writer) (sym both-made), (ap (λ (s : State). s .text) (sym both-made), ap (λ (s : State). s .tree) (sym both-made)))
 
@@ -58,7 +58,7 @@ module _ (w : Writer) (x t i : List ℕ) (a b : Answer ℕ) (w₁ : Writer) (x�
 module _ (w : Writer) (x t i bytes : List ℕ) (node type allowance : ℕ) (a : Answer ℕ) (w′ : Writer) (t′ i′ : List ℕ)
     (ha : a ≡ putAnswer (length i) w x t node type bytes allowance) (hw : w′ ≡ writerAfter a (putWriter w bytes) w)
     (ht : t′ ≡ areaAfter a (putTree w t node type bytes) t) (hi : i′ ≡ bufferAfter a (putStores w bytes) i) where
-  pub put-left : let p = step (given w x t i) (put node type bytes allowance) in
+  pub put-left : let p = step (stateOf w x t i) (put node type bytes allowance) in
       (a ≡ p .answer) × ((w′ ≡ p .writer) × ((t′ ≡ p .tree) × (i′ ≡ applyStores i (p .stores))))
   unfolding step
   put-left = (ha, (rw (hw, ha), (rw (ht, ha), rw (hi, ha))))
@@ -80,7 +80,7 @@ closed-buffer s rest b after hb h = rw (h, hb)
 
 module _ (w : Writer) (x t i : List ℕ) (allowance : ℕ) (a b : Answer ℕ) (w₁ : Writer) (t₁ i₁ : List ℕ) (rest : ℕ) (after : List ℕ) where
   abbrev first : State
-  first = given w x t i
+  first = stateOf w x t i
 
   pub finished-cut : let p = step first (put 2 3 minusSeventy allowance) in
       a ≡ p .answer → w₁ ≡ p .writer → t₁ ≡ p .tree → i₁ ≡ applyStores i (p .stores) → rest ≡ allowance - storesReported a
@@ -89,9 +89,9 @@ module _ (w : Writer) (x t i : List ℕ) (allowance : ℕ) (a b : Answer ℕ) (w
       let p = step first (put 2 3 minusSeventy allowance) in
       let m : min most allowance ≡ allowance = omega arith in
       let k : min most (allowance - length (p .stores)) ≡ allowance - length (p .stores) = omega arith in
-      let e : given w₁ x t₁ i₁ ≡ next p i = rw (hw, ht, hi, put-text first allowance) in
+      let e : stateOf w₁ x t₁ i₁ ≡ next p i = rw (hw, ht, hi, put-text first allowance) in
       let n : rest ≡ allowance - length (p .stores) = hr ∙ ap (λ (j : ℕ). allowance - j) (ap storesReported ha ∙ sym (put-reports first 2 3 minusSeventy allowance)) in
-      rw (m, k) (closed-buffer (given w₁ x t₁ i₁) rest b after hb h ∙ ap₂ (λ (s : State) (j : ℕ). afterCall s (close j) .buffer) e n)
+      rw (m, k) (closed-buffer (stateOf w₁ x t₁ i₁) rest b after hb h ∙ ap₂ (λ (s : State) (j : ℕ). afterCall s (close j) .buffer) e n)
 
 -- ---- The calls after begin, and the run.
 
@@ -110,12 +110,12 @@ module _ (s : State) (parent : ℕ) (name : List ℕ) where
       ap (λ (n : ℕ). stateAfter made (limitCalls made n cs)) z
 
 pub filled-cut : (w : Writer) (x t i : List ℕ) (allowance : ℕ) (w₁ : Writer) (x₁ t₁ after : List ℕ)
-    → w₁ ≡ named (given w x t i) .writer → x₁ ≡ named (given w x t i) .text → t₁ ≡ named (given w x t i) .tree
-    → CutFrom (given w₁ x₁ t₁ i) allowance lastCalls after → CutFrom (given w x t i) allowance (λ most. workedCalls most most) after
+    → w₁ ≡ named (stateOf w x t i) .writer → x₁ ≡ named (stateOf w x t i) .text → t₁ ≡ named (stateOf w x t i) .tree
+    → CutFrom (stateOf w₁ x₁ t₁ i) allowance lastCalls after → CutFrom (stateOf w x t i) allowance (λ most. workedCalls most most) after
 filled-cut w x t i allowance w₁ x₁ t₁ after hw hx ht h most le =
-    let s = given w x t i in
+    let s = stateOf w x t i in
     let t = made s 0 nameA in
-    let e : given w₁ x₁ t₁ i ≡ named s = rw (hw, hx, ht, make-buffer t 1 nameN, make-buffer s 0 nameA) in
+    let e : stateOf w₁ x₁ t₁ i ≡ named s = rw (hw, hx, ht, make-buffer t 1 nameN, make-buffer s 0 nameA) in
     h most le
     ∙ ap (λ (q : State). stateAfter q (limitCalls q allowance (lastCalls most)) .buffer) e
     ∙ ap (λ (q : State). q .buffer) (sym (after-make s 0 nameA allowance (make 1 nameN ∷ lastCalls most) ∙ after-make t 1 nameN allowance (lastCalls most)))
@@ -126,11 +126,11 @@ module _ (buffer form text tree : List ℕ) (k : ℕ) (a : Answer ℕ) (w : Writ
   abbrev began : Run
   began = drillRun buffer form text tree k
 
-  begin-next : (given w x t i ≡ runStart began) × (a ≡ runBegin began .answer)
+  begin-next : (stateOf w x t i ≡ runStart began) × (a ≡ runBegin began .answer)
   unfolding beginStep
   begin-next = (rw (hw, hi, hx, ht, ha), ha)
 
-  pub run-cut : CutFrom (given w x t i) rest (λ most. workedCalls most most) after → CutRun buffer form text tree k after
+  pub run-cut : CutFrom (stateOf w x t i) rest (λ most. workedCalls most most) after → CutRun buffer form text tree k after
   run-cut h most le =
       let m : min most k ≡ k = omega arith in
       let n : rest ≡ k - length (runBegin began .stores) = hr ∙ ap (λ (j : ℕ). k - j) (ap storesReported (begin-next .1) ∙ sym (begin-reports began)) in

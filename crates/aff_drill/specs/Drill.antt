@@ -14,9 +14,9 @@ use Rattle.aff_run.specs.Cut.{limitCalls, cut}
 use Rattle.aff_run.specs.Run.{Call, make, put, close, State, afterCall, stateAfter, Run, runState}
 use Rattle.aff.specs.Worked.{nameA, nameN, minusSeventy, workedForm, workedCalls}
 
--- What a call is given.
-abbrev pub given : Writer → List ℕ → List ℕ → List ℕ → State
-given writer text tree buffer = record { writer = writer; text = text; tree = tree; buffer = buffer }
+-- The state that a call is given.
+abbrev pub stateOf : Writer → List ℕ → List ℕ → List ℕ → State
+stateOf writer text tree buffer = record { writer = writer; text = text; tree = tree; buffer = buffer }
 
 -- What is given after both makes.
 abbrev pub named : State → State

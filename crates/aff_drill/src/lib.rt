@@ -17,7 +17,7 @@ ghost use Rattle.aff_open.specs.Opening.{openAnswer, answerOfOpening};
 ghost use Rattle.aff_areas.specs.Stores.{applyStores, storesReported};
 ghost use Rattle.aff_run.specs.Run.{put, step};
 ghost use Rattle.aff.specs.Worked.{minusSeventy, workedCalls};
-ghost use Rattle.aff_drill.specs.Drill.{given, named, lastCalls, CutFrom, CutRun, CutDrill, reopened, drilled};
+ghost use Rattle.aff_drill.specs.Drill.{stateOf, named, lastCalls, CutFrom, CutRun, CutDrill, reopened, drilled};
 
 // The stores that a refusal reports.
 fn reported_by(refusal: Refusal) -> usize
@@ -51,9 +51,9 @@ fn left(allowance: usize, answer: NumberAnswer) -> usize
 
 // Both makes. It returns the record after them.
 fn make_names(buffer: &[u8], writer: Writer, text: &mut [u8], tree: &mut [u8]) -> Writer
-    ensures record { λ r. ⌜ r ≡ named (given writer (now (text .entry)) (now (tree .entry)) (now (buffer .entry))) .writer ⌝ }
-    ensures text { λ _. ⌜ now (text .exit) ≡ named (given writer (now (text .entry)) (now (tree .entry)) (now (buffer .entry))) .text ⌝ }
-    ensures tree { λ _. ⌜ now (tree .exit) ≡ named (given writer (now (text .entry)) (now (tree .entry)) (now (buffer .entry))) .tree ⌝ }
+    ensures record { λ r. ⌜ r ≡ named (stateOf writer (now (text .entry)) (now (tree .entry)) (now (buffer .entry))) .writer ⌝ }
+    ensures text { λ _. ⌜ now (text .exit) ≡ named (stateOf writer (now (text .entry)) (now (tree .entry)) (now (buffer .entry))) .text ⌝ }
+    ensures tree { λ _. ⌜ now (tree .exit) ≡ named (stateOf writer (now (text .entry)) (now (tree .entry)) (now (buffer .entry))) .tree ⌝ }
 {
     let first = aff::make(buffer, writer, text, tree, 0, b"a");
     let second = aff::make(buffer, first.writer, text, tree, 1, b"n");
@@ -68,10 +68,10 @@ fn put_number(
     tree: &mut [u8],
     allowance: usize,
 ) -> Writing
-    ensures answer { λ r. ⌜ answerOfNumber (r .answer) ≡ step (given writer (now (text .entry)) (now (tree .entry)) (now (buffer .entry))) (put 2 3 minusSeventy allowance) .answer ⌝ }
-    ensures record { λ r. ⌜ r .writer ≡ step (given writer (now (text .entry)) (now (tree .entry)) (now (buffer .entry))) (put 2 3 minusSeventy allowance) .writer ⌝ }
-    ensures tree { λ _. ⌜ now (tree .exit) ≡ step (given writer (now (text .entry)) (now (tree .entry)) (now (buffer .entry))) (put 2 3 minusSeventy allowance) .tree ⌝ }
-    ensures buffer { λ _. ⌜ now (buffer .exit) ≡ applyStores (now (buffer .entry)) (step (given writer (now (text .entry)) (now (tree .entry)) (now (buffer .entry))) (put 2 3 minusSeventy allowance) .stores) ⌝ }
+    ensures answer { λ r. ⌜ answerOfNumber (r .answer) ≡ step (stateOf writer (now (text .entry)) (now (tree .entry)) (now (buffer .entry))) (put 2 3 minusSeventy allowance) .answer ⌝ }
+    ensures record { λ r. ⌜ r .writer ≡ step (stateOf writer (now (text .entry)) (now (tree .entry)) (now (buffer .entry))) (put 2 3 minusSeventy allowance) .writer ⌝ }
+    ensures tree { λ _. ⌜ now (tree .exit) ≡ step (stateOf writer (now (text .entry)) (now (tree .entry)) (now (buffer .entry))) (put 2 3 minusSeventy allowance) .tree ⌝ }
+    ensures buffer { λ _. ⌜ now (buffer .exit) ≡ applyStores (now (buffer .entry)) (step (stateOf writer (now (text .entry)) (now (tree .entry)) (now (buffer .entry))) (put 2 3 minusSeventy allowance) .stores) ⌝ }
 {
     aff::put(
         buffer,
@@ -87,7 +87,7 @@ fn put_number(
 
 // Put and close.
 fn finish(buffer: &mut [u8], writer: Writer, text: &[u8], tree: &mut [u8], allowance: usize)
-    ensures { λ _. ⌜ CutFrom (given writer (now (text .entry)) (now (tree .entry)) (now (buffer .entry))) allowance lastCalls (now (buffer .exit)) ⌝ }
+    ensures { λ _. ⌜ CutFrom (stateOf writer (now (text .entry)) (now (tree .entry)) (now (buffer .entry))) allowance lastCalls (now (buffer .exit)) ⌝ }
 {
     let put = put_number(buffer, writer, text, tree, allowance);
     let answer = put.answer;
@@ -97,7 +97,7 @@ fn finish(buffer: &mut [u8], writer: Writer, text: &[u8], tree: &mut [u8], allow
 
 // All calls after begin.
 fn fill(buffer: &mut [u8], writer: Writer, text: &mut [u8], tree: &mut [u8], allowance: usize)
-    ensures { λ _. ⌜ CutFrom (given writer (now (text .entry)) (now (tree .entry)) (now (buffer .entry))) allowance (λ most. workedCalls most most) (now (buffer .exit)) ⌝ }
+    ensures { λ _. ⌜ CutFrom (stateOf writer (now (text .entry)) (now (tree .entry)) (now (buffer .entry))) allowance (λ most. workedCalls most most) (now (buffer .exit)) ⌝ }
 {
     let both = make_names(buffer, writer, text, tree);
     finish(buffer, both, text, tree, allowance);
