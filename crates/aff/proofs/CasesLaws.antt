@@ -25,9 +25,9 @@ use Rattle.aff_format.specs.declared.refusal.RefusalCode.{RefusalCode}
 use Rattle.aff_format.proofs.AnswerLaws.{Others, others-reported, others-both}
 use Rattle.aff_format.proofs.EntryLaws.{length-entryBytes}
 use Rattle.aff_format.proofs.PathLaws.{path-complete}
-use Rattle.aff_open.specs.Belongs.{readerBelongs}
-use Rattle.aff_open.specs.declared.reader.Reader.{Reader}
-use Rattle.aff_open.proofs.BelongsLaws.{record-belongs as reader-belongs}
+use Rattle.aff_reader.specs.Belongs.{readerBelongs}
+use Rattle.aff_reader.specs.declared.reader.Reader.{Reader}
+use Rattle.aff_reader.proofs.BelongsLaws.{record-belongs as reader-belongs}
 use Rattle.aff_read.specs.Paths.{lowestOr0, editionBy, found, lookupAnswer}
 use Rattle.aff_read.proofs.LookupLaws.{lookup-malformed, lookup-at}
 use Rattle.aff_areas.specs.Belongs.{writerChecks}

@@ -16,11 +16,11 @@ use Rattle.aff_format.specs.Path.{isPath}
 use Rattle.aff_format.specs.Tree.{Tree}
 use Rattle.aff_format.specs.declared.refusal.RefusalCode.{RefusalCode}
 use Rattle.aff_format.proofs.AnswerLaws.{Others, others-reported}
-use Rattle.aff_open.specs.Belongs.{readerBelongs, ReaderBelongs}
+use Rattle.aff_reader.specs.Belongs.{readerBelongs, ReaderBelongs}
 use Rattle.aff_open.specs.Opening.{stringsAfter, entriesAfter}
-use Rattle.aff_open.specs.Reader.{noReader}
-use Rattle.aff_open.specs.declared.reader.Reader.{Reader}
-use Rattle.aff_open.proofs.BelongsLaws.{belongs-record as reader-clauses, record-belongs as reader-belongs, none-belongs}
+use Rattle.aff_reader.specs.Reader.{noReader}
+use Rattle.aff_reader.specs.declared.reader.Reader.{Reader}
+use Rattle.aff_reader.proofs.BelongsLaws.{belongs-record as reader-clauses, record-belongs as reader-belongs, none-belongs}
 use Rattle.aff_open.proofs.OpenedLaws.{opened-belongs}
 use Rattle.aff_read.specs.Answers.{nameAnswer, kindAnswer, countAnswer, viewAnswer, elementAnswer}
 use Rattle.aff_read.specs.Paths.{editionBy, found, pathAnswer, lookupAnswer}

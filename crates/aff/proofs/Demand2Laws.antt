@@ -13,7 +13,7 @@ use lib.ListN.{length, getD, take}
 use borrow.Author.Tests.{ne-eqb, lt-ltb, le-ltb, le-leb, lt-leb}
 use Rattle.aff_format.specs.Answer.{accepted, refused, check, refusal}
 use Rattle.aff_format.specs.Bytes.{part}
-use Rattle.aff_format.specs.Edition.{editionNumber}
+use Rattle.aff_format.specs.Edition.{editionNumber, orTwo}
 use Rattle.aff_format.specs.Element.{elementAt}
 use Rattle.aff_format.specs.Kind.{elementSize, isVoid}
 use Rattle.aff_format.specs.Lowest.{isAt}
@@ -26,15 +26,15 @@ use Rattle.aff_format.proofs.EditionLaws.{edition-of-number}
 use Rattle.aff_format.proofs.PathLaws.{path-sound, path-complete}
 use Rattle.aff_format.proofs.ClimbLaws.{reaches-within}
 use Rattle.aff_format.proofs.TreeLaws.{front-root, front-step, path-other, front-same}
-use Rattle.aff_open.specs.Belongs.{ReaderBelongs, readerBelongs}
+use Rattle.aff_reader.specs.Belongs.{ReaderBelongs, readerBelongs}
 use Rattle.aff_tables.specs.Tables.{nodeEntry}
 use Rattle.aff_open.specs.Obeys.{Obeys}
 use Rattle.aff_open.specs.Opening.{openAnswer, readerFor, stringsAfter, entriesAfter}
 use Rattle.aff_format.specs.Recorded.{recordedEntry}
-use Rattle.aff_open.specs.Reader.{noSpan}
-use Rattle.aff_open.specs.Sections.{orTwo, editionIn, sectionRecords, stringsIn, nodesIn}
-use Rattle.aff_open.specs.declared.reader.Reader.{Reader}
-use Rattle.aff_open.proofs.BelongsLaws.{belongs-record, record-belongs}
+use Rattle.aff_reader.specs.Reader.{noSpan}
+use Rattle.aff_open.specs.Sections.{editionIn, sectionRecords, stringsIn, nodesIn}
+use Rattle.aff_reader.specs.declared.reader.Reader.{Reader}
+use Rattle.aff_reader.proofs.BelongsLaws.{belongs-record, record-belongs}
 use Rattle.aff_open.proofs.FaultLaws.{refused-first, first-refused}
 use Rattle.aff_open.proofs.ObeysLaws.{accepted-obeys, obeys-accepted, edition-found, strings-found, entries-found}
 use Rattle.aff_open.proofs.OpenedLaws.{OpenedShape, opened-shape, opened-belongs}

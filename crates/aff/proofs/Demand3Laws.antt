@@ -9,13 +9,13 @@ use lib.ListN.{length, getD, set, take}
 use lib.Seq.{take-length, getD-set-same}
 use borrow.Author.Tests.{le-ltb}
 use Rattle.aff_format.specs.Answer.{Answer, accepted, refused, refusal}
-use Rattle.aff_format.specs.Edition.{signatureText}
+use Rattle.aff_format.specs.Edition.{signatureText, isKnown}
 use Rattle.aff_format.specs.Bytes.{sameBytes}
 use Rattle.aff_format.specs.Limits.{imageLimit, stringLimit, nodeLimit}
 use Rattle.aff_format.specs.Tree.{Tree}
 use Rattle.aff_open.specs.Opening.{upToTables, openChecks, openAnswer}
-use Rattle.aff_open.specs.Sections.{textEdition, isKnown}
-use Rattle.aff_open.specs.declared.reader.Reader.{Reader}
+use Rattle.aff_open.specs.Sections.{textEdition}
+use Rattle.aff_reader.specs.declared.reader.Reader.{Reader}
 use Rattle.aff_open.proofs.FaultLaws.{lengths-asks}
 use Rattle.aff_areas.specs.Stores.{Store, applyStores}
 use Rattle.aff_areas.specs.Writer.{dataPlace}

@@ -13,9 +13,9 @@ use Rattle.aff_format.specs.declared.refusal.RefusalCode.{RefusalCode}
 use Rattle.aff_format.proofs.AnswerLaws.{isNone, Others, others-reported, passed}
 use Rattle.aff_open.specs.Opening.{lengthsWrong, headerChecks, bodyChecks, nodesChecked, upToTables, openChecks, openAnswer, readerFor, stringsAfter, entriesAfter}
 use Rattle.aff_open.specs.Sections.{editionIn}
-use Rattle.aff_open.specs.declared.reader.Reader.{Reader}
-use Rattle.aff_open.specs.Belongs.{readerBelongs}
-use Rattle.aff_open.proofs.BelongsLaws.{belongs-record}
+use Rattle.aff_reader.specs.declared.reader.Reader.{Reader}
+use Rattle.aff_reader.specs.Belongs.{readerBelongs}
+use Rattle.aff_reader.proofs.BelongsLaws.{belongs-record}
 use Rattle.aff_open.proofs.NumbersLaws.{open-numbers}
 use Rattle.aff_read.specs.Answers.{existsChecks as numberChecks}
 use Rattle.aff_read.specs.Paths.{pathAnswer}

@@ -28,13 +28,13 @@ use Rattle.aff_format.proofs.LowestLaws.{none-holds, holds-none, lowest-is, non
 use Rattle.aff_format.proofs.PathLaws.{path-sound, path-complete}
 use Rattle.aff_format.proofs.SameLaws.{same-refl, same-eq, same-ne}
 use Rattle.aff_format.proofs.TestLaws.{both, or-false}
-use Rattle.aff_open.specs.Belongs.{readerBelongs, ReaderBelongs}
+use Rattle.aff_reader.specs.Belongs.{readerBelongs, ReaderBelongs}
 use Rattle.aff_format.specs.Rule.{Rule, By, Is}
 use Rattle.aff_open.specs.Faults.{rules}
 use Rattle.aff_open.specs.Opening.{openAnswer, readerFor}
 use Rattle.aff_open.specs.Sections.{editionIn}
-use Rattle.aff_open.specs.declared.reader.Reader.{Reader}
-use Rattle.aff_open.proofs.BelongsLaws.{belongs-record as reader-clauses, record-belongs as reader-belongs}
+use Rattle.aff_reader.specs.declared.reader.Reader.{Reader}
+use Rattle.aff_reader.proofs.BelongsLaws.{belongs-record as reader-clauses, record-belongs as reader-belongs}
 use Rattle.aff_open.proofs.FaultLaws.{opening-settled}
 use Rattle.aff_format.proofs.RuleLaws.{AskFor, none, one, settled-by, by-checks, at-most, is-below, is-true}
 use Rattle.aff_read.specs.Answers.{existsChecks, nameAnswer, kindAnswer, countAnswer, viewAnswer, elementAnswer}

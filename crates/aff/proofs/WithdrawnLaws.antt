@@ -11,10 +11,10 @@ use Rattle.aff_format.specs.Element.{countIn, elementAt, decoded}
 use Rattle.aff_format.specs.Refusal.{numberOf}
 use Rattle.aff_format.specs.declared.kind.Kind.{Kind}
 use Rattle.aff_format.proofs.RefusalLaws.{rows-other}
-use Rattle.aff_open.specs.Belongs.{readerBelongs}
+use Rattle.aff_reader.specs.Belongs.{readerBelongs}
 use Rattle.aff_open.specs.Opening.{upToTables, openChecks, openAnswer, tablesAnswer, readerFor, sizesIn}
 use Rattle.aff_open.specs.Sections.{editionIn}
-use Rattle.aff_open.specs.declared.reader.Reader.{Reader}
+use Rattle.aff_reader.specs.declared.reader.Reader.{Reader}
 use Rattle.aff_open.proofs.NumbersLaws.{tables-numbers, open-numbers}
 use Rattle.aff_areas.specs.Belongs.{writerBelongs}
 use Rattle.aff_areas.specs.declared.writer.Writer.{Writer}

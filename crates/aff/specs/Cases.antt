@@ -15,8 +15,8 @@ use Rattle.aff_format.specs.declared.element.Element.the-variants as element
 use Rattle.aff_format.specs.declared.entry.Entry.{Entry}
 use Rattle.aff_format.specs.declared.kind.Kind.{Kind}
 use Rattle.aff_format.specs.declared.kind.Kind.the-variants.{Void, Int}
-use Rattle.aff_open.specs.Belongs.{ReaderBelongs}
-use Rattle.aff_open.specs.declared.reader.Reader.{Reader}
+use Rattle.aff_reader.specs.Belongs.{ReaderBelongs}
+use Rattle.aff_reader.specs.declared.reader.Reader.{Reader}
 use Rattle.aff_read.specs.Paths.{lookupAnswer}
 use Rattle.aff_areas.specs.Belongs.{WriterBelongs}
 use Rattle.aff_areas.specs.declared.writer.Writer.{Writer}

@@ -15,11 +15,11 @@ use Rattle.aff_format.specs.Element.{elementAt, decoded}
 use Rattle.aff_format.specs.Tree.{Tree}
 use Rattle.aff_format.specs.declared.kind.Kind.{Kind}
 use Rattle.aff_format.specs.declared.refusal.RefusalCode.{RefusalCode}
-use Rattle.aff_open.specs.Belongs.{ReaderBelongs}
+use Rattle.aff_reader.specs.Belongs.{ReaderBelongs}
 use Rattle.aff_open.specs.Faults.{rules}
 use Rattle.aff_open.specs.Opening.{openAnswer, readerFor, readerAfter, stringsAfter, entriesAfter}
 use Rattle.aff_open.specs.Sections.{editionIn}
-use Rattle.aff_open.specs.declared.reader.Reader.{Reader}
+use Rattle.aff_reader.specs.declared.reader.Reader.{Reader}
 use Rattle.aff_read.specs.Answers.{nameAnswer, kindAnswer, countAnswer, viewAnswer, elementAnswer}
 use Rattle.aff_read.specs.Paths.{pathAnswer, lookupAnswer}
 use Rattle.aff_areas.specs.Belongs.{WriterBelongs}

@@ -21,7 +21,7 @@ use Rattle.aff_format.specs.Tree.{pathBy}
 use Rattle.aff_format.specs.declared.entry.Entry.{Entry}
 use Rattle.aff_format.specs.declared.refusal.RefusalCode.{RefusalCode}
 use Rattle.aff_format.specs.declared.section.Section.the-variants.{Data}
-use Rattle.aff_open.specs.Belongs.{ReaderBelongs}
+use Rattle.aff_reader.specs.Belongs.{ReaderBelongs}
 use Rattle.aff_format.specs.Rule.{FirstFails}
 use Rattle.aff_open.specs.Faults.{rules}
 use Rattle.aff_tables.specs.Tables.{nodeEntry}
@@ -29,7 +29,7 @@ use Rattle.aff_open.specs.Obeys.{Obeys}
 use Rattle.aff_open.specs.Opening.{openAnswer, stringsAfter, entriesAfter}
 use Rattle.aff_format.specs.Recorded.{recordedEntry}
 use Rattle.aff_open.specs.Sections.{sectionRecords}
-use Rattle.aff_open.specs.declared.reader.Reader.{Reader}
+use Rattle.aff_reader.specs.declared.reader.Reader.{Reader}
 use Rattle.aff_read.specs.Answers.{nameAnswer, kindAnswer, countAnswer, viewAnswer, elementAnswer}
 use Rattle.aff_read.specs.Paths.{editionBy, lookupAnswer}
 use Rattle.aff_read.specs.Lookup.{LowestWith, NoneWith}

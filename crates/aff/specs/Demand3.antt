@@ -18,7 +18,7 @@ use lib.ListN.{length, take, drop}
 use Rattle.aff_format.specs.Answer.{accepted, refused, refusal, refusalAt}
 use Rattle.aff_format.specs.Limits.{stringLimit, nodeLimit}
 use Rattle.aff_open.specs.Opening.{openAnswer}
-use Rattle.aff_open.specs.declared.reader.Reader.{Reader}
+use Rattle.aff_reader.specs.declared.reader.Reader.{Reader}
 use Rattle.aff_areas.specs.Stores.{applyStores}
 use Rattle.aff_run.specs.Cut.{cut}
 use Rattle.aff_run.specs.TreeSizes.{nonVoidCount}

@@ -9,10 +9,10 @@ use lib.ListN.{length, take, replicate, set}
 use Rattle.aff_format.specs.Answer.{Answer, accepted, refused}
 use Rattle.aff_format.specs.declared.refusal.RefusalCode.{RefusalCode}
 use Rattle.aff_open.specs.Opening.{openAnswer, readerAfter, stringPlaces, nodePlaces, stringsAfter, entriesAfter}
-use Rattle.aff_open.specs.Reader.{noReader}
+use Rattle.aff_reader.specs.Reader.{noReader}
 use Rattle.aff_open.specs.Sections.{editionIn}
 use Rattle.aff_format.specs.Bytes.{laidOver}
-use Rattle.aff_open.specs.declared.reader.Reader.{Reader}
+use Rattle.aff_reader.specs.declared.reader.Reader.{Reader}
 use Rattle.aff_read.specs.Answers.{partOf, nameAnswer, viewAnswer}
 use Rattle.aff_read.specs.Paths.{frontWritten, pathAnswer, Output}
 use Rattle.aff_read.specs.Recall.{pathAt}

@@ -15,9 +15,9 @@ use Rattle.aff_format.specs.Subkey.{isSubkey}
 use Rattle.aff_format.specs.declared.element.Element.{Element}
 use Rattle.aff_format.specs.declared.kind.Kind.{Kind}
 use Rattle.aff_format.specs.declared.kind.Kind.the-variants.{Void}
-use Rattle.aff_open.specs.Belongs.{ReaderBelongs}
+use Rattle.aff_reader.specs.Belongs.{ReaderBelongs}
 use Rattle.aff_format.specs.Rule.{Rule, rule, By, Is}
-use Rattle.aff_open.specs.declared.reader.Reader.{Reader}
+use Rattle.aff_reader.specs.declared.reader.Reader.{Reader}
 use Rattle.aff_read.specs.Answers.{nameAnswer, kindAnswer, countAnswer, viewAnswer, elementAnswer}
 use Rattle.aff_read.specs.Paths.{editionBy, pathAnswer, lookupAnswer}
 use Rattle.aff_read.specs.Lookup.{LowestWith}

@@ -9,7 +9,7 @@ use Rattle.aff_format.specs.Refusal.{numberOf}
 use Rattle.aff_format.specs.declared.kind.Kind.{Kind}
 use Rattle.aff_format.specs.declared.refusal.Refusal.{Refusal}
 use Rattle.aff_open.specs.Opening.{tablesAnswer, openAnswer}
-use Rattle.aff_open.specs.declared.reader.Reader.{Reader}
+use Rattle.aff_reader.specs.declared.reader.Reader.{Reader}
 use Rattle.aff_areas.specs.declared.writer.Writer.{Writer}
 use Rattle.aff_write.specs.Begin.{beginAnswer}
 use Rattle.aff_run.specs.Run.{Run, runBegin, runAnswers}

@@ -2,10 +2,10 @@
 
 // Opening an image, and the record of an opened one.
 pub use aff_open::Opening;
-pub use aff_open::Reader;
-pub use aff_open::Span;
 pub use aff_open::form_for;
 pub use aff_open::open;
+pub use aff_reader::Reader;
+pub use aff_reader::Span;
 
 // Answers of an opened image.
 pub use aff_listing::Choice;

@@ -11,7 +11,7 @@ use Rattle.aff_format.specs.Kind.{kindOf}
 use Rattle.aff_format.specs.declared.kind.FoundKind.{FoundKind}
 use Rattle.aff_format.specs.declared.kind.FoundKind.the-variants.{Known, Unknown}
 use Rattle.aff_open.specs.Opening.{openAnswer}
-use Rattle.aff_open.specs.declared.reader.Reader.{Reader}
+use Rattle.aff_reader.specs.declared.reader.Reader.{Reader}
 use Rattle.aff_areas.specs.declared.writer.Writer.{Writer}
 use Rattle.aff.specs.Demand1.{NotBy, EachReading, EachWriting}
 use Rattle.aff.proofs.WithdrawnLaws.{withdrawn}

@@ -8,7 +8,7 @@ use Rattle.aff_format.specs.Answer.{Answer, accepted, refused, refusal}
 use Rattle.aff_format.specs.declared.refusal.RefusalCode.{RefusalCode}
 use Rattle.aff_open.specs.Opening.{openAnswer, readerAfter, stringsAfter, entriesAfter}
 use Rattle.aff_open.specs.Sections.{formFor}
-use Rattle.aff_open.specs.declared.reader.Reader.{Reader}
+use Rattle.aff_reader.specs.declared.reader.Reader.{Reader}
 
 -- What an answer reports: number 0 and place 0 for acceptance, else the refusal's.
 abbrev pub codeOfAnswer : Answer Reader → RefusalCode

@@ -13,7 +13,7 @@ use Rattle.aff_format.specs.declared.element.Element.{Element}
 use Rattle.aff_format.specs.declared.element.Element.the-variants.{Byte, Int, Real, Pair}
 use Rattle.aff_format.specs.declared.kind.FoundKind.{FoundKind}
 use Rattle.aff_format.specs.declared.kind.FoundKind.the-variants.{Known, Unknown}
-use Rattle.aff_open.specs.declared.reader.Reader.{Reader}
+use Rattle.aff_reader.specs.declared.reader.Reader.{Reader}
 use Rattle.aff_listing.specs.declared.choice.Choice.{Choice}
 use Rattle.aff_listing.specs.declared.choice.Choice.the-variants.{AllNodes, NotVoid}
 

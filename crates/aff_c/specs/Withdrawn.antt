@@ -4,7 +4,7 @@ use mathlib.Core.Path.{_≡_}
 use mathlib.Core.List.{List}
 use Prim.Native.Nat.{ℕ}
 use Rattle.aff_format.specs.Answer.{Answer}
-use Rattle.aff_open.specs.declared.reader.Reader.{Reader}
+use Rattle.aff_reader.specs.declared.reader.Reader.{Reader}
 use Rattle.aff_areas.specs.declared.writer.Writer.{Writer}
 use Rattle.aff.specs.Demand1.{EachReading, EachWriting}
 use Rattle.aff_c.specs.Opening.{numberReturned}

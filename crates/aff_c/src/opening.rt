@@ -2,7 +2,7 @@
 use aff_format::RefusalCode;
 use aff_format::Verdict;
 use aff_open::Opening;
-use aff_open::Reader;
+use aff_reader::Reader;
 ghost use mathlib.Core.Path.{_≡_};
 ghost use mathlib.Core.List.{_++_};
 ghost use Prim.Native.Nat.{_≤_};

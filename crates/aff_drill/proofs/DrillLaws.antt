@@ -18,7 +18,7 @@ use Rattle.aff_format.specs.declared.verdict.Verdict.the-variants.{Accepted, Re
 use Rattle.aff_format.proofs.AnswerLaws.{passed, clear-accepts, same-refusal}
 use Rattle.aff_open.specs.Opening.{openChecks, openAnswer, verdictOf, answerOfOpening}
 use Rattle.aff_open.specs.declared.opening.Opening.{Opening}
-use Rattle.aff_open.specs.declared.reader.Reader.{Reader}
+use Rattle.aff_reader.specs.declared.reader.Reader.{Reader}
 use Rattle.aff_areas.specs.Stores.{applyStores}
 use Rattle.aff_run.specs.Run.{Run, runStores}
 use Rattle.aff.specs.Demand3.{bufferAt}

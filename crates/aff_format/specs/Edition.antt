@@ -17,6 +17,15 @@ editionNumber Two = 2
 abbrev pub editionOf : ℕ → FoundEdition
 editionOf n = cond (eqb n 1) (Known One) (cond (eqb n 2) (Known Two) Unknown)
 
+abbrev pub isKnown : FoundEdition → Bool
+isKnown (Known e) = true
+isKnown Unknown = false
+
+-- Edition 2 is taken for no edition: its form is the one passed for such a text, and nothing else of it is asked after refusal 3.
+abbrev pub orTwo : FoundEdition → Edition
+orTwo (Known e) = e
+orTwo Unknown = Two
+
 -- Bytes of a section header: offset 8, size 8, record count 8 (not in edition 1), sum 16.
 abbrev pub sectionHeaderSize : Edition → ℕ
 sectionHeaderSize One = 32

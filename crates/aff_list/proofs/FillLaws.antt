@@ -12,7 +12,7 @@ use borrow.Author.Tests.{ltb-false}
 use Rattle.aff_format.specs.Bytes.{spliced}
 use Rattle.aff_format.proofs.BytesLaws.{length-spliced, drop-spliced}
 use Rattle.aff_format.proofs.LowestLaws.{none-holds}
-use Rattle.aff_open.specs.declared.reader.Reader.{Reader}
+use Rattle.aff_reader.specs.declared.reader.Reader.{Reader}
 use Rattle.aff_tables.proofs.OrderLaws.{split}
 use Rattle.aff_list.specs.Line.{lineAt, decimal, kindWord}
 use Rattle.aff_read.specs.Recall.{kindAt, countAt, pathAt}

@@ -12,9 +12,9 @@ use Rattle.aff_format.specs.declared.refusal.Refusal.{Refusal}
 use Rattle.aff_format.specs.declared.verdict.Verdict.{Verdict}
 use Rattle.aff_format.specs.declared.verdict.Verdict.the-variants.{Accepted, Refused}
 use Rattle.aff_open.specs.Opening.{verdictOf, readerAfter, stringsAfter, entriesAfter}
-use Rattle.aff_open.specs.Reader.{noReader}
+use Rattle.aff_reader.specs.Reader.{noReader}
 use Rattle.aff_open.specs.Sections.{formFor}
-use Rattle.aff_open.specs.declared.reader.Reader.{Reader}
+use Rattle.aff_reader.specs.declared.reader.Reader.{Reader}
 use Rattle.aff_listing.specs.declared.choice.Choice.{Choice}
 use Rattle.aff_read.specs.passes.Written.{Written}
 use Rattle.aff_read.proofs.WrittenLaws.{written-front, written-taken}

@@ -11,10 +11,10 @@ use Rattle.aff_format.specs.Answer.{accepted, refused, refusal}
 use Rattle.aff_format.specs.Rule.{Rule, rule, FirstFails, By, Is}
 use Rattle.aff_format.specs.declared.refusal.RefusalCode.{RefusalCode}
 use Rattle.aff_format.proofs.RuleLaws.{none, one, by-checks, at-most}
-use Rattle.aff_open.specs.Belongs.{readerBelongs, ReaderBelongs}
-use Rattle.aff_open.specs.declared.reader.Reader.{Reader}
+use Rattle.aff_reader.specs.Belongs.{readerBelongs, ReaderBelongs}
+use Rattle.aff_reader.specs.declared.reader.Reader.{Reader}
 use Rattle.aff_open.specs.Opening.{openAnswer, readerAfter, stringsAfter, entriesAfter}
-use Rattle.aff_open.proofs.BelongsLaws.{belongs-record, record-belongs, none-belongs}
+use Rattle.aff_reader.proofs.BelongsLaws.{belongs-record, record-belongs, none-belongs}
 use Rattle.aff_open.proofs.OpenedLaws.{opened-belongs}
 use Rattle.aff_read.specs.Answers.{existsChecks}
 use Rattle.aff_read.proofs.OutputLaws.{wrote, text-fits}

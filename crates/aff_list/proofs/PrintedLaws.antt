@@ -15,9 +15,9 @@ use Rattle.aff_format.specs.Lowest.{lowestFrom}
 use Rattle.aff_format.proofs.EditionLaws.{length-numberForm}
 use Rattle.aff_open.specs.Opening.{lengthsWrong, openAnswer, areaFilled, stringPlaces, nodePlaces, stringsAfter, entriesAfter}
 use Rattle.aff_open.specs.Sections.{editionIn, formFor}
-use Rattle.aff_open.specs.declared.reader.Reader.{Reader}
-use Rattle.aff_open.specs.Belongs.{ReaderBelongs}
-use Rattle.aff_open.proofs.BelongsLaws.{belongs-record}
+use Rattle.aff_reader.specs.declared.reader.Reader.{Reader}
+use Rattle.aff_reader.specs.Belongs.{ReaderBelongs}
+use Rattle.aff_reader.proofs.BelongsLaws.{belongs-record}
 use Rattle.aff_open.proofs.OpenedLaws.{opened-belongs}
 use Rattle.aff_open.proofs.FaultLaws.{lengths-asks}
 use Rattle.aff_tables.proofs.OrderLaws.{split}

@@ -16,12 +16,12 @@ use Rattle.aff_format.specs.declared.verdict.Verdict.the-variants.{Accepted, Re
 use Rattle.aff_format.proofs.AnswerLaws.{not-both, passed, passed-value}
 use Rattle.aff_format.proofs.LowestLaws.{none-at}
 use Rattle.aff_format.proofs.VerdictLaws.{verdict-refuses, verdict-accepts}
-use Rattle.aff_open.specs.Belongs.{ReaderBelongs}
+use Rattle.aff_reader.specs.Belongs.{ReaderBelongs}
 use Rattle.aff_open.specs.Opening.{openAnswer, answerOfOpening, verdictOf, readerAfter, stringsAfter, entriesAfter}
 use Rattle.aff_open.specs.Sections.{formFor}
 use Rattle.aff_open.specs.declared.opening.Opening.{Opening}
-use Rattle.aff_open.specs.declared.reader.Reader.{Reader}
-use Rattle.aff_open.proofs.BelongsLaws.{belongs-record}
+use Rattle.aff_reader.specs.declared.reader.Reader.{Reader}
+use Rattle.aff_reader.proofs.BelongsLaws.{belongs-record}
 use Rattle.aff_open.proofs.OpenedLaws.{opened-belongs}
 use Rattle.aff_listing.specs.ListingOrder.{listingOrder, listedCount}
 use Rattle.aff_read.specs.Recall.{pathAt}

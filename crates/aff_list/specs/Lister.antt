@@ -9,10 +9,10 @@ use Rattle.aff_format.specs.Answer.{Answer, accepted, refused, Check, check, re
 use Rattle.aff_format.specs.Kind.{isVoid}
 use Rattle.aff_format.specs.Lowest.{lowestFrom, isAt}
 use Rattle.aff_format.specs.declared.lowest.Lowest.the-variants.{Nothing}
-use Rattle.aff_open.specs.Belongs.{ReaderBelongs}
+use Rattle.aff_reader.specs.Belongs.{ReaderBelongs}
 use Rattle.aff_open.specs.Opening.{openAnswer, verdictOf, stringsAfter, entriesAfter}
 use Rattle.aff_open.specs.Sections.{formFor}
-use Rattle.aff_open.specs.declared.reader.Reader.{Reader}
+use Rattle.aff_reader.specs.declared.reader.Reader.{Reader}
 use Rattle.aff_read.specs.Paths.{frontWritten}
 use Rattle.aff_listing.specs.ListingOrder.{listingOrder, listedCount}
 use Rattle.aff_read.specs.Recall.{kindAt, pathAt}

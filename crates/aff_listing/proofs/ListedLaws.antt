@@ -8,9 +8,9 @@ use Prim.Native.Nat.{ℕ, _+_, _≤_, _<_}
 use native.Mathlib.Omega.{arith}
 use lib.ListN.{length, getD, take, drop}
 use Rattle.aff_format.specs.Recorded.{recordedEntry}
-use Rattle.aff_open.specs.Belongs.{ReaderBelongs}
-use Rattle.aff_open.specs.passes.Belongs.{ParentsCopied}
-use Rattle.aff_open.specs.declared.reader.Reader.{Reader}
+use Rattle.aff_reader.specs.Belongs.{ReaderBelongs}
+use Rattle.aff_reader.specs.passes.Belongs.{ParentsCopied}
+use Rattle.aff_reader.specs.declared.reader.Reader.{Reader}
 use Rattle.aff_tables.proofs.OrderLaws.{split}
 use Rattle.aff_tables.specs.passes.Climb.{copiedParent as parentIn}
 use Rattle.aff_listing.specs.ListingOrder.{every, preorder, kept, isListed, listingOrder, listedCount}

@@ -13,8 +13,8 @@ use lib.Dec.{eqb}
 use lib.ListN.{length, getD}
 use Rattle.aff_format.specs.Tree.{reachesBy}
 use Rattle.aff_format.proofs.ClimbLaws.{absurd-bool, reaches-root, reaches-up}
-use Rattle.aff_open.specs.Belongs.{ReaderBelongs}
-use Rattle.aff_open.specs.declared.reader.Reader.{Reader}
+use Rattle.aff_reader.specs.Belongs.{ReaderBelongs}
+use Rattle.aff_reader.specs.declared.reader.Reader.{Reader}
 use Rattle.aff_tables.proofs.OrderLaws.{split}
 use Rattle.aff_listing.specs.ListingOrder.{own, every, childOf, childrenTo, preorder}
 use Rattle.aff_listing.specs.Once.{hit, occurrences}

@@ -11,8 +11,8 @@ use lib.Dec.{eqb}
 use lib.ListN.{length, length-append}
 use Rattle.aff_format.specs.Tree.{reachesBy}
 use Rattle.aff_format.proofs.ClimbLaws.{absurd-bool, reaches-up}
-use Rattle.aff_open.specs.Belongs.{ReaderBelongs}
-use Rattle.aff_open.specs.declared.reader.Reader.{Reader}
+use Rattle.aff_reader.specs.Belongs.{ReaderBelongs}
+use Rattle.aff_reader.specs.declared.reader.Reader.{Reader}
 use Rattle.aff_listing.specs.ListingOrder.{own, every, childOf, childrenTo, preorder, kept, isListed}
 use Rattle.aff_listing.specs.Once.{occurrences}
 use Rattle.aff_read.specs.Recall.{parentAt}

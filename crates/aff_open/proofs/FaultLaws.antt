@@ -12,7 +12,7 @@ use borrow.Author.Tests.{eqb-true, eq-eqb, ltb-false, le-ltb, not-false}
 use Rattle.md5.specs.Md5.{md5}
 use Rattle.aff_format.specs.Answer.{accepted, refused, refusalAt}
 use Rattle.aff_format.specs.Bytes.{part, sameBytes}
-use Rattle.aff_format.specs.Edition.{headerSize, headerSumAt, hasCounts, signatureText}
+use Rattle.aff_format.specs.Edition.{headerSize, headerSumAt, hasCounts, signatureText, isKnown}
 use Rattle.aff_format.specs.Limits.{imageLimit, stringLimit, nodeLimit}
 use Rattle.aff_format.specs.Lowest.{lowestFrom, isAt}
 use Rattle.aff_format.specs.declared.section.Section.{Section}
@@ -29,8 +29,8 @@ use Rattle.aff_open.specs.Faults.{nodeRules, treeRules, rulesFrom27, sym
 use Rattle.aff_tables.specs.Tables.{nodeEntry, isEmpty, countDiffers, repeats}
 use Rattle.aff_tables.specs.Nodes.{Contents, contentsOf, linkWrong, climbEndless, nameTaken, sameSite, dataOutside}
 use Rattle.aff_open.specs.Opening.{lengthsWrong, nodesChecked, tableChecks, formChecks, bodyChecks, upToTables, openChecks, openAnswer, readerFor, entryIn, contentsIn}
-use Rattle.aff_open.specs.Sections.{textEdition, isKnown, editionIn, sectionOffset, sectionSize, sectionRecords, headerSumWrong, endsPast, sumWrong, stringsIn, nodesIn, bytesAfterNodes}
-use Rattle.aff_open.specs.declared.reader.Reader.{Reader}
+use Rattle.aff_open.specs.Sections.{textEdition, editionIn, sectionOffset, sectionSize, sectionRecords, headerSumWrong, endsPast, sumWrong, stringsIn, nodesIn, bytesAfterNodes}
+use Rattle.aff_reader.specs.declared.reader.Reader.{Reader}
 use Rattle.aff_tables.proofs.LinkLaws.{link-asks, repeat-asks, repeat-found}
 use Rattle.aff_format.proofs.EntryLaws.{data-asks}
 use Rattle.aff_open.proofs.TablesLaws.{lengths-right}

@@ -5,6 +5,4 @@ pub mod OpeningLaws
 pub mod NumbersLaws
 pub mod FaultLaws
 pub mod ObeysLaws
-pub mod LostLaws
-pub mod BelongsLaws
 pub mod OpenedLaws

@@ -9,7 +9,7 @@ use lib.ListN.{length, getD}
 use borrow.Author.Tests.{eqb-false, ne-eqb}
 use Rattle.aff_format.specs.Answer.{accepted}
 use Rattle.aff_format.specs.Bytes.{Without, EachWithout, Octets}
-use Rattle.aff_format.specs.Edition.{signatureText}
+use Rattle.aff_format.specs.Edition.{signatureText, orTwo}
 use Rattle.aff_format.specs.Limits.{stringLimit, nodeLimit}
 use Rattle.aff_format.specs.Strings.{stringsOf, endsInZero}
 use Rattle.aff_format.specs.declared.section.Section.{Section}
@@ -24,8 +24,8 @@ use Rattle.aff_open.specs.Rules.{Inside, Summed, Unrepeated, Distinct, L
 use Rattle.aff_open.specs.Faults.{nodeRules, treeRules, rulesFrom27, symbolRules, sectionRules, rules}
 use Rattle.aff_open.specs.Obeys.{Obeys}
 use Rattle.aff_open.specs.Opening.{openAnswer, readerFor}
-use Rattle.aff_open.specs.Sections.{orTwo, editionIn, sectionOffset, sectionSize, sectionBytes, stringsIn, nodesIn, bytesAfterNodes}
-use Rattle.aff_open.specs.declared.reader.Reader.{Reader}
+use Rattle.aff_open.specs.Sections.{editionIn, sectionOffset, sectionSize, sectionBytes, stringsIn, nodesIn, bytesAfterNodes}
+use Rattle.aff_reader.specs.declared.reader.Reader.{Reader}
 use Rattle.aff_open.proofs.FaultLaws.{accepted-hold, hold-accepted}
 use Rattle.aff_format.proofs.RuleLaws.{Each, each-hold, hold-each}
 use Rattle.aff_open.proofs.SectionLaws.{known-text}

@@ -24,12 +24,12 @@ use Rattle.aff_tables.proofs.LinkLaws.{links-clear}
 use Rattle.aff_tables.proofs.NodeLaws.{nodes-clear}
 use Rattle.aff_tables.proofs.SymbolLaws.{string-placed}
 use Rattle.aff_tables.proofs.TreeTableLaws.{entry-found}
-use Rattle.aff_open.specs.Belongs.{readerBelongs, ReaderBelongs}
+use Rattle.aff_reader.specs.Belongs.{readerBelongs, ReaderBelongs}
 use Rattle.aff_open.specs.Opening.{lengthsWrong, upToTables, openChecks, openAnswer, nodesChecked, tablesAnswer, sizesIn, stringPlaces, nodePlaces, readerFor, stringsAfter, entriesAfter, stringIn, entryIn, spanOf}
 use Rattle.aff_open.specs.passes.Opening.{Readable, StringsLaid, EntriesLaid}
 use Rattle.aff_open.specs.Sections.{editionIn, sectionOffset, sectionSize, sectionBytes, stringsIn, nodesIn}
-use Rattle.aff_open.specs.declared.reader.Reader.{Reader}
-use Rattle.aff_open.proofs.BelongsLaws.{record-belongs}
+use Rattle.aff_reader.specs.declared.reader.Reader.{Reader}
+use Rattle.aff_reader.proofs.BelongsLaws.{record-belongs}
 use Rattle.aff_open.proofs.OpeningLaws.{checked-by}
 use Rattle.aff_open.proofs.TablesLaws.{lengths-right, section-inside, tables-lengths, tables-readable, strings-filled, entries-filled, tables-strings, tables-entries}
 

@@ -23,8 +23,8 @@ use Rattle.aff_open.specs.Opening.{upToTables, openChecks, nodesChecked,
 use Rattle.aff_open.specs.passes.Opening.{Readable, StringsLaid, EntriesLaid, refusedOpening, keptOrCleared}
 use Rattle.aff_open.specs.Sections.{editionIn}
 use Rattle.aff_open.specs.declared.opening.Opening.{Opening}
-use Rattle.aff_open.specs.declared.reader.Reader.{Reader}
-use Rattle.aff_open.specs.declared.reader.Span.{Span}
+use Rattle.aff_reader.specs.declared.reader.Reader.{Reader}
+use Rattle.aff_reader.specs.declared.reader.Span.{Span}
 use Rattle.aff_open.specs.declared.tables.TableSizes.{TableSizes}
 use Rattle.aff_open.proofs.TablesLaws.{tables-sizes, tables-lengths, tables-readable, tables-strings, tables-entries, strings-filled, entries-filled}
 

@@ -9,7 +9,7 @@ use lib.ListN.{length, take}
 use borrow.Author.Tests.{ltb-false, lt-ltb}
 use Rattle.aff_format.specs.Answer.{accepted, firstWrong}
 use Rattle.aff_format.specs.Bytes.{sameBytes}
-use Rattle.aff_format.specs.Edition.{headerSize, sectionHeaderAt, sectionSumAt, signatureText}
+use Rattle.aff_format.specs.Edition.{headerSize, sectionHeaderAt, sectionSumAt, signatureText, isKnown, orTwo}
 use Rattle.aff_format.specs.declared.section.Section.{Section}
 use Rattle.aff_format.specs.declared.section.Section.the-variants.{Symbol, Tree, Data}
 use Rattle.aff_format.specs.declared.edition.Edition.{Edition}
@@ -19,7 +19,7 @@ use Rattle.aff_format.specs.declared.edition.FoundEdition.the-variants.{Known, 
 use Rattle.aff_format.proofs.AnswerLaws.{passed}
 use Rattle.aff_format.proofs.EditionLaws.{section-header-most, section-sum-last}
 use Rattle.aff_format.proofs.SameLaws.{same-eq}
-use Rattle.aff_open.specs.Sections.{textEdition, isKnown, orTwo, editionIn, sectionOffset, sectionSize, endsPast, sumWrong}
+use Rattle.aff_open.specs.Sections.{textEdition, editionIn, sectionOffset, sectionSize, endsPast, sumWrong}
 use Rattle.aff_open.specs.Opening.{headerChecks, insideChecks, sectionChecks}
 
 -- The text of an edition: the image begins with it, and with no other's.

@@ -30,7 +30,7 @@ use Rattle.aff_tables.proofs.TreeTableLaws.{TableOfTree, entries-few, entries-a
 use Rattle.aff_open.specs.Opening.{lengthsWrong, headerChecks, sectionChecks, symbolsChecked, treeChecked, tableChecks, bodyChecks, upToTables, spanOf, sizesIn, tablesAnswer, answerOfTables, areaFilled, stringPlaces, nodePlaces, stringsFilled, entriesFilled}
 use Rattle.aff_open.specs.passes.Opening.{Readable, StringsLaid, EntriesLaid, symbolsIn}
 use Rattle.aff_open.specs.Sections.{editionIn, sectionOffset, sectionSize, sectionRecords, sectionBytes, endsPast, stringsIn, nodesIn}
-use Rattle.aff_open.specs.declared.reader.Span.{Span}
+use Rattle.aff_reader.specs.declared.reader.Span.{Span}
 use Rattle.aff_open.specs.declared.tables.OpenedTables.{OpenedTables}
 use Rattle.aff_open.specs.declared.tables.OpenedTables.the-variants as tables
 use Rattle.aff_open.specs.declared.tables.TableSizes.{TableSizes}

@@ -1,9 +1,7 @@
 -- Opening: what the promises of this crate cite, in the order of document 01.
-pub mod Reader
 pub mod Sections
 pub mod Opening
 pub mod Rules
 pub mod Obeys
 pub mod Faults
-pub mod Belongs
 pub mod passes

@@ -6,7 +6,7 @@ use lib.Dec.{eqb, ltb}
 use lib.ListN.{length, getD, replicate}
 use Rattle.aff_format.specs.Answer.{Answer, accepted, refused, Check, check, refusal, refusalAt, firstWrong}
 use Rattle.aff_format.specs.Bytes.{part, sameBytes, laidOver}
-use Rattle.aff_format.specs.Edition.{headerSize, editionNumber}
+use Rattle.aff_format.specs.Edition.{headerSize, editionNumber, isKnown}
 use Rattle.aff_format.specs.Limits.{imageLimit, stringLimit, nodeLimit}
 use Rattle.aff_format.specs.Refusal.{codeOfRefusal}
 use Rattle.aff_format.specs.Strings.{placesOf}
@@ -18,11 +18,11 @@ use Rattle.aff_format.specs.declared.verdict.Verdict.{Verdict}
 use Rattle.aff_format.specs.declared.verdict.Verdict.the-variants.{Accepted, Refused}
 use Rattle.aff_tables.specs.Nodes.{Contents, contentsOf, nodeChecks}
 use Rattle.aff_tables.specs.Tables.{entryPlaces, nodeEntry, symbolChecks, treeChecks}
-use Rattle.aff_open.specs.Reader.{noReader}
-use Rattle.aff_open.specs.Sections.{textEdition, isKnown, editionIn, sectionOffset, sectionSize, sectionRecords, sectionBytes, headerSumWrong, endsPast, sumWrong, stringsIn, nodesIn}
+use Rattle.aff_reader.specs.Reader.{noReader}
+use Rattle.aff_open.specs.Sections.{textEdition, editionIn, sectionOffset, sectionSize, sectionRecords, sectionBytes, headerSumWrong, endsPast, sumWrong, stringsIn, nodesIn}
 use Rattle.aff_open.specs.declared.opening.Opening.{Opening}
-use Rattle.aff_open.specs.declared.reader.Span.{Span}
-use Rattle.aff_open.specs.declared.reader.Reader.{Reader}
+use Rattle.aff_reader.specs.declared.reader.Span.{Span}
+use Rattle.aff_reader.specs.declared.reader.Reader.{Reader}
 use Rattle.aff_open.specs.declared.tables.OpenedTables.{OpenedTables}
 use Rattle.aff_open.specs.declared.tables.OpenedTables.the-variants as tables
 use Rattle.aff_open.specs.declared.tables.TableSizes.{TableSizes}

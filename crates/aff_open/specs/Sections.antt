@@ -1,12 +1,12 @@
 -- Header and sections of an image: document 01, 'Layout of a file'. Numbers are exact: no sum wraps.
-use mathlib.Core.Bool.{Bool, true, false, cond, not}
+use mathlib.Core.Bool.{Bool, cond, not}
 use mathlib.Core.List.{List}
 use Prim.Native.Nat.{ℕ, _+_}
 use lib.Dec.{ltb}
 use lib.ListN.{length, take}
 use Rattle.md5.specs.Md5.{md5}
 use Rattle.aff_format.specs.Bytes.{part, sameBytes}
-use Rattle.aff_format.specs.Edition.{sectionHeaderAt, sectionSumAt, headerSumAt, hasCounts, signatureText, numberForm}
+use Rattle.aff_format.specs.Edition.{sectionHeaderAt, sectionSumAt, headerSumAt, hasCounts, signatureText, numberForm, orTwo}
 use Rattle.aff_format.specs.Number.{beOf}
 use Rattle.aff_format.specs.declared.section.Section.{Section}
 use Rattle.aff_format.specs.declared.edition.Edition.{Edition}
@@ -24,15 +24,6 @@ unfoldable pub textEdition : List ℕ → FoundEdition
 textEdition image =
     cond (sameBytes (take 20 image) (signatureText One)) (Known One)
     (cond (sameBytes (take 20 image) (signatureText Two)) (Known Two) Unknown)
-
-abbrev pub isKnown : FoundEdition → Bool
-isKnown (Known e) = true
-isKnown Unknown = false
-
--- Edition 2 is taken for no edition: its form is the one passed for such a text, and nothing else of it is asked after refusal 3.
-abbrev pub orTwo : FoundEdition → Edition
-orTwo (Known e) = e
-orTwo Unknown = Two
 
 abbrev pub editionIn : List ℕ → Edition
 editionIn image = orTwo (textEdition image)

@@ -1,3 +1,2 @@
--- Definitions that only the passes inside opening and inside 24 need: their invariants and what they report to each other.
+-- Definitions that only the passes inside opening need: their invariants and what they report to each other.
 pub mod Opening
-pub mod Belongs

@@ -1,5 +1,4 @@
 // Opening an image.
-use crate::reader::Reader;
 use crate::sections;
 use crate::tables;
 use crate::tables::OpenedTables;
@@ -8,6 +7,7 @@ use aff_format::Edition;
 use aff_format::Refusal;
 use aff_format::Section;
 use aff_format::Verdict;
+use aff_reader::Reader;
 use aff_tables::nodes;
 ghost use mathlib.Core.Path.{_≡_};
 ghost use lib.ListN.{length};

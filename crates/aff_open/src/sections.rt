@@ -1,11 +1,11 @@
 // The three sections of an image whose header is whole.
 use crate::header;
-use crate::reader::Span;
 use aff_format::Edition;
 use aff_format::Refusal;
 use aff_format::Section;
 use aff_format::Verdict;
 use aff_format::number;
+use aff_reader::Span;
 ghost use mathlib.Core.Path.{_≡_};
 ghost use mathlib.Core.Bool.{false};
 ghost use Prim.Native.Nat.{_+_, _≤_, _<_};

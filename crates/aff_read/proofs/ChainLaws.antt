@@ -10,10 +10,10 @@ use lib.ListN.{length, getD, set, length-set}
 use lib.Seq.{getD-set-same, getD-set-other}
 use Rattle.aff_format.specs.Tree.{reachesBy}
 use Rattle.aff_format.specs.declared.entry.Entry.{Entry}
-use Rattle.aff_open.specs.Belongs.{ReaderBelongs}
+use Rattle.aff_reader.specs.Belongs.{ReaderBelongs}
 use Rattle.aff_format.specs.Recorded.{recordedEntry}
-use Rattle.aff_open.specs.declared.reader.Reader.{Reader}
-use Rattle.aff_open.proofs.BelongsLaws.{parent-within}
+use Rattle.aff_reader.specs.declared.reader.Reader.{Reader}
+use Rattle.aff_reader.proofs.BelongsLaws.{parent-within}
 use Rattle.aff_read.specs.passes.Fit.{fitAt, FitsSettled, Climbable, Chain}
 use Rattle.aff_read.specs.Recall.{parentAt}
 use Rattle.aff_read.proofs.FitLaws.{climb-left}

@@ -14,9 +14,9 @@ use Rattle.aff_format.specs.Bytes.{part}
 use Rattle.aff_format.specs.Limits.{nodeLimit}
 use Rattle.aff_format.specs.Tree.{frontBy}
 use Rattle.aff_format.proofs.TreeLaws.{front-step}
-use Rattle.aff_open.specs.Belongs.{ReaderBelongs}
-use Rattle.aff_open.specs.declared.reader.Reader.{Reader}
-use Rattle.aff_open.proofs.BelongsLaws.{parent-within}
+use Rattle.aff_reader.specs.Belongs.{ReaderBelongs}
+use Rattle.aff_reader.specs.declared.reader.Reader.{Reader}
+use Rattle.aff_reader.proofs.BelongsLaws.{parent-within}
 use Rattle.aff_read.specs.passes.Climb.{above, tableParent, tableFrom, tableEnd, tableFront, TableInside, Noted, NotedMore, ClimbNoted}
 use Rattle.aff_read.specs.Recall.{parentAt, nameAt, nameSpan}
 use Rattle.aff_read.proofs.FrontLaws.{frontAt, name-size, name-bytes}

@@ -17,9 +17,9 @@ use Rattle.aff_format.specs.Tree.{reachesBy}
 use Rattle.aff_format.proofs.BytesLaws.{part-cons, part-empty}
 use Rattle.aff_format.proofs.ClimbLaws.{at-zero, reaches-up}
 use Rattle.aff_format.proofs.TreeLaws.{front-root, front-step}
-use Rattle.aff_open.specs.Belongs.{ReaderBelongs}
+use Rattle.aff_reader.specs.Belongs.{ReaderBelongs}
 use Rattle.aff_format.specs.Recorded.{nameFrom}
-use Rattle.aff_open.specs.declared.reader.Reader.{Reader}
+use Rattle.aff_reader.specs.declared.reader.Reader.{Reader}
 use Rattle.aff_read.specs.passes.Fit.{fitFrom, fitAt, FitsSettled}
 use Rattle.aff_read.specs.Recall.{parentAt, nameAt, pathAt}
 use Rattle.aff_read.proofs.FrontLaws.{frontAt, path-other}

@@ -12,9 +12,9 @@ use Rattle.aff_format.specs.declared.entry.Entry.{Entry}
 use Rattle.aff_format.proofs.ClimbLaws.{at-zero}
 use Rattle.aff_format.proofs.TreeLaws.{front-root, front-up, front-step}
 use Rattle.aff_format.proofs.TreeLaws as tree
-use Rattle.aff_open.specs.Belongs.{ReaderBelongs}
+use Rattle.aff_reader.specs.Belongs.{ReaderBelongs}
 use Rattle.aff_format.specs.Recorded.{recordedEntry, nameFrom}
-use Rattle.aff_open.specs.declared.reader.Reader.{Reader}
+use Rattle.aff_reader.specs.declared.reader.Reader.{Reader}
 use Rattle.aff_format.proofs.RecordedLaws.{name-part}
 use Rattle.aff_read.specs.Recall.{symbolsEnd, parentAt, nameAt, nameSpan, spanBytes, pathAt}
 use Rattle.aff_read.proofs.WrittenLaws.{TwoParts}

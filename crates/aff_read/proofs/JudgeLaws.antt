@@ -15,10 +15,10 @@ use Rattle.aff_format.specs.declared.verdict.Verdict.{Verdict}
 use Rattle.aff_format.specs.declared.verdict.Verdict.the-variants.{Accepted, Refused}
 use Rattle.aff_format.proofs.AnswerLaws.{not-both, passed, passed-value}
 use Rattle.aff_format.proofs.VerdictLaws.{verdict-clear}
-use Rattle.aff_open.specs.Belongs.{ReaderBelongs, readerBelongs}
-use Rattle.aff_open.specs.declared.reader.Span.{Span}
-use Rattle.aff_open.specs.declared.reader.Reader.{Reader}
-use Rattle.aff_open.proofs.BelongsLaws.{belongs-record}
+use Rattle.aff_reader.specs.Belongs.{ReaderBelongs, readerBelongs}
+use Rattle.aff_reader.specs.declared.reader.Span.{Span}
+use Rattle.aff_reader.specs.declared.reader.Reader.{Reader}
+use Rattle.aff_reader.proofs.BelongsLaws.{belongs-record}
 use Rattle.aff_read.specs.Answers.{existsChecks}
 
 -- A test that code makes as `if !test`, by what it returned.

@@ -17,9 +17,9 @@ use Rattle.aff_format.specs.declared.lowest.Lowest.the-variants.{Nothing, At}
 use Rattle.aff_format.proofs.AnswerLaws.{not-both}
 use Rattle.aff_format.proofs.LowestLaws.{lowest-is, none-holds}
 use Rattle.aff_format.proofs.SameLaws.{same-eq, same-ne}
-use Rattle.aff_open.specs.Belongs.{ReaderBelongs, readerBelongs}
-use Rattle.aff_open.specs.declared.reader.Reader.{Reader}
-use Rattle.aff_open.proofs.BelongsLaws.{record-belongs}
+use Rattle.aff_reader.specs.Belongs.{ReaderBelongs, readerBelongs}
+use Rattle.aff_reader.specs.declared.reader.Reader.{Reader}
+use Rattle.aff_reader.proofs.BelongsLaws.{record-belongs}
 use Rattle.aff_read.specs.Paths.{found, editionBy, lookupAnswer}
 use Rattle.aff_read.specs.Lookup.{LowestWith, NoneWith}
 use Rattle.aff_read.specs.Recall.{pathAt}

@@ -9,14 +9,14 @@ use borrow.Author.Tests.{eq-eqb, ne-eqb}
 use mathlib.Core.Logic.{⊎-elim}
 use Rattle.aff_format.proofs.ClimbLaws.{absurd-bool, at-zero}
 use Rattle.aff_format.specs.Recorded.{nameFrom, recordedEntry}
-use Rattle.aff_open.proofs.BelongsLaws.{string-within}
+use Rattle.aff_reader.proofs.BelongsLaws.{string-within}
 use Rattle.aff_format.specs.Bytes.{part}
 use Rattle.aff_format.specs.Kind.{elementSize, isVoid}
 use Rattle.aff_format.specs.declared.entry.Entry.{Entry}
-use Rattle.aff_open.specs.Belongs.{ReaderBelongs}
-use Rattle.aff_open.specs.Reader.{noSpan}
-use Rattle.aff_open.specs.declared.reader.Span.{Span}
-use Rattle.aff_open.specs.declared.reader.Reader.{Reader}
+use Rattle.aff_reader.specs.Belongs.{ReaderBelongs}
+use Rattle.aff_reader.specs.Reader.{noSpan}
+use Rattle.aff_reader.specs.declared.reader.Span.{Span}
+use Rattle.aff_reader.specs.declared.reader.Reader.{Reader}
 use Rattle.aff_read.specs.Recall.{symbolsEnd, nameAt, nameSpan, dataSpan}
 
 pub part-between : (image : List ℕ) (from size : ℕ) → part from (from + size - from) image ≡ part from size image

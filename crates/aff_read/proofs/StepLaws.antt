@@ -4,9 +4,9 @@ use mathlib.Core.List.{List, _∷_}
 use Prim.Native.Nat.{ℕ, _+_, _-_, _≤_, _<_}
 use native.Mathlib.Omega.{arith}
 use lib.ListN.{length, length-append}
-use Rattle.aff_open.specs.Belongs.{ReaderBelongs}
-use Rattle.aff_open.specs.declared.reader.Reader.{Reader}
-use Rattle.aff_open.proofs.BelongsLaws.{parent-within}
+use Rattle.aff_reader.specs.Belongs.{ReaderBelongs}
+use Rattle.aff_reader.specs.declared.reader.Reader.{Reader}
+use Rattle.aff_reader.proofs.BelongsLaws.{parent-within}
 use Rattle.aff_read.specs.passes.Capped.{capped}
 use Rattle.aff_read.specs.Recall.{parentAt, nameAt, pathAt}
 use Rattle.aff_read.proofs.CappedLaws.{capped-within, capped-past, capped-over, capped-exact}

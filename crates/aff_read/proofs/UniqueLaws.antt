@@ -16,11 +16,12 @@ use Rattle.aff_format.specs.declared.edition.Edition.{Edition}
 use Rattle.aff_format.specs.declared.entry.Entry.{Entry}
 use Rattle.aff_format.proofs.EditionLaws.{edition-of-number}
 use Rattle.aff_format.proofs.TreeLaws.{path-formed, path-unique}
-use Rattle.aff_open.specs.Belongs.{ReaderBelongs}
+use Rattle.aff_reader.specs.Belongs.{ReaderBelongs}
 use Rattle.aff_open.specs.Opening.{openAnswer, stringsAfter, entriesAfter, stringIn, entryIn}
-use Rattle.aff_open.specs.Sections.{orTwo, editionIn, stringsIn, nodesIn}
-use Rattle.aff_open.specs.declared.reader.Reader.{Reader}
-use Rattle.aff_open.proofs.BelongsLaws.{belongs-record}
+use Rattle.aff_open.specs.Sections.{editionIn, stringsIn, nodesIn}
+use Rattle.aff_format.specs.Edition.{orTwo}
+use Rattle.aff_reader.specs.declared.reader.Reader.{Reader}
+use Rattle.aff_reader.proofs.BelongsLaws.{belongs-record}
 use Rattle.aff_open.proofs.ObeysLaws.{NodesHold, accepted-nodes}
 use Rattle.aff_open.proofs.OpenedLaws.{OpenedShape, opened-shape, opened-belongs}
 use Rattle.aff_read.specs.Paths.{editionBy, lookupAnswer}

@@ -8,9 +8,9 @@ use Rattle.aff_format.specs.Element.{elementAt}
 use Rattle.aff_format.specs.Refusal.{codeOfRefusal}
 use Rattle.aff_format.specs.declared.element.Element.{Element}
 use Rattle.aff_format.specs.declared.kind.Kind.{Kind}
-use Rattle.aff_open.specs.Belongs.{readerBelongs}
-use Rattle.aff_open.specs.declared.reader.Span.{Span}
-use Rattle.aff_open.specs.declared.reader.Reader.{Reader}
+use Rattle.aff_reader.specs.Belongs.{readerBelongs}
+use Rattle.aff_reader.specs.declared.reader.Span.{Span}
+use Rattle.aff_reader.specs.declared.reader.Reader.{Reader}
 use Rattle.aff_read.specs.Recall.{kindAt, countAt, nameSpan, dataSpan, spanBytes, bytesAt}
 use Rattle.aff_read.specs.declared.answers.KindAnswer.{KindAnswer}
 use Rattle.aff_read.specs.declared.answers.KindAnswer.the-variants as kindCase

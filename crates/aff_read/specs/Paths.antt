@@ -6,15 +6,14 @@ use lib.Dec.{ltb}
 use lib.ListN.{length, drop, take}
 use Rattle.aff_format.specs.Answer.{Answer, accepted, refused, check, refusal, firstWrong}
 use Rattle.aff_format.specs.Bytes.{sameBytes}
-use Rattle.aff_format.specs.Edition.{editionOf}
+use Rattle.aff_format.specs.Edition.{editionOf, orTwo}
 use Rattle.aff_format.specs.Lowest.{lowestFrom, isAt}
 use Rattle.aff_format.specs.Path.{isPath}
 use Rattle.aff_format.specs.declared.edition.Edition.{Edition}
 use Rattle.aff_format.specs.declared.lowest.Lowest.{Lowest}
 use Rattle.aff_format.specs.declared.lowest.Lowest.the-variants.{Nothing, At}
-use Rattle.aff_open.specs.Belongs.{readerBelongs}
-use Rattle.aff_open.specs.Sections.{orTwo}
-use Rattle.aff_open.specs.declared.reader.Reader.{Reader}
+use Rattle.aff_reader.specs.Belongs.{readerBelongs}
+use Rattle.aff_reader.specs.declared.reader.Reader.{Reader}
 use Rattle.aff_read.specs.Answers.{existsChecks}
 use Rattle.aff_read.specs.Recall.{pathAt}
 use mathlib.Core.Path.{_≡_}

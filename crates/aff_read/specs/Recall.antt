@@ -8,10 +8,10 @@ use Rattle.aff_format.specs.Bytes.{part}
 use Rattle.aff_format.specs.Kind.{elementSize, isVoid}
 use Rattle.aff_format.specs.Tree.{pathBy}
 use Rattle.aff_format.specs.declared.kind.Kind.{Kind}
-use Rattle.aff_open.specs.Reader.{noSpan}
+use Rattle.aff_reader.specs.Reader.{noSpan}
 use Rattle.aff_format.specs.Recorded.{recordedEntry, recordedString}
-use Rattle.aff_open.specs.declared.reader.Span.{Span}
-use Rattle.aff_open.specs.declared.reader.Reader.{Reader}
+use Rattle.aff_reader.specs.declared.reader.Span.{Span}
+use Rattle.aff_reader.specs.declared.reader.Reader.{Reader}
 
 -- Where the symbol section ends.
 abbrev pub symbolsEnd : Reader → ℕ

@@ -8,11 +8,11 @@ use Rattle.aff_format.specs.Answer.{Answer, accepted, refused, refusal}
 use Rattle.aff_format.specs.Limits.{stringLimit, nodeLimit}
 use Rattle.aff_format.specs.Tree.{Tree, treeNode, treeCount, pathIn}
 use Rattle.aff_open.specs.Opening.{openAnswer, stringsAfter, entriesAfter}
-use Rattle.aff_open.specs.declared.reader.Reader.{Reader}
+use Rattle.aff_reader.specs.declared.reader.Reader.{Reader}
 use Rattle.aff_read.specs.Answers.{partOf, nameAnswer, kindAnswer, countAnswer, viewAnswer, elementAnswer}
 use Rattle.aff_read.specs.Paths.{frontWritten, pathAnswer}
 use Rattle.aff_read.specs.Recall.{pathAt}
-use Rattle.aff_open.specs.declared.reader.Span.{Span}
+use Rattle.aff_reader.specs.declared.reader.Span.{Span}
 
 -- A call that shows a part accepts, and the part is these bytes.
 pub record PartIs (image : List ℕ) (answer : Answer Span) (bytes : List ℕ) : Type 0 where

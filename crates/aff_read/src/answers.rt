@@ -1,7 +1,7 @@
 // What the reading calls return.
 use aff_format::Kind;
 use aff_format::Refusal;
-use aff_open::Span;
+use aff_reader::Span;
 
 pub enum KindAnswer {
     Value(Kind),

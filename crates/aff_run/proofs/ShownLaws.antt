@@ -22,14 +22,14 @@ use Rattle.aff_format.specs.declared.section.Section.the-variants.{Data}
 use Rattle.aff_format.specs.declared.kind.Kind.{Kind}
 use Rattle.aff_format.proofs.StringsLaws.{length-upToZero, take-upToZero}
 use Rattle.aff_format.proofs.TreeLaws.{front-same}
-use Rattle.aff_open.specs.Belongs.{readerBelongs}
+use Rattle.aff_reader.specs.Belongs.{readerBelongs}
 use Rattle.aff_tables.specs.Tables.{nodeEntry}
 use Rattle.aff_open.specs.Opening.{openAnswer, readerFor, stringsAfter, entriesAfter}
 use Rattle.aff_format.specs.Recorded.{recordedEntry, recordedString, nameFrom}
 use Rattle.aff_open.specs.Sections.{editionIn, sectionRecords, stringsIn, nodesIn}
-use Rattle.aff_open.specs.Reader.{noSpan}
-use Rattle.aff_open.specs.declared.reader.Reader.{Reader}
-use Rattle.aff_open.specs.declared.reader.Span.{Span}
+use Rattle.aff_reader.specs.Reader.{noSpan}
+use Rattle.aff_reader.specs.declared.reader.Reader.{Reader}
+use Rattle.aff_reader.specs.declared.reader.Span.{Span}
 use Rattle.aff_open.proofs.ObeysLaws.{obeys-accepted}
 use Rattle.aff_open.proofs.OpenedLaws.{OpenedShape, opened-shape, opened-belongs}
 use Rattle.aff_read.specs.Answers.{nameAnswer, kindAnswer, countAnswer, viewAnswer, elementAnswer}

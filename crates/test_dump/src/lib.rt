@@ -3,8 +3,8 @@ pub mod show; // numbers, bytes and answers
 
 use aff_format::NumberAnswer;
 use aff_format::Verdict;
-use aff_open::Reader;
 use aff_read::KindAnswer;
+use aff_reader::Reader;
 
 // The elements of a node, and the index after them: 16.
 fn elements(

@@ -3,9 +3,9 @@
 // answers; it shares no code with the library.
 use aff_format::NumberAnswer;
 use aff_format::Verdict;
-use aff_open::Reader;
 use aff_listing::Choice;
 use aff_listing::listing;
+use aff_reader::Reader;
 
 // The answer of the listing call for an output of so many places.
 fn answer(

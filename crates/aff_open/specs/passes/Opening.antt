@@ -18,7 +18,7 @@ use Rattle.aff_tables.specs.passes.Distinct.{Places}
 use Rattle.aff_tables.specs.declared.symbols.Symbols.{Symbols}
 use Rattle.aff_tables.specs.passes.Results.{AllDistinct, symbolsOf}
 use Rattle.aff_open.specs.Opening.{stringIn, entryIn, stringPlaces, nodePlaces}
-use Rattle.aff_open.specs.Reader.{noReader}
+use Rattle.aff_reader.specs.Reader.{noReader}
 use Rattle.aff_open.specs.Sections.{stringsIn, nodesIn, sectionOffset, sectionSize, sectionRecords, sectionBytes, endsPast}
 use Rattle.aff_open.specs.declared.header.HeaderResult.{HeaderResult}
 use Rattle.aff_open.specs.declared.header.HeaderResult.the-variants as signed

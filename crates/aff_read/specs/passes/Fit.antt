@@ -8,7 +8,7 @@ use lib.ListN.{length, getD}
 use Rattle.aff_format.specs.Limits.{nodeLimit}
 use Rattle.aff_format.specs.Tree.{frontBy, reachesBy}
 use Rattle.aff_format.specs.Recorded.{recordedEntry}
-use Rattle.aff_open.specs.declared.reader.Reader.{Reader}
+use Rattle.aff_reader.specs.declared.reader.Reader.{Reader}
 use Rattle.aff_read.specs.Recall.{parentAt, nameAt}
 
 -- A text against the rest of a path, of which n bytes went before: m + 2 where the rest begins with the text, which ends after m bytes of the

@@ -1,7 +1,7 @@
 -- `aff_element` meets its contract: the answer of `element` for the record with these numbers. Assumes nothing.
 use borrow.Author.Needs.{needs}
 use mathlib.Core.Path.{ap, _∙_}
-use Rattle.aff_open.specs.declared.reader.Reader.{Reader}
+use Rattle.aff_reader.specs.declared.reader.Reader.{Reader}
 use Rattle.aff_read.specs.Answers.{elementAnswer}
 use Rattle.aff_c.specs.Reading.{numberBy, leftBy, realPart, imaginaryPart}
 use Rattle.aff_c.proofs.reading.aff_element.Statement.{statement}

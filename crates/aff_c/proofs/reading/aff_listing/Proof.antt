@@ -5,7 +5,7 @@ use mathlib.Core.List.{List}
 use Prim.Native.Nat.{ℕ}
 use lib.ListN.{length}
 use Rattle.aff_format.specs.Answer.{Answer}
-use Rattle.aff_open.specs.declared.reader.Reader.{Reader}
+use Rattle.aff_reader.specs.declared.reader.Reader.{Reader}
 use Rattle.aff_listing.specs.ListingOrder.{listingOrder, listingAnswer}
 use Rattle.aff_listing.specs.declared.choice.Choice.{Choice}
 use Rattle.aff_c.specs.Reading.{readerIn, numberBy, leftBy}

@@ -1,7 +1,7 @@
 -- `put_span` meets its contract, by the answer. Assumes nothing.
 use borrow.Author.Needs.{needs}
 use mathlib.Core.Path.{sym, ap, _∙_}
-use Rattle.aff_open.specs.declared.reader.Span.{Span}
+use Rattle.aff_reader.specs.declared.reader.Span.{Span}
 use Rattle.aff_read.specs.Answers.{answerOfPart}
 use Rattle.aff_c.proofs.ReadingLaws.{no-refusal, stored, its-number, kept}
 use Rattle.aff_c.proofs.reading.put_span.Statement.{statement}

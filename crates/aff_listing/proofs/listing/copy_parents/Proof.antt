@@ -5,9 +5,9 @@ use native.Mathlib.Omega.{arith}
 use borrow.Author.Needs.{needs}
 use lib.ListN.{length, length-set}
 use Rattle.aff_format.specs.declared.entry.Entry.{Entry}
-use Rattle.aff_open.specs.passes.Belongs.{ParentsCopied}
+use Rattle.aff_reader.specs.passes.Belongs.{ParentsCopied}
 use Rattle.aff_format.specs.Recorded.{recordedEntry}
-use Rattle.aff_open.proofs.LostLaws.{copied-more}
+use Rattle.aff_reader.proofs.LostLaws.{copied-more}
 use Rattle.aff_listing.proofs.listing.copy_parents.Statement.{statement}
 use Rattle.aff_listing.proofs.listing.copy_parents.Tie as tie
 

@@ -6,7 +6,7 @@ use native.Mathlib.Omega.{arith}
 use Prim.Native.Nat.{_≤_, _<_}
 use lib.ListN.{length}
 use Rattle.aff_format.specs.Answer.{accepted}
-use Rattle.aff_open.proofs.BelongsLaws.{belongs-record}
+use Rattle.aff_reader.proofs.BelongsLaws.{belongs-record}
 use Rattle.aff_listing.specs.ListingOrder.{listedCount, listingAnswer}
 use Rattle.aff_read.proofs.JudgeLaws.{refuted, granted}
 use Rattle.aff_listing.proofs.listing.listing.Statement.{statement}

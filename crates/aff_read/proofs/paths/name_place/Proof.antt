@@ -1,7 +1,7 @@
 -- `name_place` meets its contract: the root's name is at 0, another's where its string is recorded.
 use borrow.Author.Needs.{needs}
 use mathlib.Core.Path.{refl, ap}
-use Rattle.aff_open.specs.declared.reader.Span.{Span}
+use Rattle.aff_reader.specs.declared.reader.Span.{Span}
 use Rattle.aff_read.proofs.FrontLaws.{name-begins}
 use Rattle.aff_read.proofs.SpanLaws.{name-root}
 use Rattle.aff_read.proofs.paths.name_place.Statement.{statement}

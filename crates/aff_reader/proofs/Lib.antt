@@ -1,0 +1,3 @@
+-- Laws of the definitions in specs/, which proofs of this crate and of those above cite.
+pub mod LostLaws
+pub mod BelongsLaws
