@@ -33,7 +33,7 @@ use Rattle.aff_read.proofs.LookupLaws.{lookup-malformed, lookup-at}
 use Rattle.aff_areas.specs.Belongs.{writerChecks}
 use Rattle.aff_areas.specs.Writer.{written}
 use Rattle.aff_areas.proofs.BelongsLaws.{record-belongs}
-use Rattle.aff_write.specs.Make.{namedChecks, makeAnswer}
+use Rattle.aff_make.specs.Make.{namedChecks, makeAnswer}
 use Rattle.aff.specs.Cases.{notSubkeyCase, entryCase, Holds, EachHolds, caseTable, LookupIs, MakeIs, Taken, EntryTakes}
 
 each-edition : (P : Edition → Type 0) → P One → P Two → (e : Edition) → P e

@@ -30,7 +30,7 @@ use Rattle.aff_areas.specs.Writer.{noWriter}
 use Rattle.aff_areas.specs.declared.writer.Writer.{Writer}
 use Rattle.aff_areas.proofs.BelongsLaws.{belongs-record as writer-clauses, record-belongs as writer-belongs, none-belongs as none-belongs-here}
 use Rattle.aff_write.specs.Close.{storeChecks, closeAnswer}
-use Rattle.aff_write.specs.Make.{childChecks, makeAnswer}
+use Rattle.aff_make.specs.Make.{childChecks, makeAnswer}
 use Rattle.aff_write.specs.Put.{dataChecks, putAnswer}
 use Rattle.aff_run.specs.AnswersFromTree.{callChecks, callValue, callAnswer, AnswersFromTree, stops}
 use Rattle.aff_run.specs.Run.{Call, make, put, close, State, step, isAccepted, applyCall}

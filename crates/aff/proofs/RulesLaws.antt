@@ -50,7 +50,7 @@ use Rattle.aff_areas.proofs.BelongsLaws.{belongs-record as writer-clauses, reco
 use Rattle.aff_areas.proofs.StoreLaws.{length-storesFrom}
 use Rattle.aff_write.specs.Begin.{beginLengthsWrong, beginChecks, beginAnswer}
 use Rattle.aff_write.specs.Close.{closeStores, storeChecks, closeAnswer}
-use Rattle.aff_write.specs.Make.{addedStrings, addedText, tooMany, isChild, childExists, childChecks, makeAnswer}
+use Rattle.aff_make.specs.Make.{addedStrings, addedText, tooMany, isChild, childExists, childChecks, makeAnswer}
 use Rattle.aff_write.specs.Put.{takesNone, wrongData, putPlace, putStores, dataChecks, putAnswer}
 use Rattle.aff_run.proofs.BeginInvariantLaws.{lengths-right}
 use Rattle.aff_run.proofs.InvariantLaws.{is-void}

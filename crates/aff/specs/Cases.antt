@@ -20,7 +20,7 @@ use Rattle.aff_reader.specs.declared.reader.Reader.{Reader}
 use Rattle.aff_read.specs.Paths.{lookupAnswer}
 use Rattle.aff_areas.specs.Belongs.{WriterBelongs}
 use Rattle.aff_areas.specs.declared.writer.Writer.{Writer}
-use Rattle.aff_write.specs.Make.{makeAnswer}
+use Rattle.aff_make.specs.Make.{makeAnswer}
 
 pub data Case : Type 0 where
   -- A path, and what a lookup of it answers.

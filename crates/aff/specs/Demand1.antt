@@ -27,7 +27,7 @@ use Rattle.aff_areas.specs.Stores.{storesReported}
 use Rattle.aff_areas.specs.declared.writer.Writer.{Writer}
 use Rattle.aff_write.specs.Begin.{beginAnswer}
 use Rattle.aff_write.specs.Close.{closeAnswer}
-use Rattle.aff_write.specs.Make.{makeAnswer}
+use Rattle.aff_make.specs.Make.{makeAnswer}
 use Rattle.aff_write.specs.Put.{putAnswer}
 use Rattle.aff_run.specs.AnswersFromTree.{AnswersFromTree, AllWrongRecord, stops}
 use Rattle.aff_run.specs.AreasHold.{AreasHold}

@@ -27,7 +27,7 @@ use Rattle.aff_areas.specs.Belongs.{WriterBelongs}
 use Rattle.aff_areas.specs.Writer.{written, dataPlace}
 use Rattle.aff_areas.specs.declared.writer.Writer.{Writer}
 use Rattle.aff_write.specs.Close.{closeStores, closeAnswer}
-use Rattle.aff_write.specs.Make.{addedStrings, addedText, makeAnswer}
+use Rattle.aff_make.specs.Make.{addedStrings, addedText, makeAnswer}
 use Rattle.aff_write.specs.Put.{putAnswer}
 use Rattle.aff_listing.specs.ListingOrder.{listedCount, listingAnswer}
 use Rattle.aff_listing.specs.declared.choice.Choice.{Choice}

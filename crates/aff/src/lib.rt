@@ -23,11 +23,11 @@ pub use aff_read::paths::lookup;
 pub use aff_read::paths::path;
 
 // Writing a file.
+pub use aff_make::make;
 pub use aff_write::Writer;
 pub use aff_write::Writing;
 pub use aff_write::begin;
 pub use aff_write::close;
-pub use aff_write::make;
 pub use aff_write::put;
 
 // What the calls hand back, and one element of a view that is held.

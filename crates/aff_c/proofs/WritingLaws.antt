@@ -15,7 +15,7 @@ use Rattle.aff_areas.specs.declared.writer.Writer.{Writer}
 use Rattle.aff_areas.specs.declared.writer.Writing.{Writing}
 use Rattle.aff_write.specs.Begin.{beginStores, beginAnswer, beginWriter, beginArea}
 use Rattle.aff_write.specs.Close.{closeStores, closeAnswer}
-use Rattle.aff_write.specs.Make.{madeWriter, madeText, madeTree, makeAnswer}
+use Rattle.aff_make.specs.Make.{madeWriter, madeText, madeTree, makeAnswer}
 use Rattle.aff_write.specs.Put.{putStores, putWriter, putTree, putAnswer}
 use Rattle.aff_c.specs.Reading.{numberBy}
 use Rattle.aff_c.specs.Writing.{writerIn, numbersBy, reportedNumber, numbersRefused, numbersLeft, beginReturned, beginRecord, makeReturned, numbersMade, textMade, treeMade, putReturned, numbersPut, bufferPut, treePut, closeReturned, numbersClosed, bufferClosed}

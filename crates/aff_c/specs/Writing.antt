@@ -11,7 +11,7 @@ use Rattle.aff_areas.specs.Writer.{stopped, areaAfter}
 use Rattle.aff_areas.specs.declared.writer.Writer.{Writer}
 use Rattle.aff_write.specs.Begin.{beginAnswer, beginWriter}
 use Rattle.aff_write.specs.Close.{closeStores, closeAnswer}
-use Rattle.aff_write.specs.Make.{madeWriter, madeText, madeTree, makeAnswer}
+use Rattle.aff_make.specs.Make.{madeWriter, madeText, madeTree, makeAnswer}
 use Rattle.aff_write.specs.Put.{putStores, putWriter, putTree, putAnswer}
 
 -- The record of 7 numbers and 12 bytes of form; the first number, what the last call reported, is no part of it.

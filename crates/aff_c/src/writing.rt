@@ -135,7 +135,7 @@ pub extern "C" fn aff_begin(
     leave(done, numbers)
 }
 
-// Makes a child, as `aff_write::make` does.
+// Makes a child, as `aff_make::make` does.
 #[no_mangle]
 pub extern "C" fn aff_make(
     buffer: &[u8],
@@ -152,7 +152,7 @@ pub extern "C" fn aff_make(
     ensures tree { λ _. ⌜ now (tree .exit) ≡ treeMade (now (buffer .entry)) (now (numbers .entry)) (now (kept .entry)) (now (text .entry)) (now (tree .entry)) parent (now (name .entry)) ⌝ }
 {
     let writer = writer_of(numbers, kept);
-    let done = aff_write::make(buffer, writer, text, tree, parent as usize, name);
+    let done = aff_make::make(buffer, writer, text, tree, parent as usize, name);
     leave_next(done, numbers)
 }
 

@@ -14,7 +14,7 @@ use Rattle.aff_areas.specs.Writer.{writerAfter, areaAfter}
 use Rattle.aff_areas.specs.declared.writer.Writer.{Writer}
 use Rattle.aff_write.specs.Begin.{beginStores, beginAnswer, beginWriter, beginArea}
 use Rattle.aff_write.specs.Close.{closeStores, closeAnswer}
-use Rattle.aff_write.specs.Make.{makeAnswer, madeWriter, madeText, madeTree}
+use Rattle.aff_make.specs.Make.{makeAnswer, madeWriter, madeText, madeTree}
 use Rattle.aff_write.specs.Put.{putStores, putAnswer, putWriter, putTree}
 use Rattle.aff_run.specs.Cut.{limitCalls}
 use Rattle.aff_run.specs.Run.{Call, make, put, close, State, next, beginStep, answerTo, step, afterCall, stateAfter, Run, runBegin, runStart}

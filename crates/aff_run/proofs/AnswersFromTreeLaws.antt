@@ -29,7 +29,7 @@ use Rattle.aff_areas.proofs.BelongsLaws.{record-belongs, none-belongs}
 use Rattle.aff_areas.proofs.StoreLaws.{length-storesFrom, apply-length}
 use Rattle.aff_write.specs.Begin.{beginStores}
 use Rattle.aff_write.specs.Close.{symbolsPlace, treePlace, closeHeader, closeStores, storeChecks}
-use Rattle.aff_write.specs.Make.{addedText, tooMany, isChild, childExists, childChecks}
+use Rattle.aff_make.specs.Make.{addedText, tooMany, isChild, childExists, childChecks}
 use Rattle.aff_write.specs.Put.{takesNone, wrongData, dataKind, putPlace, dataChecks}
 use Rattle.aff_run.specs.TreeSizes.{withChild, withData, sizeOf}
 use Rattle.aff_run.specs.AnswersFromTree.{hasChild, tooLarge, closeNeeds, callChecks, callValue, callAnswer, stops, AnswersFromTree, AllWrongRecord}

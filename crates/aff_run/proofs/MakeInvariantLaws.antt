@@ -30,7 +30,7 @@ use Rattle.aff_format.proofs.TestLaws.{or-false}
 use Rattle.aff_areas.specs.Areas.{namesIn, slotAt, slotEntry, finishedSize}
 use Rattle.aff_areas.specs.Stores.{applyStores}
 use Rattle.aff_areas.specs.Writer.{written}
-use Rattle.aff_write.specs.Make.{addedStrings, addedText, tooMany, isChild, childExists, childChecks, madeText, madeEntry, madeTree}
+use Rattle.aff_make.specs.Make.{addedStrings, addedText, tooMany, isChild, childExists, childChecks, madeText, madeEntry, madeTree}
 use Rattle.aff_run.specs.TreeSizes.{withChild, addName, namesOf, dataSize, entriesSize, sizeOf}
 use Rattle.aff_run.specs.Run.{make, State, completed, step, afterCall}
 use Rattle.aff_run.proofs.InvariantLaws.{Stored, Each, Invariant, ZerosAfter, blank-drop, each-snoc, each-kept, names-in, count-same, entry-in, stored-in, name-in, size-in, text-after, tree-after}

@@ -14,7 +14,7 @@ use Rattle.aff_areas.specs.Belongs.{writerBelongs}
 use Rattle.aff_areas.specs.Stores.{applyStores}
 use Rattle.aff_areas.proofs.StoreLaws.{apply-append}
 use Rattle.aff_write.specs.Close.{storeChecks, closeAnswer}
-use Rattle.aff_write.specs.Make.{childChecks, makeAnswer}
+use Rattle.aff_make.specs.Make.{childChecks, makeAnswer}
 use Rattle.aff_write.specs.Put.{dataChecks, putAnswer}
 use Rattle.aff_run.specs.Run.{Call, make, put, close, State, Step, needed, step, afterCall, answersOf, storesOf, stateAfter, closedBy, treeAfter, Run, runBegin, runStart, runStores, runState}
 

@@ -12,7 +12,7 @@ use Rattle.aff_areas.specs.Writer.{stopped, writerAfter, areaAfter}
 use Rattle.aff_areas.specs.declared.writer.Writer.{Writer}
 use Rattle.aff_write.specs.Begin.{beginStores, beginAnswer, beginWriter, beginArea}
 use Rattle.aff_write.specs.Close.{closeStores, closeAnswer}
-use Rattle.aff_write.specs.Make.{makeAnswer, madeWriter, madeText, madeTree}
+use Rattle.aff_make.specs.Make.{makeAnswer, madeWriter, madeText, madeTree}
 use Rattle.aff_write.specs.Put.{dataKind, putStores, putAnswer, putWriter, putTree}
 use Rattle.aff_run.specs.TreeSizes.{withChild, withData}
 

@@ -1,5 +1,4 @@
 -- The writer: what the promises of this crate cite, in the order of document 01.
 pub mod Begin
-pub mod Make
 pub mod Put
 pub mod Close

@@ -1,7 +1,6 @@
-// The writer. Its calls are passed the buffer, the text area and the tree area, and judge first whether the record belongs to them (24). Begin,
-// put and close store into the buffer, at most as many bytes as their allowance; what they have stored is always the front of one list.
+// The writer's calls that store bytes in the buffer: begin, put, close. Put and close judge first whether the record belongs to the buffer and the two
+// areas passed (24). Each stores at most as many bytes as its allowance; what they have stored is always the front of one list.
 pub mod beginning; // begin
-pub mod making; // make a child
 pub mod putting; // put data
 pub mod closing; // close
 
@@ -9,5 +8,4 @@ pub use aff_areas::Writer;
 pub use aff_areas::Writing;
 pub use beginning::begin;
 pub use closing::close;
-pub use making::make;
 pub use putting::put;

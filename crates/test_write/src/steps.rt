@@ -126,7 +126,7 @@ fn call(
     let letter = step.letter;
     match letter {
         b'b' => aff_write::begin(buffer, bytes, text, tree, first),
-        b'm' => aff_write::make(buffer, writer, text, tree, first, bytes),
+        b'm' => aff_make::make(buffer, writer, text, tree, first, bytes),
         b'p' => aff_write::put(buffer, writer, text, tree, first, step.second, bytes, third),
         _ => aff_write::close(buffer, writer, text, tree, first),
     }

@@ -3,10 +3,10 @@ use borrow.Author.Needs.{needs}
 use mathlib.Core.Path.{refl, sym, _∙_}
 use native.Mathlib.Omega.{arith}
 use Rattle.aff_format.specs.declared.refusal.Refusal.the-variants.{TooMany, BufferTooSmall}
-use Rattle.aff_write.specs.Make.{sizeChecks}
-use Rattle.aff_write.proofs.MakeLaws.{refuses, accepts}
-use Rattle.aff_write.proofs.making.make_sized.Statement.{statement}
-use Rattle.aff_write.proofs.making.make_sized.Tie as tie
+use Rattle.aff_make.specs.Make.{sizeChecks}
+use Rattle.aff_make.proofs.MakeLaws.{refuses, accepts}
+use Rattle.aff_make.proofs.making.make_sized.Statement.{statement}
+use Rattle.aff_make.proofs.making.make_sized.Tie as tie
 
 returns : tie.Need-returns
 returns c =

@@ -28,7 +28,7 @@ ghost use Rattle.aff_format.specs.declared.kind.Kind.the-variants.{Void};
 ghost use Rattle.aff_areas.specs.Areas.{namesIn, finishedSize};
 ghost use Rattle.aff_areas.specs.Belongs.{WriterBelongs};
 ghost use Rattle.aff_areas.specs.Writer.{writerAfter, areaAfter};
-ghost use Rattle.aff_write.specs.Make.{addedText, tooMany, sizeChecks, namedChecks, childChecks, madeWriter, madeText, madeTree, makeAnswer};
+ghost use Rattle.aff_make.specs.Make.{addedText, tooMany, sizeChecks, namedChecks, childChecks, madeWriter, madeText, madeTree, makeAnswer};
 
 // Bytes that a name adds to the text; `string` is the number of the lowest string that is the name, or the number of strings.
 fn added_text(writer: Writer, text: &[u8], name: &[u8], string: usize) -> usize

@@ -1,10 +1,10 @@
 -- `make` meets its contract: what `judge` says, then `make_child`. Assumes nothing.
 use borrow.Author.Needs.{needs}
 use Rattle.aff_areas.proofs.BelongsLaws.{judge-belongs}
-use Rattle.aff_write.specs.Make.{makeAnswer}
-use Rattle.aff_write.proofs.MakeLaws.{belongs-own, judge-stops, judge-passes}
-use Rattle.aff_write.proofs.making.make.Statement.{statement}
-use Rattle.aff_write.proofs.making.make.Tie as tie
+use Rattle.aff_make.specs.Make.{makeAnswer}
+use Rattle.aff_make.proofs.MakeLaws.{belongs-own, judge-stops, judge-passes}
+use Rattle.aff_make.proofs.making.make.Statement.{statement}
+use Rattle.aff_make.proofs.making.make.Tie as tie
 
 make-child-requires : tie.Need-make-child-requires
 make-child-requires c κs =

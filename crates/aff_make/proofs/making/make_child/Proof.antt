@@ -3,10 +3,10 @@ use borrow.Author.Needs.{needs}
 use mathlib.Core.Path.{refl, sym, _∙_}
 use borrow.Author.Tests.{lt-ltb, le-ltb}
 use Rattle.aff_format.specs.declared.refusal.Refusal.the-variants.{Absent, Malformed}
-use Rattle.aff_write.specs.Make.{childChecks, namedChecks}
-use Rattle.aff_write.proofs.MakeLaws.{refuses, passes}
-use Rattle.aff_write.proofs.making.make_child.Statement.{statement}
-use Rattle.aff_write.proofs.making.make_child.Tie as tie
+use Rattle.aff_make.specs.Make.{childChecks, namedChecks}
+use Rattle.aff_make.proofs.MakeLaws.{refuses, passes}
+use Rattle.aff_make.proofs.making.make_child.Statement.{statement}
+use Rattle.aff_make.proofs.making.make_child.Tie as tie
 
 returns : tie.Need-returns
 returns c =

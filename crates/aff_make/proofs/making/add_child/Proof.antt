@@ -2,9 +2,9 @@
 use borrow.Author.Needs.{needs}
 use mathlib.Core.Path.{_∙_}
 use native.Mathlib.Omega.{arith}
-use Rattle.aff_write.proofs.MakeLaws.{string-few, is-old, is-new, added-new, not-many, text-old, text-new, tree-made}
-use Rattle.aff_write.proofs.making.add_child.Statement.{statement}
-use Rattle.aff_write.proofs.making.add_child.Tie as tie
+use Rattle.aff_make.proofs.MakeLaws.{string-few, is-old, is-new, added-new, not-many, text-old, text-new, tree-made}
+use Rattle.aff_make.proofs.making.add_child.Statement.{statement}
+use Rattle.aff_make.proofs.making.add_child.Tie as tie
 
 cast-t10 : tie.Need-cast-t10
 cast-t10 c =

@@ -33,7 +33,7 @@ use Rattle.aff_areas.specs.declared.writer.Writer.{Writer}
 use Rattle.aff_areas.specs.declared.writer.Writing.{Writing}
 use Rattle.aff_areas.proofs.BelongsLaws.{judge-leaves, judge-refuses, judged-other}
 use Rattle.aff_areas.proofs.NameLaws.{mark-at, marks-many}
-use Rattle.aff_write.specs.Make.{addedStrings, addedText, tooMany, madeWriter, madeText, madeTree, isChild, childExists, childChecks}
+use Rattle.aff_make.specs.Make.{addedStrings, addedText, tooMany, madeWriter, madeText, madeTree, isChild, childExists, childChecks}
 
 -- 21, by the size and the text that the code has.
 pub buffer-short : (a s k : ℕ) {size added : ℕ} → s ≤ a → size ≡ s → added ≡ k → ltb (a - size) (13 + added) ≡ ltb a (s + 13 + k)

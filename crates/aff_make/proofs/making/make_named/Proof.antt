@@ -7,10 +7,10 @@ use lib.ListN.{length-replicate}
 use lib.Seq.{length-take-le}
 use Rattle.aff_format.specs.declared.refusal.Refusal.the-variants.{ChildExists}
 use Rattle.aff_areas.proofs.NameLaws.{marks-first}
-use Rattle.aff_write.specs.Make.{namedChecks, sizeChecks}
-use Rattle.aff_write.proofs.MakeLaws.{refuses, passes, marks-children}
-use Rattle.aff_write.proofs.making.make_named.Statement.{statement}
-use Rattle.aff_write.proofs.making.make_named.Tie as tie
+use Rattle.aff_make.specs.Make.{namedChecks, sizeChecks}
+use Rattle.aff_make.proofs.MakeLaws.{refuses, passes, marks-children}
+use Rattle.aff_make.proofs.making.make_named.Statement.{statement}
+use Rattle.aff_make.proofs.making.make_named.Tie as tie
 
 slice-aggregate-mark-strings : tie.Need-slice-aggregate-mark-strings
 slice-aggregate-mark-strings c =

@@ -1,8 +1,8 @@
 -- `too_many` meets its contract: one law of 20 for each answer.
 use borrow.Author.Needs.{needs}
-use Rattle.aff_write.proofs.MakeLaws.{many-nodes, many-old, many-strings, many-text}
-use Rattle.aff_write.proofs.making.too_many.Statement.{statement}
-use Rattle.aff_write.proofs.making.too_many.Tie as tie
+use Rattle.aff_make.proofs.MakeLaws.{many-nodes, many-old, many-strings, many-text}
+use Rattle.aff_make.proofs.making.too_many.Statement.{statement}
+use Rattle.aff_make.proofs.making.too_many.Tie as tie
 
 returns : tie.Need-returns
 returns c = let p = c .before .before .pre in many-nodes _ _ _ _ (p .0 .0) (p .0 .1) (c .if1 .taken)

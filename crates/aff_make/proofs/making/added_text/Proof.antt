@@ -1,8 +1,8 @@
 -- `added_text` meets its contract: the name is a string exactly where one below their number is it.
 use borrow.Author.Needs.{needs}
-use Rattle.aff_write.proofs.MakeLaws.{added-old, added-new}
-use Rattle.aff_write.proofs.making.added_text.Statement.{statement}
-use Rattle.aff_write.proofs.making.added_text.Tie as tie
+use Rattle.aff_make.proofs.MakeLaws.{added-old, added-new}
+use Rattle.aff_make.proofs.making.added_text.Statement.{statement}
+use Rattle.aff_make.proofs.making.added_text.Tie as tie
 
 returns : tie.Need-returns
 returns c = let z = c .before .before in added-old (z .args .writer) (z .args .text .now) (z .args .name .now) _ (z .pre .0) (z .pre .1) (c .if1 .taken)

@@ -1,0 +1,2 @@
+-- Make a child: what the promises of this crate cite.
+pub mod Make
