@@ -22,9 +22,9 @@ use Rattle.aff_reader.specs.Reader.{noReader}
 use Rattle.aff_reader.specs.declared.reader.Reader.{Reader}
 use Rattle.aff_reader.proofs.BelongsLaws.{belongs-record as reader-clauses, record-belongs as reader-belongs, none-belongs}
 use Rattle.aff_open.proofs.OpenedLaws.{opened-belongs}
-use Rattle.aff_read.specs.Answers.{nameAnswer, kindAnswer, countAnswer, viewAnswer, elementAnswer}
+use Rattle.aff_nodes.specs.Answers.{nameAnswer, kindAnswer, countAnswer, viewAnswer, elementAnswer}
 use Rattle.aff_read.specs.Paths.{editionBy, found, pathAnswer, lookupAnswer}
-use Rattle.aff_read.specs.Recall.{countAt, pathAt}
+use Rattle.aff_nodes.specs.Recall.{countAt, pathAt}
 use Rattle.aff_areas.specs.Belongs.{writerBelongs as belongsHere, WriterBelongs}
 use Rattle.aff_areas.specs.Writer.{noWriter}
 use Rattle.aff_areas.specs.declared.writer.Writer.{Writer}

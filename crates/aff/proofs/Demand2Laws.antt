@@ -38,10 +38,10 @@ use Rattle.aff_reader.proofs.BelongsLaws.{belongs-record, record-belongs}
 use Rattle.aff_open.proofs.FaultLaws.{refused-first, first-refused}
 use Rattle.aff_open.proofs.ObeysLaws.{accepted-obeys, obeys-accepted, edition-found, strings-found, entries-found}
 use Rattle.aff_open.proofs.OpenedLaws.{OpenedShape, opened-shape, opened-belongs}
-use Rattle.aff_read.specs.Answers.{nameAnswer, kindAnswer, countAnswer, viewAnswer, elementAnswer}
+use Rattle.aff_nodes.specs.Answers.{nameAnswer, kindAnswer, countAnswer, viewAnswer, elementAnswer}
 use Rattle.aff_read.specs.Paths.{editionBy, found, lookupAnswer}
 use Rattle.aff_read.specs.Lookup.{NoneWith, OnlyWith}
-use Rattle.aff_read.specs.Recall.{kindAt, parentAt, nameAt, dataSpan, spanBytes, bytesAt, pathAt}
+use Rattle.aff_nodes.specs.Recall.{kindAt, parentAt, nameAt, dataSpan, spanBytes, bytesAt, pathAt}
 use Rattle.aff_read.proofs.FrontLaws.{name-bytes}
 use Rattle.aff_listing.proofs.ListingLaws.{preorder-same}
 use Rattle.aff_read.proofs.LookupLaws.{lookup-malformed, lookup-accepts, lookup-absent}

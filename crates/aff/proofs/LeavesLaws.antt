@@ -17,9 +17,9 @@ use Rattle.aff_reader.specs.declared.reader.Reader.{Reader}
 use Rattle.aff_reader.specs.Belongs.{readerBelongs}
 use Rattle.aff_reader.proofs.BelongsLaws.{belongs-record}
 use Rattle.aff_open.proofs.NumbersLaws.{open-numbers}
-use Rattle.aff_read.specs.Answers.{existsChecks as numberChecks}
+use Rattle.aff_nodes.specs.Answers.{existsChecks as numberChecks}
 use Rattle.aff_read.specs.Paths.{pathAnswer}
-use Rattle.aff_read.specs.Recall.{pathAt}
+use Rattle.aff_nodes.specs.Recall.{pathAt}
 use Rattle.aff_listing.proofs.ListedLaws.{order-length}
 use Rattle.aff_areas.specs.Stores.{applyStores}
 use Rattle.aff_areas.specs.Writer.{stopped}

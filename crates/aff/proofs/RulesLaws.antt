@@ -37,10 +37,10 @@ use Rattle.aff_reader.specs.declared.reader.Reader.{Reader}
 use Rattle.aff_reader.proofs.BelongsLaws.{belongs-record as reader-clauses, record-belongs as reader-belongs}
 use Rattle.aff_open.proofs.FaultLaws.{opening-settled}
 use Rattle.aff_format.proofs.RuleLaws.{AskFor, none, one, settled-by, by-checks, at-most, is-below, is-true}
-use Rattle.aff_read.specs.Answers.{existsChecks, nameAnswer, kindAnswer, countAnswer, viewAnswer, elementAnswer}
+use Rattle.aff_nodes.specs.Answers.{existsChecks, nameAnswer, kindAnswer, countAnswer, viewAnswer, elementAnswer}
 use Rattle.aff_read.specs.Paths.{editionBy, found, pathAnswer, lookupAnswer}
 use Rattle.aff_read.specs.Lookup.{LowestWith}
-use Rattle.aff_read.specs.Recall.{countAt, pathAt}
+use Rattle.aff_nodes.specs.Recall.{countAt, pathAt}
 use Rattle.aff_read.proofs.LookupLaws.{lookup-accepts}
 use Rattle.aff_areas.specs.Areas.{slotEntry, nameOf}
 use Rattle.aff_areas.specs.Belongs.{writerBelongs, WriterBelongs, writerChecks}

@@ -20,7 +20,7 @@ use Rattle.aff_open.specs.Faults.{rules}
 use Rattle.aff_open.specs.Opening.{openAnswer, readerFor, readerAfter, stringsAfter, entriesAfter}
 use Rattle.aff_open.specs.Sections.{editionIn}
 use Rattle.aff_reader.specs.declared.reader.Reader.{Reader}
-use Rattle.aff_read.specs.Answers.{nameAnswer, kindAnswer, countAnswer, viewAnswer, elementAnswer}
+use Rattle.aff_nodes.specs.Answers.{nameAnswer, kindAnswer, countAnswer, viewAnswer, elementAnswer}
 use Rattle.aff_read.specs.Paths.{pathAnswer, lookupAnswer}
 use Rattle.aff_areas.specs.Belongs.{WriterBelongs}
 use Rattle.aff_areas.specs.Stores.{storesReported}

@@ -30,11 +30,11 @@ use Rattle.aff_open.specs.Opening.{openAnswer, stringsAfter, entriesAfter}
 use Rattle.aff_format.specs.Recorded.{recordedEntry}
 use Rattle.aff_open.specs.Sections.{sectionRecords}
 use Rattle.aff_reader.specs.declared.reader.Reader.{Reader}
-use Rattle.aff_read.specs.Answers.{nameAnswer, kindAnswer, countAnswer, viewAnswer, elementAnswer}
+use Rattle.aff_nodes.specs.Answers.{nameAnswer, kindAnswer, countAnswer, viewAnswer, elementAnswer}
 use Rattle.aff_read.specs.Paths.{editionBy, lookupAnswer}
 use Rattle.aff_read.specs.Lookup.{LowestWith, NoneWith}
 use Rattle.aff_listing.specs.Once.{occurrences}
-use Rattle.aff_read.specs.Recall.{nameAt, pathAt}
+use Rattle.aff_nodes.specs.Recall.{nameAt, pathAt}
 use Rattle.aff_read.specs.Shows.{PartIs, Absent}
 use Rattle.aff.specs.Cases.{EachHolds, caseTable}
 use Rattle.aff_listing.specs.ListingOrder.{lists, preorder, kept, keptBelow, listingOrder, listingAnswer}

@@ -13,9 +13,9 @@ use Rattle.aff_reader.specs.Reader.{noReader}
 use Rattle.aff_open.specs.Sections.{editionIn}
 use Rattle.aff_format.specs.Bytes.{laidOver}
 use Rattle.aff_reader.specs.declared.reader.Reader.{Reader}
-use Rattle.aff_read.specs.Answers.{partOf, nameAnswer, viewAnswer}
+use Rattle.aff_nodes.specs.Answers.{partOf, nameAnswer, viewAnswer}
 use Rattle.aff_read.specs.Paths.{frontWritten, pathAnswer, Output}
-use Rattle.aff_read.specs.Recall.{pathAt}
+use Rattle.aff_nodes.specs.Recall.{pathAt}
 use Rattle.aff_areas.specs.Stores.{applyStores}
 use Rattle.aff_areas.specs.Writer.{noWriter, freshWriter, stopped}
 use Rattle.aff_run.specs.Run.{Call, State, needed, completed, step, afterCall, Run, runBegin, runStart}

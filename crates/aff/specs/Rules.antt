@@ -18,10 +18,10 @@ use Rattle.aff_format.specs.declared.kind.Kind.the-variants.{Void}
 use Rattle.aff_reader.specs.Belongs.{ReaderBelongs}
 use Rattle.aff_format.specs.Rule.{Rule, rule, By, Is}
 use Rattle.aff_reader.specs.declared.reader.Reader.{Reader}
-use Rattle.aff_read.specs.Answers.{nameAnswer, kindAnswer, countAnswer, viewAnswer, elementAnswer}
+use Rattle.aff_nodes.specs.Answers.{nameAnswer, kindAnswer, countAnswer, viewAnswer, elementAnswer}
 use Rattle.aff_read.specs.Paths.{editionBy, pathAnswer, lookupAnswer}
 use Rattle.aff_read.specs.Lookup.{LowestWith}
-use Rattle.aff_read.specs.Recall.{kindAt, countAt, nameSpan, dataSpan, bytesAt, pathAt}
+use Rattle.aff_nodes.specs.Recall.{kindAt, countAt, nameSpan, dataSpan, bytesAt, pathAt}
 use Rattle.aff_areas.specs.Areas.{slotEntry, nameOf, finishedSize}
 use Rattle.aff_areas.specs.Belongs.{WriterBelongs}
 use Rattle.aff_areas.specs.Writer.{written, dataPlace}

@@ -10,15 +10,15 @@ pub use aff_reader::Span;
 // Answers of an opened image.
 pub use aff_listing::Choice;
 pub use aff_listing::listing::listing;
-pub use aff_read::KindAnswer;
-pub use aff_read::PartAnswer;
-pub use aff_read::node::count;
-pub use aff_read::node::element;
-pub use aff_read::node::kind;
-pub use aff_read::node::name;
-pub use aff_read::node::name_bounds;
-pub use aff_read::node::view;
-pub use aff_read::node::view_bounds;
+pub use aff_nodes::KindAnswer;
+pub use aff_nodes::PartAnswer;
+pub use aff_nodes::node::count;
+pub use aff_nodes::node::element;
+pub use aff_nodes::node::kind;
+pub use aff_nodes::node::name;
+pub use aff_nodes::node::name_bounds;
+pub use aff_nodes::node::view;
+pub use aff_nodes::node::view_bounds;
 pub use aff_read::paths::lookup;
 pub use aff_read::paths::path;
 

@@ -8,8 +8,8 @@ use aff_format::Kind;
 use aff_format::NumberAnswer;
 use aff_format::element;
 use aff_listing::Choice;
-use aff_read::KindAnswer;
-use aff_read::PartAnswer;
+use aff_nodes::KindAnswer;
+use aff_nodes::PartAnswer;
 use aff_reader::Reader;
 use aff_reader::Span;
 ghost use mathlib.Core.Path.{_≡_};
@@ -19,9 +19,9 @@ ghost use Rattle.aff_reader.specs.declared.reader.Span.{Span};
 ghost use lib.ListN.{length};
 ghost use Rattle.aff_format.specs.Kind.{kindCode};
 ghost use Rattle.aff_format.specs.Verdict.{answerOfNumber};
-ghost use Rattle.aff_read.specs.Answers.{answerOfKind, answerOfPart, nameAnswer, kindAnswer, countAnswer, viewAnswer, elementAnswer};
+ghost use Rattle.aff_nodes.specs.Answers.{answerOfKind, answerOfPart, nameAnswer, kindAnswer, countAnswer, viewAnswer, elementAnswer};
 ghost use Rattle.aff_read.specs.Paths.{frontWritten, pathAnswer, lookupAnswer};
-ghost use Rattle.aff_read.specs.Recall.{pathAt};
+ghost use Rattle.aff_nodes.specs.Recall.{pathAt};
 ghost use Rattle.aff_c.specs.Reading.{editionNumberIn, readerIn, numberBy, choiceBy, leftBy, realPart, imaginaryPart, decodedAnswer};
 ghost use Rattle.aff_listing.specs.ListingOrder.{listingOrder, listingAnswer};
 
@@ -153,7 +153,7 @@ pub extern "C" fn aff_lookup(
     put_number(answer, node)
 }
 
-// Where the name of a node is in the image, as `aff_read::node::name_bounds` reports.
+// Where the name of a node is in the image, as `aff_nodes::node::name_bounds` reports.
 #[no_mangle]
 pub extern "C" fn aff_name(
     image: &[u8],
@@ -168,7 +168,7 @@ pub extern "C" fn aff_name(
     ensures offset { λ _. ⌜ now (offset .exit) ≡ leftBy (λ (s : Span). s .offset) (now (offset .entry)) (nameAnswer (now (image .entry)) (readerIn (now («record» .entry))) (now (strings .entry)) (now (entries .entry)) node) ⌝ }
     ensures size { λ _. ⌜ now (size .exit) ≡ leftBy (λ (s : Span). s .size) (now (size .entry)) (nameAnswer (now (image .entry)) (readerIn (now («record» .entry))) (now (strings .entry)) (now (entries .entry)) node) ⌝ }
 {
-    let answer = aff_read::node::name_bounds(
+    let answer = aff_nodes::node::name_bounds(
         image,
         reader_of(record),
         strings,
@@ -178,7 +178,7 @@ pub extern "C" fn aff_name(
     put_span(answer, offset, size)
 }
 
-// The code of a node's kind, as `aff_read::node::kind` reports.
+// The code of a node's kind, as `aff_nodes::node::kind` reports.
 #[no_mangle]
 pub extern "C" fn aff_kind(
     image: &[u8],
@@ -191,11 +191,11 @@ pub extern "C" fn aff_kind(
     ensures number { λ r. ⌜ r ≡ numberBy (kindAnswer (now (image .entry)) (readerIn (now («record» .entry))) (now (strings .entry)) (now (entries .entry)) node) ⌝ }
     ensures kind { λ _. ⌜ now (kind .exit) ≡ leftBy kindCode (now (kind .entry)) (kindAnswer (now (image .entry)) (readerIn (now («record» .entry))) (now (strings .entry)) (now (entries .entry)) node) ⌝ }
 {
-    let answer = aff_read::node::kind(image, reader_of(record), strings, entries, node as usize);
+    let answer = aff_nodes::node::kind(image, reader_of(record), strings, entries, node as usize);
     put_kind(answer, kind)
 }
 
-// How many elements a node has, as `aff_read::node::count` reports.
+// How many elements a node has, as `aff_nodes::node::count` reports.
 #[no_mangle]
 pub extern "C" fn aff_count(
     image: &[u8],
@@ -208,7 +208,7 @@ pub extern "C" fn aff_count(
     ensures number { λ r. ⌜ r ≡ numberBy (countAnswer (now (image .entry)) (readerIn (now («record» .entry))) (now (strings .entry)) (now (entries .entry)) node) ⌝ }
     ensures count { λ _. ⌜ now (count .exit) ≡ leftBy (λ (n : ℕ). n) (now (count .entry)) (countAnswer (now (image .entry)) (readerIn (now («record» .entry))) (now (strings .entry)) (now (entries .entry)) node) ⌝ }
 {
-    let answer = aff_read::node::count(image, reader_of(record), strings, entries, node as usize);
+    let answer = aff_nodes::node::count(image, reader_of(record), strings, entries, node as usize);
     put_number(answer, count)
 }
 
@@ -274,7 +274,7 @@ pub extern "C" fn aff_listing(
     put_number(answer, count)
 }
 
-// Where the data of a node are in the image, as `aff_read::node::view_bounds` reports.
+// Where the data of a node are in the image, as `aff_nodes::node::view_bounds` reports.
 #[no_mangle]
 pub extern "C" fn aff_view(
     image: &[u8],
@@ -289,7 +289,7 @@ pub extern "C" fn aff_view(
     ensures offset { λ _. ⌜ now (offset .exit) ≡ leftBy (λ (s : Span). s .offset) (now (offset .entry)) (viewAnswer (now (image .entry)) (readerIn (now («record» .entry))) (now (strings .entry)) (now (entries .entry)) node) ⌝ }
     ensures size { λ _. ⌜ now (size .exit) ≡ leftBy (λ (s : Span). s .size) (now (size .entry)) (viewAnswer (now (image .entry)) (readerIn (now («record» .entry))) (now (strings .entry)) (now (entries .entry)) node) ⌝ }
 {
-    let answer = aff_read::node::view_bounds(
+    let answer = aff_nodes::node::view_bounds(
         image,
         reader_of(record),
         strings,
@@ -299,7 +299,7 @@ pub extern "C" fn aff_view(
     put_span(answer, offset, size)
 }
 
-// One element of a node's data, as `aff_read::node::element` reports.
+// One element of a node's data, as `aff_nodes::node::element` reports.
 #[no_mangle]
 pub extern "C" fn aff_element(
     image: &[u8],
@@ -315,7 +315,7 @@ pub extern "C" fn aff_element(
     ensures value { λ _. ⌜ now (value .exit) ≡ leftBy realPart (now (value .entry)) (elementAnswer (now (image .entry)) (readerIn (now («record» .entry))) (now (strings .entry)) (now (entries .entry)) node index) ⌝ }
     ensures imaginary { λ _. ⌜ now (imaginary .exit) ≡ leftBy imaginaryPart (now (imaginary .entry)) (elementAnswer (now (image .entry)) (readerIn (now («record» .entry))) (now (strings .entry)) (now (entries .entry)) node index) ⌝ }
 {
-    let answer = aff_read::node::element(
+    let answer = aff_nodes::node::element(
         image,
         reader_of(record),
         strings,

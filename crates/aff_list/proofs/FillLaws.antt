@@ -15,7 +15,7 @@ use Rattle.aff_format.proofs.LowestLaws.{none-holds}
 use Rattle.aff_reader.specs.declared.reader.Reader.{Reader}
 use Rattle.aff_tables.proofs.OrderLaws.{split}
 use Rattle.aff_list.specs.Line.{lineAt, decimal, kindWord}
-use Rattle.aff_read.specs.Recall.{kindAt, countAt, pathAt}
+use Rattle.aff_nodes.specs.Recall.{kindAt, countAt, pathAt}
 use Rattle.aff_list.proofs.LineLaws.{tail-length}
 use Rattle.aff_list.specs.Lister.{pathLimit, rowLimit, pathTooLong, row, rows, rowsFrom, Ready, Fills}
 use Rattle.aff_list.specs.passes.Block.{endAfter, putAfter}

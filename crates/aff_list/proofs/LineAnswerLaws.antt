@@ -16,7 +16,7 @@ use Rattle.aff_reader.specs.declared.reader.Reader.{Reader}
 use Rattle.aff_open.specs.Opening.{openAnswer, readerAfter, stringsAfter, entriesAfter}
 use Rattle.aff_reader.proofs.BelongsLaws.{belongs-record, record-belongs, none-belongs}
 use Rattle.aff_open.proofs.OpenedLaws.{opened-belongs}
-use Rattle.aff_read.specs.Answers.{existsChecks}
+use Rattle.aff_nodes.specs.Answers.{existsChecks}
 use Rattle.aff_read.proofs.OutputLaws.{wrote, text-fits}
 use Rattle.aff_list.specs.Line.{lineAt, lineAnswer, LineAnswers, LineAfterOpening}
 

@@ -21,10 +21,10 @@ use Rattle.aff_reader.specs.Belongs.{ReaderBelongs}
 use Rattle.aff_format.specs.Recorded.{recordedEntry}
 use Rattle.aff_reader.specs.declared.reader.Reader.{Reader}
 use Rattle.aff_read.specs.Paths.{frontWritten}
-use Rattle.aff_read.specs.Recall.{kindAt, countAt, pathAt}
+use Rattle.aff_nodes.specs.Recall.{kindAt, countAt, pathAt}
 use Rattle.aff_read.specs.passes.Written.{Written, textAnswer}
-use Rattle.aff_read.proofs.ElementLaws.{void-count}
-use Rattle.aff_read.proofs.SpanLaws.{data-ends}
+use Rattle.aff_nodes.proofs.ElementLaws.{void-count}
+use Rattle.aff_nodes.proofs.SpanLaws.{data-ends}
 use Rattle.aff_read.proofs.WrittenLaws.{written-length, written-more, written-front, written-taken, text-accepted, text-refused}
 use Rattle.aff_list.specs.Line.{kindWord, decimal, lineAt}
 use Rattle.aff_list.proofs.DigitLaws.{length-decimal, decimal-whole}

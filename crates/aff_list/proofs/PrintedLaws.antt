@@ -22,7 +22,7 @@ use Rattle.aff_open.proofs.OpenedLaws.{opened-belongs}
 use Rattle.aff_open.proofs.FaultLaws.{lengths-asks}
 use Rattle.aff_tables.proofs.OrderLaws.{split}
 use Rattle.aff_listing.specs.ListingOrder.{listingOrder}
-use Rattle.aff_read.specs.Recall.{kindAt}
+use Rattle.aff_nodes.specs.Recall.{kindAt}
 use Rattle.aff_listing.specs.declared.choice.Choice.{Choice}
 use Rattle.aff_listing.specs.declared.choice.Choice.the-variants.{NotVoid}
 use Rattle.aff_listing.proofs.ListedLaws.{order-none}

@@ -24,7 +24,7 @@ use Rattle.aff_reader.specs.declared.reader.Reader.{Reader}
 use Rattle.aff_reader.proofs.BelongsLaws.{belongs-record}
 use Rattle.aff_open.proofs.OpenedLaws.{opened-belongs}
 use Rattle.aff_listing.specs.ListingOrder.{listingOrder, listedCount}
-use Rattle.aff_read.specs.Recall.{pathAt}
+use Rattle.aff_nodes.specs.Recall.{pathAt}
 use Rattle.aff_listing.specs.declared.choice.Choice.{Choice}
 use Rattle.aff_read.specs.passes.Capped.{capped}
 use Rattle.aff_read.proofs.CappedLaws.{capped-over, capped-exact}

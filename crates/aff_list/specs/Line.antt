@@ -8,8 +8,8 @@ use Rattle.aff_format.specs.Answer.{Answer, check, refusal, firstWrong, accepte
 use Rattle.aff_format.specs.declared.kind.Kind.{Kind}
 use Rattle.aff_format.specs.declared.kind.Kind.the-variants.{Void, Char, Int, Double, Complex}
 use Rattle.aff_reader.specs.declared.reader.Reader.{Reader}
-use Rattle.aff_read.specs.Answers.{existsChecks}
-use Rattle.aff_read.specs.Recall.{kindAt, countAt, pathAt}
+use Rattle.aff_nodes.specs.Answers.{existsChecks}
+use Rattle.aff_nodes.specs.Recall.{kindAt, countAt, pathAt}
 use Rattle.aff_format.specs.Rule.{rule, By, Is}
 use Rattle.aff_reader.specs.Belongs.{ReaderBelongs}
 use Rattle.aff_read.specs.Paths.{Output, frontWritten}

@@ -15,7 +15,7 @@ use Rattle.aff_open.specs.Sections.{formFor}
 use Rattle.aff_reader.specs.declared.reader.Reader.{Reader}
 use Rattle.aff_read.specs.Paths.{frontWritten}
 use Rattle.aff_listing.specs.ListingOrder.{listingOrder, listedCount}
-use Rattle.aff_read.specs.Recall.{kindAt, pathAt}
+use Rattle.aff_nodes.specs.Recall.{kindAt, pathAt}
 use Rattle.aff_listing.specs.declared.choice.Choice.{Choice}
 use Rattle.aff_listing.specs.declared.choice.Choice.the-variants.{NotVoid}
 use Rattle.aff_list.specs.Line.{decimal, lineAt}

@@ -5,7 +5,7 @@ use aff_format::NumberAnswer;
 use aff_format::Refusal;
 use aff_format::Verdict;
 use aff_format::recorded;
-use aff_read::node;
+use aff_nodes::node;
 use aff_read::paths;
 use aff_reader::Reader;
 ghost use mathlib.Core.Path.{_≡_};
@@ -15,7 +15,7 @@ ghost use lib.ListN.{length};
 ghost use Rattle.aff_format.specs.Verdict.{answerOfNumber};
 ghost use Rattle.aff_reader.specs.Belongs.{ReaderBelongs};
 ghost use Rattle.aff_read.specs.Paths.{frontWritten};
-ghost use Rattle.aff_read.specs.Recall.{pathAt};
+ghost use Rattle.aff_nodes.specs.Recall.{pathAt};
 ghost use Rattle.aff_read.specs.passes.Written.{Written, textAnswer};
 ghost use Rattle.aff_list.specs.Line.{kindWord, decimal, lineAt, lineAnswer};
 

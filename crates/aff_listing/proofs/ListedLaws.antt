@@ -15,7 +15,7 @@ use Rattle.aff_tables.proofs.OrderLaws.{split}
 use Rattle.aff_tables.specs.passes.Climb.{copiedParent as parentIn}
 use Rattle.aff_listing.specs.ListingOrder.{every, preorder, kept, isListed, listingOrder, listedCount}
 use Rattle.aff_listing.specs.Once.{occurrences}
-use Rattle.aff_read.specs.Recall.{parentAt}
+use Rattle.aff_nodes.specs.Recall.{parentAt}
 use Rattle.aff_listing.specs.declared.choice.Choice.{Choice}
 use Rattle.aff_listing.specs.declared.choice.Choice.the-variants.{AllNodes}
 use Rattle.aff_listing.specs.passes.Children.{ParentsWithin}

@@ -18,7 +18,7 @@ use Rattle.aff_reader.specs.declared.reader.Reader.{Reader}
 use Rattle.aff_tables.proofs.OrderLaws.{split}
 use Rattle.aff_listing.specs.ListingOrder.{own, every, childOf, childrenTo, preorder}
 use Rattle.aff_listing.specs.Once.{hit, occurrences}
-use Rattle.aff_read.specs.Recall.{parentAt}
+use Rattle.aff_nodes.specs.Recall.{parentAt}
 
 -- ---- Occurrences.
 

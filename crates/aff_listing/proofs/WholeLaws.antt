@@ -15,7 +15,7 @@ use Rattle.aff_reader.specs.Belongs.{ReaderBelongs}
 use Rattle.aff_reader.specs.declared.reader.Reader.{Reader}
 use Rattle.aff_listing.specs.ListingOrder.{own, every, childOf, childrenTo, preorder, kept, isListed}
 use Rattle.aff_listing.specs.Once.{occurrences}
-use Rattle.aff_read.specs.Recall.{parentAt}
+use Rattle.aff_nodes.specs.Recall.{parentAt}
 use Rattle.aff_listing.specs.declared.choice.Choice.{Choice}
 use Rattle.aff_listing.proofs.KeptLaws.{children-kept, preorder-kept}
 use Rattle.aff_listing.proofs.OnceLaws.{total, total-length, step, root-count, only-nodes, linked, reached}

@@ -9,7 +9,7 @@ use Rattle.aff_format.specs.Kind.{isVoid}
 use Rattle.aff_format.specs.declared.kind.Kind.{Kind}
 use Rattle.aff_reader.specs.Belongs.{readerBelongs}
 use Rattle.aff_reader.specs.declared.reader.Reader.{Reader}
-use Rattle.aff_read.specs.Recall.{kindAt, parentAt}
+use Rattle.aff_nodes.specs.Recall.{kindAt, parentAt}
 use Rattle.aff_listing.specs.declared.choice.Choice.{Choice}
 use Rattle.aff_listing.specs.declared.choice.Choice.the-variants.{AllNodes, NotVoid}
 

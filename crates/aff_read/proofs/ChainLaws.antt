@@ -15,7 +15,7 @@ use Rattle.aff_format.specs.Recorded.{recordedEntry}
 use Rattle.aff_reader.specs.declared.reader.Reader.{Reader}
 use Rattle.aff_reader.proofs.BelongsLaws.{parent-within}
 use Rattle.aff_read.specs.passes.Fit.{fitAt, FitsSettled, Climbable, Chain}
-use Rattle.aff_read.specs.Recall.{parentAt}
+use Rattle.aff_nodes.specs.Recall.{parentAt}
 use Rattle.aff_read.proofs.FitLaws.{climb-left}
 
 -- Each node of a record that belongs, other than the root.

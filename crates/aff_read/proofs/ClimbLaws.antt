@@ -18,9 +18,9 @@ use Rattle.aff_reader.specs.Belongs.{ReaderBelongs}
 use Rattle.aff_reader.specs.declared.reader.Reader.{Reader}
 use Rattle.aff_reader.proofs.BelongsLaws.{parent-within}
 use Rattle.aff_read.specs.passes.Climb.{above, tableParent, tableFrom, tableEnd, tableFront, TableInside, Noted, NotedMore, ClimbNoted}
-use Rattle.aff_read.specs.Recall.{parentAt, nameAt, nameSpan}
+use Rattle.aff_nodes.specs.Recall.{parentAt, nameAt, nameSpan}
 use Rattle.aff_read.proofs.FrontLaws.{frontAt, name-size, name-bytes}
-use Rattle.aff_read.proofs.SpanLaws.{name-within}
+use Rattle.aff_nodes.proofs.SpanLaws.{name-within}
 
 -- A table of zeros.
 pub zeros-inside : (image : List ℕ) (n : ℕ) → n ≡ 6147 → TableInside image (replicate n 0)

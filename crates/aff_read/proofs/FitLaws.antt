@@ -21,7 +21,7 @@ use Rattle.aff_reader.specs.Belongs.{ReaderBelongs}
 use Rattle.aff_format.specs.Recorded.{nameFrom}
 use Rattle.aff_reader.specs.declared.reader.Reader.{Reader}
 use Rattle.aff_read.specs.passes.Fit.{fitFrom, fitAt, FitsSettled}
-use Rattle.aff_read.specs.Recall.{parentAt, nameAt, pathAt}
+use Rattle.aff_nodes.specs.Recall.{parentAt, nameAt, pathAt}
 use Rattle.aff_read.proofs.FrontLaws.{frontAt, path-other}
 
 -- A text fits or it does not, and so does what begins with it.

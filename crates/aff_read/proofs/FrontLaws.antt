@@ -16,9 +16,9 @@ use Rattle.aff_reader.specs.Belongs.{ReaderBelongs}
 use Rattle.aff_format.specs.Recorded.{recordedEntry, nameFrom}
 use Rattle.aff_reader.specs.declared.reader.Reader.{Reader}
 use Rattle.aff_format.proofs.RecordedLaws.{name-part}
-use Rattle.aff_read.specs.Recall.{symbolsEnd, parentAt, nameAt, nameSpan, spanBytes, pathAt}
+use Rattle.aff_nodes.specs.Recall.{symbolsEnd, parentAt, nameAt, nameSpan, spanBytes, pathAt}
 use Rattle.aff_read.proofs.WrittenLaws.{TwoParts}
-use Rattle.aff_read.proofs.SpanLaws.{part-between, name-from}
+use Rattle.aff_nodes.proofs.SpanLaws.{part-between, name-from}
 
 module _ (parent : ℕ → ℕ) (name : ℕ → List ℕ) where
   -- In the code's terms.

@@ -22,7 +22,7 @@ use Rattle.aff_reader.specs.declared.reader.Reader.{Reader}
 use Rattle.aff_reader.proofs.BelongsLaws.{record-belongs}
 use Rattle.aff_read.specs.Paths.{found, editionBy, lookupAnswer}
 use Rattle.aff_read.specs.Lookup.{LowestWith, NoneWith}
-use Rattle.aff_read.specs.Recall.{pathAt}
+use Rattle.aff_nodes.specs.Recall.{pathAt}
 
 module _ (image : List ℕ) (reader : Reader) (strings entries path : List ℕ) where
   -- Each check in its turn.

@@ -8,7 +8,7 @@ use Rattle.aff_reader.specs.Belongs.{ReaderBelongs}
 use Rattle.aff_reader.specs.declared.reader.Reader.{Reader}
 use Rattle.aff_reader.proofs.BelongsLaws.{parent-within}
 use Rattle.aff_read.specs.passes.Capped.{capped}
-use Rattle.aff_read.specs.Recall.{parentAt, nameAt, pathAt}
+use Rattle.aff_nodes.specs.Recall.{parentAt, nameAt, pathAt}
 use Rattle.aff_read.proofs.CappedLaws.{capped-within, capped-past, capped-over, capped-exact}
 use Rattle.aff_read.proofs.FrontLaws.{frontAt, front-root-at, path-other, path-front}
 

@@ -26,7 +26,7 @@ use Rattle.aff_open.proofs.ObeysLaws.{NodesHold, accepted-nodes}
 use Rattle.aff_open.proofs.OpenedLaws.{OpenedShape, opened-shape, opened-belongs}
 use Rattle.aff_read.specs.Paths.{editionBy, lookupAnswer}
 use Rattle.aff_read.specs.Lookup.{OnlyWith}
-use Rattle.aff_read.specs.Recall.{parentAt, nameAt, pathAt}
+use Rattle.aff_nodes.specs.Recall.{parentAt, nameAt, pathAt}
 use Rattle.aff_read.proofs.LookupLaws.{lookup-accepts}
 
 module _ (image form strings entries : List ℕ) {r : Reader} (h : openAnswer image form (length strings) (length entries) ≡ accepted r) where

@@ -1,6 +1,4 @@
--- Answers of an opened image: what the promises of this crate cite.
-pub mod Recall
-pub mod Answers
+-- Paths of an opened image, lookup, and what a file shows: what the promises of this crate cite.
 pub mod Paths
 pub mod Lookup
 pub mod passes

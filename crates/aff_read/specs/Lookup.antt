@@ -4,7 +4,7 @@ use mathlib.Core.Path.{_≡_}
 use mathlib.Core.List.{List}
 use Prim.Native.Nat.{ℕ, _≤_, _<_}
 use Rattle.aff_reader.specs.declared.reader.Reader.{Reader}
-use Rattle.aff_read.specs.Recall.{pathAt}
+use Rattle.aff_nodes.specs.Recall.{pathAt}
 
 -- 'The lowest node there': n has the path, and no node below it has.
 pub record LowestWith (image : List ℕ) (reader : Reader) (strings entries path : List ℕ) (n : ℕ) : Type 0 where

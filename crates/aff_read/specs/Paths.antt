@@ -14,8 +14,8 @@ use Rattle.aff_format.specs.declared.lowest.Lowest.{Lowest}
 use Rattle.aff_format.specs.declared.lowest.Lowest.the-variants.{Nothing, At}
 use Rattle.aff_reader.specs.Belongs.{readerBelongs}
 use Rattle.aff_reader.specs.declared.reader.Reader.{Reader}
-use Rattle.aff_read.specs.Answers.{existsChecks}
-use Rattle.aff_read.specs.Recall.{pathAt}
+use Rattle.aff_nodes.specs.Answers.{existsChecks}
+use Rattle.aff_nodes.specs.Recall.{pathAt}
 use mathlib.Core.Path.{_≡_}
 use Rattle.aff_format.specs.declared.refusal.RefusalCode.{RefusalCode}
 

@@ -1,5 +1,4 @@
 // The path of a node, and lookup by path. A path is its parent's front, a slash and its own name; the root's front is empty.
-use crate::node;
 use aff_format::Edition;
 use aff_format::FoundEdition;
 use aff_format::Grammar;
@@ -9,6 +8,7 @@ use aff_format::Refusal;
 use aff_format::Verdict;
 use aff_format::bytes;
 use aff_format::recorded;
+use aff_nodes::node;
 use aff_reader::Reader;
 use aff_reader::belongs;
 ghost use mathlib.Core.Path.{_≡_};
@@ -26,7 +26,7 @@ ghost use Rattle.aff_read.specs.Paths.{pathAnswer, frontWritten, found, 
 ghost use Rattle.aff_read.specs.passes.Capped.{capped};
 ghost use Rattle.aff_read.specs.passes.Climb.{tableParent, tableName, tableFront, TableInside, NotedMore, ClimbNoted};
 ghost use Rattle.aff_read.specs.passes.Fit.{fitFrom, fitAt, FitsSettled, Climbable, Chain};
-ghost use Rattle.aff_read.specs.Recall.{parentAt, nameAt, nameSpan, pathAt};
+ghost use Rattle.aff_nodes.specs.Recall.{parentAt, nameAt, nameSpan, pathAt};
 ghost use Rattle.aff_read.specs.passes.Written.{Written, textAnswer};
 
 // The length of the string that begins at a place, counted no further than one past a limit. At most that many bytes are read.

@@ -32,9 +32,9 @@ use Rattle.aff_reader.specs.declared.reader.Reader.{Reader}
 use Rattle.aff_reader.specs.declared.reader.Span.{Span}
 use Rattle.aff_open.proofs.ObeysLaws.{obeys-accepted}
 use Rattle.aff_open.proofs.OpenedLaws.{OpenedShape, opened-shape, opened-belongs}
-use Rattle.aff_read.specs.Answers.{nameAnswer, kindAnswer, countAnswer, viewAnswer, elementAnswer}
+use Rattle.aff_nodes.specs.Answers.{nameAnswer, kindAnswer, countAnswer, viewAnswer, elementAnswer}
 use Rattle.aff_read.specs.Paths.{pathAnswer}
-use Rattle.aff_read.specs.Recall.{symbolsEnd, kindAt, nameAt, nameSpan, dataSpan, spanBytes, parentAt, pathAt}
+use Rattle.aff_nodes.specs.Recall.{symbolsEnd, kindAt, nameAt, nameSpan, dataSpan, spanBytes, parentAt, pathAt}
 use Rattle.aff_areas.proofs.StoreLaws.{length-take-most}
 use Rattle.aff_run.specs.TreeSizes.{namesOf, dataSize, nonVoidCount}
 use Rattle.aff_run.specs.Run.{State}

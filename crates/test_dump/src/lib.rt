@@ -3,7 +3,7 @@ pub mod show; // numbers, bytes and answers
 
 use aff_format::NumberAnswer;
 use aff_format::Verdict;
-use aff_read::KindAnswer;
+use aff_nodes::KindAnswer;
 use aff_reader::Reader;
 
 // The elements of a node, and the index after them: 16.
@@ -18,10 +18,10 @@ fn elements(
     console::text(b"  elements");
     let mut k: usize = 0;
     while k < count {
-        console::element(aff_read::node::element(image, reader, strings, entries, node, k));
+        console::element(aff_nodes::node::element(image, reader, strings, entries, node, k));
         k += 1;
     }
-    console::element(aff_read::node::element(image, reader, strings, entries, node, count));
+    console::element(aff_nodes::node::element(image, reader, strings, entries, node, count));
     console::text(b"\n");
 }
 
@@ -46,14 +46,14 @@ fn node(image: &[u8], reader: Reader, strings: &[u32], entries: &[u32], k: usize
     console::text(b" path ");
     path(image, reader, strings, entries, k);
     console::text(b" name ");
-    console::text(aff_read::node::name(image, reader, strings, entries, k));
+    console::text(aff_nodes::node::name(image, reader, strings, entries, k));
     console::text(b" type ");
-    kind(aff_read::node::kind(image, reader, strings, entries, k));
+    kind(aff_nodes::node::kind(image, reader, strings, entries, k));
     console::text(b" count ");
-    let count = aff_read::node::count(image, reader, strings, entries, k);
+    let count = aff_nodes::node::count(image, reader, strings, entries, k);
     show::answer(count);
     console::text(b" bytes ");
-    show::hex(aff_read::node::view(image, reader, strings, entries, k));
+    show::hex(aff_nodes::node::view(image, reader, strings, entries, k));
     console::text(b"\n");
     if let NumberAnswer::Value(n) = count {
         elements(image, reader, strings, entries, k, n);

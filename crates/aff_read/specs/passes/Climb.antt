@@ -7,7 +7,7 @@ use Rattle.aff_format.specs.Bytes.{part}
 use Rattle.aff_format.specs.Limits.{nodeLimit}
 use Rattle.aff_format.specs.Tree.{frontBy}
 use Rattle.aff_reader.specs.declared.reader.Reader.{Reader}
-use Rattle.aff_read.specs.Recall.{parentAt, nameAt}
+use Rattle.aff_nodes.specs.Recall.{parentAt, nameAt}
 
 -- The node that a climb has reached after so many steps.
 unfoldable pub above : (ℕ → ℕ) → ℕ → ℕ → ℕ

@@ -9,7 +9,7 @@ use Rattle.aff_format.specs.Limits.{nodeLimit}
 use Rattle.aff_format.specs.Tree.{frontBy, reachesBy}
 use Rattle.aff_format.specs.Recorded.{recordedEntry}
 use Rattle.aff_reader.specs.declared.reader.Reader.{Reader}
-use Rattle.aff_read.specs.Recall.{parentAt, nameAt}
+use Rattle.aff_nodes.specs.Recall.{parentAt, nameAt}
 
 -- A text against the rest of a path, of which n bytes went before: m + 2 where the rest begins with the text, which ends after m bytes of the
 -- path; 1 where it does not.

@@ -2,7 +2,7 @@
 use borrow.Author.Needs.{needs}
 use mathlib.Core.Path.{ap, _∙_}
 use Rattle.aff_reader.specs.declared.reader.Reader.{Reader}
-use Rattle.aff_read.specs.Answers.{elementAnswer}
+use Rattle.aff_nodes.specs.Answers.{elementAnswer}
 use Rattle.aff_c.specs.Reading.{numberBy, leftBy, realPart, imaginaryPart}
 use Rattle.aff_c.proofs.reading.aff_element.Statement.{statement}
 use Rattle.aff_c.proofs.reading.aff_element.Tie as tie

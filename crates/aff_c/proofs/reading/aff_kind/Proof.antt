@@ -3,7 +3,7 @@ use borrow.Author.Needs.{needs}
 use mathlib.Core.Path.{ap, _∙_}
 use Rattle.aff_format.specs.Kind.{kindCode}
 use Rattle.aff_reader.specs.declared.reader.Reader.{Reader}
-use Rattle.aff_read.specs.Answers.{kindAnswer}
+use Rattle.aff_nodes.specs.Answers.{kindAnswer}
 use Rattle.aff_c.specs.Reading.{numberBy, leftBy}
 use Rattle.aff_c.proofs.reading.aff_kind.Statement.{statement}
 use Rattle.aff_c.proofs.reading.aff_kind.Tie as tie

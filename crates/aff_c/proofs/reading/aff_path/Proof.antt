@@ -7,7 +7,7 @@ use lib.ListN.{length}
 use Rattle.aff_format.specs.Answer.{Answer}
 use Rattle.aff_reader.specs.declared.reader.Reader.{Reader}
 use Rattle.aff_read.specs.Paths.{pathAnswer}
-use Rattle.aff_read.specs.Recall.{pathAt}
+use Rattle.aff_nodes.specs.Recall.{pathAt}
 use Rattle.aff_c.specs.Reading.{numberBy, leftBy}
 use Rattle.aff_c.proofs.ReadingLaws.{front-by}
 use Rattle.aff_c.proofs.reading.aff_path.Statement.{statement}

@@ -2,7 +2,7 @@
 use borrow.Author.Needs.{needs}
 use mathlib.Core.Path.{sym, ap, _∙_}
 use Rattle.aff_format.specs.Kind.{kindCode}
-use Rattle.aff_read.specs.Answers.{answerOfKind}
+use Rattle.aff_nodes.specs.Answers.{answerOfKind}
 use Rattle.aff_c.proofs.ReadingLaws.{its-number, kept}
 use Rattle.aff_c.proofs.reading.put_kind.Statement.{statement}
 use Rattle.aff_c.proofs.reading.put_kind.Tie as tie

@@ -2,7 +2,7 @@
 use borrow.Author.Needs.{needs}
 use mathlib.Core.Path.{sym, ap, _∙_}
 use Rattle.aff_reader.specs.declared.reader.Span.{Span}
-use Rattle.aff_read.specs.Answers.{answerOfPart}
+use Rattle.aff_nodes.specs.Answers.{answerOfPart}
 use Rattle.aff_c.proofs.ReadingLaws.{no-refusal, stored, its-number, kept}
 use Rattle.aff_c.proofs.reading.put_span.Statement.{statement}
 use Rattle.aff_c.proofs.reading.put_span.Tie as tie

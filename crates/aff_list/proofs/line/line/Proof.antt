@@ -1,7 +1,7 @@
 -- `line` meets its contract: the judgement, then the line.
 use borrow.Author.Needs.{needs}
 use mathlib.Core.Path.{refl}
-use Rattle.aff_read.proofs.JudgeLaws.{judge-belongs, judge-refuses, judge-answers}
+use Rattle.aff_nodes.proofs.JudgeLaws.{judge-belongs, judge-refuses, judge-answers}
 use Rattle.aff_list.specs.Line.{lineAnswer}
 use Rattle.aff_list.proofs.line.line.Statement.{statement}
 use Rattle.aff_list.proofs.line.line.Tie as tie

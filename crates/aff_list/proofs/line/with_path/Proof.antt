@@ -8,7 +8,7 @@ use Prim.Native.Nat.{_-_, _<_}
 use lib.ListN.{length, length-append}
 use lib.Seq.{length-take-le}
 use Rattle.aff_format.specs.Verdict.{answerOfNumber}
-use Rattle.aff_read.specs.Recall.{pathAt}
+use Rattle.aff_nodes.specs.Recall.{pathAt}
 use Rattle.aff_list.proofs.LineLaws.{PathFirst, after-refused, text-fits, after-written}
 use Rattle.aff_list.proofs.line.with_path.Statement.{statement}
 use Rattle.aff_list.proofs.line.with_path.Tie as tie

@@ -8,7 +8,7 @@ use lib.ListN.{length}
 use Rattle.aff_format.specs.Answer.{accepted}
 use Rattle.aff_reader.proofs.BelongsLaws.{belongs-record}
 use Rattle.aff_listing.specs.ListingOrder.{listedCount, listingAnswer}
-use Rattle.aff_read.proofs.JudgeLaws.{refuted, granted}
+use Rattle.aff_nodes.proofs.JudgeLaws.{refuted, granted}
 use Rattle.aff_listing.proofs.listing.listing.Statement.{statement}
 use Rattle.aff_listing.proofs.listing.listing.Tie as tie
 

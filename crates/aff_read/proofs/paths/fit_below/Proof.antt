@@ -5,7 +5,7 @@ use Prim.Native.Nat.{ℕ}
 use native.Mathlib.Omega.{arith}
 use lib.ListN.{getD}
 use Rattle.aff_format.specs.Recorded.{recordedEntry}
-use Rattle.aff_read.specs.Recall.{nameSpan}
+use Rattle.aff_nodes.specs.Recall.{nameSpan}
 use Rattle.aff_read.proofs.FitLaws.{below-none, below-end, below-other, below-slash}
 use Rattle.aff_read.proofs.FrontLaws.{name-starts, name-begins, name-there}
 use Rattle.aff_read.proofs.paths.fit_below.Statement.{statement}

@@ -2,7 +2,7 @@
 use borrow.Author.Needs.{needs}
 use mathlib.Core.Path.{sym, _∙_}
 use Rattle.aff_reader.proofs.BelongsLaws.{belongs-record}
-use Rattle.aff_read.proofs.JudgeLaws.{refuted, granted}
+use Rattle.aff_nodes.proofs.JudgeLaws.{refuted, granted}
 use Rattle.aff_read.proofs.LookupLaws.{lookup-wrong, lookup-malformed, lookup-none, lookup-at, grammar-by}
 use Rattle.aff_read.proofs.paths.lookup.Statement.{statement}
 use Rattle.aff_read.proofs.paths.lookup.Tie as tie

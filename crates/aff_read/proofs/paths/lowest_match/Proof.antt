@@ -11,7 +11,7 @@ use Rattle.aff_format.specs.declared.lowest.Lowest.the-variants.{At}
 use Rattle.aff_format.proofs.LowestLaws.{lowest-here, lowest-on, lowest-end}
 use Rattle.aff_read.specs.Paths.{found}
 use Rattle.aff_read.specs.passes.Fit.{FitsSettled}
-use Rattle.aff_read.specs.Recall.{pathAt}
+use Rattle.aff_nodes.specs.Recall.{pathAt}
 use Rattle.aff_read.proofs.FitLaws.{settled-first}
 use Rattle.aff_read.proofs.paths.lowest_match.Statement.{statement}
 use Rattle.aff_read.proofs.paths.lowest_match.Tie as tie

@@ -3,7 +3,7 @@ use borrow.Author.Needs.{needs}
 use mathlib.Core.Path.{refl, ap}
 use Rattle.aff_reader.specs.declared.reader.Span.{Span}
 use Rattle.aff_read.proofs.FrontLaws.{name-begins}
-use Rattle.aff_read.proofs.SpanLaws.{name-root}
+use Rattle.aff_nodes.proofs.SpanLaws.{name-root}
 use Rattle.aff_read.proofs.paths.name_place.Statement.{statement}
 use Rattle.aff_read.proofs.paths.name_place.Tie as tie
 

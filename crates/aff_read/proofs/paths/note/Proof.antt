@@ -7,7 +7,7 @@ use native.Mathlib.Omega.{arith}
 use lib.ListN.{length}
 use Rattle.aff_format.specs.declared.entry.Entry.{Entry}
 use Rattle.aff_reader.proofs.BelongsLaws.{parent-within}
-use Rattle.aff_read.specs.Recall.{nameSpan}
+use Rattle.aff_nodes.specs.Recall.{nameSpan}
 use Rattle.aff_read.proofs.ClimbLaws.{note-more}
 use Rattle.aff_read.proofs.FrontLaws.{name-starts, name-begins, name-there}
 use Rattle.aff_read.proofs.paths.note.Statement.{statement}

@@ -7,7 +7,7 @@ use native.Mathlib.Omega.{arith}
 use lib.ListN.{length}
 use Rattle.aff_format.specs.Recorded.{nameFrom}
 use Rattle.aff_read.specs.passes.Capped.{capped}
-use Rattle.aff_read.specs.Recall.{symbolsEnd}
+use Rattle.aff_nodes.specs.Recall.{symbolsEnd}
 use Rattle.aff_read.proofs.CappedLaws.{capped-one, capped-none, capped-next, capped-most}
 use Rattle.aff_read.proofs.FrontLaws.{name-of-root, name-starts, name-there}
 use Rattle.aff_read.proofs.paths.own_length.Statement.{statement}

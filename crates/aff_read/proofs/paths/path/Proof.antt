@@ -2,7 +2,7 @@
 use borrow.Author.Needs.{needs}
 use mathlib.Core.Path.{refl}
 use Rattle.aff_read.specs.Paths.{pathAnswer}
-use Rattle.aff_read.proofs.JudgeLaws.{judge-belongs, judge-refuses, judge-answers}
+use Rattle.aff_nodes.proofs.JudgeLaws.{judge-belongs, judge-refuses, judge-answers}
 use Rattle.aff_read.proofs.paths.path.Statement.{statement}
 use Rattle.aff_read.proofs.paths.path.Tie as tie
 

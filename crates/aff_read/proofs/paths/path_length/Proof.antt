@@ -2,7 +2,7 @@
 use borrow.Author.Needs.{needs}
 use native.Mathlib.Omega.{arith}
 use lib.ListN.{length}
-use Rattle.aff_read.specs.Recall.{pathAt}
+use Rattle.aff_nodes.specs.Recall.{pathAt}
 use Rattle.aff_read.proofs.StepLaws.{Measured, measure-start, measure-past, measure-done, measure-less, measure-on}
 use Rattle.aff_read.proofs.paths.path_length.Statement.{statement}
 use Rattle.aff_read.proofs.paths.path_length.Tie as tie

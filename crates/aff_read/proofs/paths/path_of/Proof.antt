@@ -7,7 +7,7 @@ use Prim.Native.Nat.{_≤_}
 use native.Mathlib.Omega.{arith}
 use lib.ListN.{length}
 use Rattle.aff_read.specs.passes.Climb.{tableFront}
-use Rattle.aff_read.specs.Recall.{pathAt}
+use Rattle.aff_nodes.specs.Recall.{pathAt}
 use Rattle.aff_read.proofs.CappedLaws.{capped-over, capped-exact}
 use Rattle.aff_read.proofs.ClimbLaws.{zeros-inside, table-front}
 use Rattle.aff_read.proofs.FrontLaws.{path-other}
