@@ -13,7 +13,7 @@ bool md5_c_digest(const uint8_t *message, size_t message_length, uint8_t *output
 static const uint8_t *image;
 static size_t length;
 static uint32_t expected, strings[2048], entries[2048];
-static uint64_t record[12];
+static uint64_t record[AFF_RECORD];
 static uint8_t form[12];
 
 static uint64_t be64(const uint8_t *bytes) {
@@ -25,7 +25,7 @@ static uint64_t be64(const uint8_t *bytes) {
 }
 
 static void open_once(void) {
-    uint32_t number = aff_open_image(image, length, form, sizeof form, strings, 2048, entries, 2048, record, 12);
+    uint32_t number = aff_open_image(image, length, form, sizeof form, strings, 2048, entries, 2048, record, AFF_RECORD);
     if (number != expected) {
         fprintf(stderr, "handed back %u at %lu, not %u\n", number, (unsigned long)record[0], expected);
         exit(1);

@@ -13,7 +13,7 @@ enum { KEYS = 4096, COUNT = 64, ABSENT = 15 };
 
 static const uint8_t *image;
 static size_t length;
-static uint64_t record[12];
+static uint64_t record[AFF_RECORD];
 static uint32_t strings[2048], entries[2048];
 #define PASSED image, length, record, strings, 2048, entries, 2048
 
@@ -46,13 +46,14 @@ static bool ordered(bool all) {
 
 // One call for key k. True where the answer is the expected one.
 static bool call(uint64_t index) {
-    uint64_t node = 0, offset = 1, size = 1;
+    uint64_t node = 0, place = 1, offset = 1, size = 1;
     double value = 0, imaginary = 1;
     switch (which) {
     case 'j':
         return aff_view(PASSED, 0, &offset, &size) == 0 && offset == 0 && size == 0;
     case 'l':
-        return aff_lookup(PASSED, (const uint8_t *)keys[k].path, keys[k].path_length, &node) == (keys[k].node == 0 ? ABSENT : 0) && node == keys[k].node;
+        return aff_lookup(PASSED, (const uint8_t *)keys[k].path, keys[k].path_length, &node, &place) == (keys[k].node == 0 ? ABSENT : 0) &&
+               node == keys[k].node && place == 0;
     case 'v':
         return aff_view(PASSED, keys[k].node, &offset, &size) == 0 && offset == keys[k].offset && size == keys[k].size;
     case 'e':
@@ -111,7 +112,7 @@ int main(int argc, char **argv) {
     image = mapped(argv[2], &length);
     uint8_t form[12];
     aff_form_for(image, length, form, sizeof form);
-    if (aff_open_image(image, length, form, sizeof form, strings, 2048, entries, 2048, record, 12) != 0) {
+    if (aff_open_image(image, length, form, sizeof form, strings, 2048, entries, 2048, record, AFF_RECORD) != 0) {
         fail("the image is refused");
     }
     load(argv[3]);

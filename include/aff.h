@@ -25,7 +25,8 @@
 extern "C" {
 #endif
 
-// Refusals. Some also report a place, aff_open_image in record[0] and the writer in numbers[0]; the place of the others is 0.
+// Refusals. Some also report a place: aff_open_image in record[0], aff_lookup in place, the writer in numbers[0]. The place of the others is 0. 10 reports
+// a second number, in record[12]. A place in a name or a path counts its bytes from 0.
 enum {
     AFF_OK = 0,
     AFF_ERR_LENGTH = 1,            // A work area or the form has a wrong length, or the image has more than 2,147,483,647 bytes.
@@ -37,11 +38,11 @@ enum {
     AFF_ERR_SECTION_SUM = 7,       // A section's MD5 sum is wrong. Place: 1 symbols, 2 tree, 3 data.
     AFF_ERR_SYMBOLS = 8,           // Withdrawn; no call returns it. In old logs: the symbol table's last byte is not zero, or, before 25 to 27 were added, one of these.
     AFF_ERR_TREE = 9,              // A tree entry is cut short, of no type, or the 2,049th. Place: the entry; 0 if their number is not the header's.
-    AFF_ERR_NODE = 10,             // A node's parent or string does not exist, or its name is malformed. Place: the lowest such node.
+    AFF_ERR_NODE = 10,             // A node's parent or string does not exist, or its name is malformed. Place: the lowest such node. record[12]: the place in its name.
     AFF_ERR_CYCLE = 11,            // A node's parents do not lead to the root. Place: the lowest such node.
     AFF_ERR_SIBLING = 12,          // A node has the name of a sibling with a lower number. Place: the lowest such node.
     AFF_ERR_DATA = 13,             // A node's data is not inside the data section. Place: the lowest such node.
-    AFF_ERR_NAME = 14,             // The path or the name is malformed.
+    AFF_ERR_NAME = 14,             // The path or the name is malformed. Place: the first byte that breaks the rule; see aff_lookup and aff_make.
     AFF_ERR_NOT_FOUND = 15,        // No node has that path or number.
     AFF_ERR_INDEX = 16,            // The index is not below the number of elements.
     AFF_ERR_EXISTS = 17,           // The parent has a child of that name already.
@@ -59,7 +60,7 @@ enum {
 };
 
 // Lengths: the two work areas and the record of an opening, the writer's two work areas and its numbers, and the form.
-enum { AFF_STRINGS = 2048, AFF_ENTRIES = 2048, AFF_RECORD = 12, AFF_TEXT = 32768, AFF_TREE = 51200, AFF_NUMBERS = 7, AFF_FORM = 12 };
+enum { AFF_STRINGS = 2048, AFF_ENTRIES = 2048, AFF_RECORD = 13, AFF_TEXT = 32768, AFF_TREE = 51200, AFF_NUMBERS = 7, AFF_FORM = 12 };
 
 // The types of a node. A Void node has no data; a node of another type may have 0 elements.
 enum { AFF_VOID = 1, AFF_CHAR = 2, AFF_INT = 3, AFF_DOUBLE = 4, AFF_COMPLEX = 5 };
@@ -73,27 +74,34 @@ bool aff_form_for(const uint8_t *image, size_t image_length, uint8_t *output, si
 // Checks a complete file in memory against all rules of the format, MD5 sums included, and fills both work areas and the record, which the reading
 // calls take. record[0] is the place of a refusal (else 0), [1] the image's length, [2] the edition, [3] and [4] offset and size of the symbol
 // section, [5] and [6] of the tree section, [7] and [8] of the data section, [9] the number of strings, [10] of nodes without the root, [11] of data
-// records as the header has it.
+// records as the header has it, [12] the second number of a refusal with 10 (else 0).
 // The strings of the symbol section are separated by zero bytes: each ends at its zero. If the section's last byte is not zero, the bytes after its last
 // zero are one more string, which ends at the section's end. 25 to 27 are about the strings found this way.
 // The faults are looked for in the order 1 to 7, 25 to 27, 9 to 13, and the first found is the number. The place is that of a section, a string, an entry
 // or a node, by the number. After 1 the work areas are unchanged, after another refusal they are all zero; record[1] to record[11] are 0 after every
-// refusal. Returns 255 and changes nothing if the record has fewer than 12 numbers.
+// refusal. Returns 255 and changes nothing if the record has fewer than 13 numbers.
+// After 10, record[12] is the place in the node's name of the first byte that breaks the rule for names (see aff_make), if the node's string exists and
+// is malformed; the parent may exist or not. For an empty name it is 0. It is also 0 if the string does not exist, or if only the parent is wrong: a 0
+// alone does not say that the name is malformed.
 uint32_t aff_open_image(const uint8_t *image, size_t image_length, const uint8_t *form, size_t form_length, uint32_t *strings,
     size_t strings_length, uint32_t *entries, size_t entries_length, uint64_t *record, size_t record_length);
 
 // ---- Reading
 
-// What every reading call takes first: the image, the record (12 numbers) and the work areas, as the opening left them. A node is a number: 0 is the
-// root, the others go from 1 to record[10]. Each call first validates all of that, in time proportional to the number of strings and nodes, and returns
-// 24 if it does not belong together. A string must begin inside the recorded symbol section, before the section's end; it ends at the first zero from
-// there on, or at the section's end. A refused call leaves its outputs unchanged.
+// What every reading call takes first: the image, the record (its first 12 numbers are read) and the work areas, as the opening left them. A node is a
+// number: 0 is the root, the others go from 1 to record[10]. Each call first validates all of that, in time proportional to the number of strings and
+// nodes, and returns 24 if it does not belong together. A string must begin inside the recorded symbol section, before the section's end; it ends at the
+// first zero from there on, or at the section's end. A refused call leaves its outputs unchanged, except place of aff_lookup.
 #define AFF_OPENED                                                                                                                     \
     const uint8_t *image, size_t image_length, const uint64_t *record, const uint32_t *strings, size_t strings_length,                \
         const uint32_t *entries, size_t entries_length
 
-// Finds the node with a path such as "/a/n"; the root's path is "/". Returns 14 for a malformed path, 15 if no node has it.
-uint32_t aff_lookup(AFF_OPENED, const uint8_t *path, size_t path_length, uint64_t *node);
+// Finds the node with a path such as "/a/n"; the root's path is "/". Returns 14 for a malformed path, 15 if no node has it. Any other path than "/" is one
+// or more times a '/' and a name; aff_make has the rule for names.
+// place is written in every case. After 14 it is the place in the path of the first byte that breaks this rule. If a name is empty, it is the place where
+// the name would begin: 1 in "//a", and 3, which is path_length, in "/a/". If the path does not begin with '/' or is empty, it is 0. After every other
+// answer it is 0.
+uint32_t aff_lookup(AFF_OPENED, const uint8_t *path, size_t path_length, uint64_t *node, uint64_t *place);
 
 // Stores the numbers of nodes at the front of the output, each node before its children, these in number order and each child followed by its whole
 // subtree. With all true: every node, the root first. With all false: the same order without the Void nodes, so without the root; a node of another type
@@ -141,7 +149,7 @@ uint32_t aff_decode(uint64_t kind, const uint8_t *bytes, size_t bytes_length, ui
 //
 // An allowance is the largest number of bytes that a call may store in the buffer; UINT64_MAX is no limit. After a refusal with 23 exactly that many
 // are stored, numbers[0] is their number, numbers[6] is 0, and the work areas are unchanged; the file cannot be continued. After any other refusal only
-// numbers[0] has changed, to 0; but aff_begin refused with 1 or 21 sets numbers and kept to zero.
+// numbers[0] has changed: after 14 it is the place in the name, else it is 0. But aff_begin refused with 1 or 21 sets numbers and kept to zero.
 //
 // From an accepted aff_begin on, until aff_close has stored its last byte, opening the buffer returns 3: a file that a killed process leaves behind is
 // never taken for a finished one. After a refused aff_begin the buffer is as it was. (This is proved of the stores in the order of the definitions. That the
@@ -157,7 +165,8 @@ uint32_t aff_begin(uint8_t *buffer, size_t buffer_length, const uint8_t *form, s
 
 // Adds a Void node below a parent; numbers[0] is its number. A name begins with a letter, '_' or ':'; letters, digits and any of . - _ : may follow.
 // Nothing is stored in the buffer. Returns 15 if there is no such parent, 14 for a malformed name, 17 if the parent has a child of that name, 20 if a
-// limit is passed, 21 if the finished file would not fit the buffer.
+// limit is passed, 21 if the finished file would not fit the buffer. After 14, numbers[0] is the place in the name of the first byte that breaks the rule,
+// which may be a '/' or a zero byte; it is 0 for an empty name.
 uint32_t aff_make(const uint8_t *buffer, size_t buffer_length, AFF_WRITER, uint8_t *text, size_t text_length, uint8_t *tree, size_t tree_length,
     uint64_t parent, const uint8_t *name, size_t name_length);
 

@@ -27,7 +27,7 @@ static const char *meaning(uint32_t number) {
         "the parents of this node do not lead to the root",
         "this node has the name of a sibling",
         "the data of this node are not inside the data section",
-        "the path or name is malformed; a path is / or /name/name",
+        "the path or name is malformed at this byte, counted from 0; a path is / or /name/name",
         "no node has this path or number",
         "the node has no element of this index",
         "the parent has a child of this name already",
@@ -45,9 +45,25 @@ static const char *meaning(uint32_t number) {
     return number < sizeof meanings / sizeof *meanings ? meanings[number] : "an argument is wrong";
 }
 
+// Prints a malformed path and, below it, a caret at a place. If the path ends too early, the caret is one past its end. Each byte takes one column: a
+// byte that is no printable ASCII character is printed as a '?'.
+static void point(const char *path, uint64_t place) {
+    for (; *path != 0; path++) {
+        fputc(' ' <= *path && *path <= '~' ? *path : '?', stderr);
+    }
+    fputc('\n', stderr);
+    for (uint64_t column = 0; column < place; column++) {
+        fputc(' ', stderr);
+    }
+    fputs("^\n", stderr);
+}
+
 static void check(const char *what, uint32_t number, uint64_t place) {
     if (number != AFF_OK) {
         fprintf(stderr, "%s: refused %" PRIu32 " %" PRIu64 ": %s\n", what, number, place, meaning(number));
+        if (number == AFF_ERR_NAME) {
+            point(what, place);
+        }
         exit(1);
     }
 }
@@ -88,8 +104,9 @@ int main(int argc, char **argv) {
     uint32_t number = aff_open_image(image, length, form, sizeof form, strings, AFF_STRINGS, entries, AFF_ENTRIES, record, AFF_RECORD);
     check(argv[1], number, record[0]);
 #define OPENED image, length, record, strings, AFF_STRINGS, entries, AFF_ENTRIES
-    uint64_t node, kind, offset, size;
-    check(argv[2], aff_lookup(OPENED, (const uint8_t *)argv[2], strlen(argv[2]), &node), 0);
+    uint64_t node, place, kind, offset, size;
+    number = aff_lookup(OPENED, (const uint8_t *)argv[2], strlen(argv[2]), &node, &place);
+    check(argv[2], number, place);
     // Type and place of the data are asked for once; each element is then decoded from there.
     check(argv[2], aff_kind(OPENED, node, &kind), 0);
     check(argv[2], aff_view(OPENED, node, &offset, &size), 0);

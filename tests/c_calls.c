@@ -1,7 +1,8 @@
 // Calls the library through include/aff.h and compares what it returns and leaves with what the header says:
 // `c_calls samples/worked.aff samples/unterminated.aff`. It makes document 01's worked file with every total allowance from 0 to 216, tries each refusal
-// of the writer with every other value of the record unchanged, passes null pointers with length 0, reads a file whose last string has no zero, and reads
-// special numbers. It prints counts; the exit status is 1 where anything differs.
+// of the writer with every other value of the record unchanged, passes null pointers with length 0 and records of every length, reads a file whose last
+// string has no zero, asks for the places in malformed names and paths, and reads special numbers. It prints counts; the exit status is 1 where anything
+// differs.
 #include "aff.h"
 #include <stdio.h>
 #include <stdlib.h>
@@ -111,18 +112,31 @@ static void drill(const uint8_t *worked) {
 static const uint64_t FLAGS[] = {0, 1, 2, 7, 256, (uint64_t)1 << 32 | 1, UINT64_MAX};
 enum { ALL_FLAGS = sizeof FLAGS / sizeof *FLAGS };
 
-// The refusal that is expected, numbers[0] is 0, and nothing else has changed.
-#define REFUSED(w, expected, call)                                                                                                    \
+// The refusal that is expected, numbers[0] is its place, and nothing else has changed.
+#define REFUSED_AT(w, expected, place, call)                                                                                          \
     do {                                                                                                                              \
         static struct writer before;                                                                                                  \
         memcpy(&before, (w), sizeof before);                                                                                          \
         CHECK((call) == (expected));                                                                                                  \
-        CHECK((w)->numbers[0] == 0);                                                                                                  \
-        before.numbers[0] = 0;                                                                                                        \
+        CHECK((w)->numbers[0] == (place));                                                                                            \
+        before.numbers[0] = (place);                                                                                                  \
         CHECK(memcmp(&before, (w), sizeof before) == 0);                                                                              \
         (w)->numbers[0] = 77;                                                                                                         \
         refusals++;                                                                                                                   \
     } while (0)
+#define REFUSED(w, expected, call) REFUSED_AT(w, expected, 0, call)
+
+// Malformed names and paths, with their lengths and the place of the first byte that breaks the rule.
+struct malformed {
+    const char *bytes;
+    size_t length;
+    uint64_t place;
+};
+
+static const struct malformed NAMES[] = {
+    {"", 0, 0}, {"9a", 2, 0}, {"9", 1, 0}, {"-a", 2, 0}, {"/", 1, 0}, {"/a", 2, 0}, {" ", 1, 0}, {"\0", 1, 0}, {"\377", 1, 0}, {"a/b", 3, 1}, {"a b", 3, 1},
+    {"a b c", 5, 1}, {"a\0", 2, 1}, {"a\377", 2, 1}, {"ab\0c", 4, 2}, {"abc/", 4, 3}, {"momentum,1", 10, 8}};
+enum { ALL_NAMES = sizeof NAMES / sizeof *NAMES };
 
 // A file with the nodes /a, Void, and /b, an Int, in a buffer of some length.
 static void two_nodes(struct writer *w, size_t length) {
@@ -151,7 +165,15 @@ static void refusals_of_writer(void) {
     }
     w.numbers[6] = 1;
     REFUSED(&w, AFF_ERR_NOT_FOUND, make(&w, 3, "c"));
-    REFUSED(&w, AFF_ERR_NAME, make(&w, 0, "9a"));
+    for (int k = 0; k < ALL_NAMES; k++) {
+        const uint8_t *bad = (const uint8_t *)NAMES[k].bytes;
+        REFUSED_AT(&w, AFF_ERR_NAME, NAMES[k].place, aff_make(WRITER(&w), 0, bad, NAMES[k].length));
+        REFUSED_AT(&w, AFF_ERR_NAME, NAMES[k].place, aff_make(WRITER(&w), 2, bad, NAMES[k].length));
+        REFUSED(&w, AFF_ERR_NOT_FOUND, aff_make(WRITER(&w), 3, bad, NAMES[k].length));
+    }
+    name[AFF_TEXT - 1] = ',';
+    REFUSED_AT(&w, AFF_ERR_NAME, AFF_TEXT - 1, make(&w, 0, name));
+    name[AFF_TEXT - 1] = 'x';
     REFUSED(&w, AFF_ERR_EXISTS, make(&w, 0, "a"));
     REFUSED(&w, AFF_ERR_FULL, make(&w, 0, name));
     REFUSED(&w, AFF_ERR_SPACE, aff_make(WRITER(&w), 0, (const uint8_t *)name, 300));
@@ -202,24 +224,37 @@ static void finished_size(const uint8_t *worked) {
 
 #define OPENED(image, length) image, length, record, strings, AFF_STRINGS, entries, AFF_ENTRIES
 
+// A lookup that is refused: the number and the place, which is written in every case. The node is unchanged.
+static void looked_up(const uint8_t *image, size_t length, const char *path, size_t path_length, uint32_t expected, uint64_t place) {
+    uint64_t n = 77, found = 77;
+    CHECK(aff_lookup(OPENED(image, length), (const uint8_t *)path, path_length, &n, &found) == expected);
+    CHECK(n == 77 && found == place);
+}
+
 static void null_reading(const uint8_t *worked) {
     uint8_t bytes[AFF_FORM + 1] = {0};
-    uint64_t n = 77, size = 77, numbers[AFF_RECORD + 1];
+    uint64_t n = 77, size = 77, place = 77, numbers[AFF_RECORD + 1], before[AFF_RECORD + 1];
     double value = 77, imaginary = 77;
     CHECK(aff_form_for(NULL, 0, bytes, AFF_FORM) && memcmp(bytes, form, AFF_FORM) == 0 && !aff_form_for(worked, WORKED, NULL, 0));
     CHECK(!aff_form_for(worked, WORKED, bytes + 1, 11) && memcmp(bytes, form, AFF_FORM) == 0);
     memset(numbers, 0x66, sizeof numbers);
+    memcpy(before, numbers, sizeof before);
     CHECK(aff_open_image(NULL, 0, NULL, 0, NULL, 0, NULL, 0, NULL, 0) == AFF_ERR_ARGUMENT);
-    CHECK(aff_open_image(worked, WORKED, form, AFF_FORM, strings, AFF_STRINGS, entries, AFF_ENTRIES, numbers, 11) == AFF_ERR_ARGUMENT);
-    CHECK(numbers[0] == 0x6666666666666666 && numbers[10] == numbers[0]);
+    for (size_t length = 0; length < AFF_RECORD; length++) {
+        CHECK(aff_open_image(worked, WORKED, form, AFF_FORM, strings, AFF_STRINGS, entries, AFF_ENTRIES, numbers, length) == AFF_ERR_ARGUMENT);
+        CHECK(memcmp(before, numbers, sizeof before) == 0);
+    }
     CHECK(aff_open_image(worked, WORKED, form, AFF_FORM, strings, AFF_STRINGS, entries, AFF_ENTRIES, numbers, AFF_RECORD + 1) == AFF_OK);
-    CHECK(numbers[1] == WORKED && numbers[10] == 2 && numbers[12] == 0x6666666666666666);
-    CHECK(aff_open_image(NULL, 0, NULL, 0, NULL, 0, NULL, 0, numbers, AFF_RECORD) == AFF_ERR_LENGTH && numbers[1] == 0);
+    CHECK(numbers[1] == WORKED && numbers[10] == 2 && numbers[12] == 0 && numbers[13] == 0x6666666666666666);
+    numbers[12] = 77;
+    CHECK(aff_open_image(NULL, 0, NULL, 0, NULL, 0, NULL, 0, numbers, AFF_RECORD) == AFF_ERR_LENGTH && numbers[1] == 0 && numbers[12] == 0);
     CHECK(open_image(NULL, 0) == AFF_ERR_SHORT && strings[0] == 0 && entries[0] == 0);
     CHECK(open_image(worked, WORKED) == AFF_OK && strings[1] == 174 && entries[1] == 189 && strings[2] == 0);
-    CHECK(aff_lookup(OPENED(worked, WORKED), NULL, 0, &n) == AFF_ERR_NAME && n == 77);
-    CHECK(aff_lookup(OPENED(NULL, 0), (const uint8_t *)"/", 1, &n) == AFF_ERR_MISMATCH && n == 77);
-    CHECK(aff_lookup(worked, WORKED, record, NULL, 0, entries, AFF_ENTRIES, (const uint8_t *)"/", 1, &n) == AFF_ERR_MISMATCH && n == 77);
+    CHECK(aff_lookup(OPENED(worked, WORKED), NULL, 0, &n, &place) == AFF_ERR_NAME && n == 77 && place == 0);
+    looked_up(NULL, 0, "/", 1, AFF_ERR_MISMATCH, 0);
+    looked_up(NULL, 0, "/9", 2, AFF_ERR_MISMATCH, 0);
+    place = 77;
+    CHECK(aff_lookup(worked, WORKED, record, NULL, 0, entries, AFF_ENTRIES, (const uint8_t *)"/", 1, &n, &place) == AFF_ERR_MISMATCH && n == 77 && place == 0);
     CHECK(aff_count(worked, WORKED, record, strings, AFF_STRINGS, NULL, 0, 2, &n) == AFF_ERR_MISMATCH && n == 77);
     CHECK(aff_name(OPENED(NULL, 0), 0, &n, &size) == AFF_ERR_MISMATCH && aff_view(OPENED(NULL, 0), 0, &n, &size) == AFF_ERR_MISMATCH);
     CHECK(aff_kind(OPENED(NULL, 0), 0, &n) == AFF_ERR_MISMATCH && aff_element(OPENED(NULL, 0), 2, 0, &value, &imaginary) == AFF_ERR_MISMATCH);
@@ -227,7 +262,7 @@ static void null_reading(const uint8_t *worked) {
     CHECK(aff_listing(OPENED(worked, WORKED), true, NULL, 0, &n) == AFF_ERR_SPACE && aff_listing(OPENED(worked, WORKED), false, NULL, 0, &n) == AFF_ERR_SPACE);
     CHECK(aff_path(OPENED(worked, WORKED), 2, NULL, 0, &n) == AFF_ERR_SPACE);
     CHECK(aff_decode(AFF_INT, NULL, 0, 0, &value, &imaginary) == AFF_ERR_INDEX && value == 77 && imaginary == 77 && n == 77 && size == 77);
-    CHECK(aff_lookup(OPENED(worked, WORKED), (const uint8_t *)"/a/n", 4, &n) == AFF_OK && n == 2);
+    CHECK(aff_lookup(OPENED(worked, WORKED), (const uint8_t *)"/a/n", 4, &n, &place) == AFF_OK && n == 2 && place == 0);
 }
 
 static void null_writing(void) {
@@ -300,16 +335,18 @@ static void outputs(const uint8_t *worked) {
 
 // All that is asked of node 2, whose name begins at some place: its name, its path, and lookup of it. The name is the expected one.
 static void named(const uint8_t *image, size_t length, uint64_t place, const char *name) {
-    uint64_t n = 77, offset = 77, size = 77;
+    uint64_t n = 77, offset = 77, size = 77, at = 77;
     uint8_t path[8] = "xxxxxxx", expected[8] = "/a/";
     size_t letters = strlen(name), whole = letters + 3;
     memcpy(expected + 3, name, letters);
     CHECK(aff_name(OPENED(image, length), 2, &offset, &size) == AFF_OK && offset == place && size == letters);
     CHECK(aff_path(OPENED(image, length), 2, path, whole - 1, &n) == AFF_ERR_SPACE && n == 77 && path[0] == 'x');
     CHECK(aff_path(OPENED(image, length), 2, path, 7, &n) == AFF_OK && n == whole && memcmp(path, expected, whole) == 0 && path[whole] == 'x');
-    CHECK(aff_lookup(OPENED(image, length), expected, whole, &n) == AFF_OK && n == 2);
+    CHECK(aff_lookup(OPENED(image, length), expected, whole, &n, &at) == AFF_OK && n == 2 && at == 0);
     expected[whole] = 'b';
-    CHECK(aff_lookup(OPENED(image, length), expected, whole + 1, &n) == AFF_ERR_NOT_FOUND && n == 2);
+    looked_up(image, length, (const char *)expected, whole + 1, AFF_ERR_NOT_FOUND, 0);
+    expected[whole] = '/';
+    looked_up(image, length, (const char *)expected, whole + 1, AFF_ERR_NAME, whole + 1);
 }
 
 // The worked file without its last zero: the symbol section is from 172 to 174, and the tree table follows at once. Then the worked file again, with
@@ -332,12 +369,66 @@ static void unterminated_names(const uint8_t *worked, const uint8_t *unterminate
     named(image, WORKED, 175, "a");
     strings[1] = 176;
     CHECK(aff_name(OPENED(image, WORKED), 2, &n, &size) == AFF_ERR_MISMATCH);
-    CHECK(aff_lookup(OPENED(image, WORKED), (const uint8_t *)"/a", 2, &n) == AFF_ERR_MISMATCH);
+    looked_up(image, WORKED, "/a", 2, AFF_ERR_MISMATCH, 0);
+    looked_up(image, WORKED, "/a/", 3, AFF_ERR_MISMATCH, 0);
     strings[1] = 174;
     record[4] = 2;
     CHECK(aff_name(OPENED(image, WORKED), 1, &n, &size) == AFF_ERR_MISMATCH);
     record[4] = 0;
     CHECK(aff_name(OPENED(image, WORKED), 1, &n, &size) == AFF_ERR_MISMATCH && n == 77 && size == 77);
+}
+
+// ---- Places in malformed names and paths
+
+static void places_in_paths(const uint8_t *worked) {
+    static const struct malformed paths[] = {
+        {"", 0, 0}, {"a", 1, 0}, {"a/n", 3, 0}, {"9", 1, 0}, {"\0", 1, 0}, {"\377", 1, 0}, {"//", 2, 1}, {"//a", 3, 1}, {"/9a", 3, 1}, {"/ ", 2, 1},
+        {"/\0", 2, 1}, {"/\377", 2, 1}, {"/a b/9", 6, 2}, {"/a\0", 3, 2}, {"/a\377/n", 5, 2}, {"/a/", 3, 3}, {"/a//n", 5, 3}, {"/a/9", 4, 3},
+        {"/a/n b", 6, 4}, {"/a/n/", 5, 5}, {"/momentum,1/x", 13, 9}};
+    static char path[65536];
+    CHECK(open_image(worked, WORKED) == AFF_OK && record[12] == 0);
+    for (size_t k = 0; k < sizeof paths / sizeof *paths; k++) {
+        looked_up(worked, WORKED, paths[k].bytes, paths[k].length, AFF_ERR_NAME, paths[k].place);
+    }
+    for (int k = 0; k < ALL_NAMES; k++) {
+        path[0] = '/';
+        memcpy(path + 1, NAMES[k].bytes, NAMES[k].length);
+        // Behind a slash a name has its fault one place later. Left out: no name, and names with a slash, which is a fault in a name only.
+        if (NAMES[k].length != 0 && NAMES[k].bytes[NAMES[k].place] != '/') {
+            looked_up(worked, WORKED, path, NAMES[k].length + 1, AFF_ERR_NAME, NAMES[k].place + 1);
+        }
+    }
+    memset(path, 'k', sizeof path);
+    path[0] = '/';
+    looked_up(worked, WORKED, path, sizeof path, AFF_ERR_NOT_FOUND, 0);
+    path[sizeof path - 1] = ' ';
+    looked_up(worked, WORKED, path, sizeof path, AFF_ERR_NAME, sizeof path - 1);
+    path[sizeof path - 1] = '/';
+    looked_up(worked, WORKED, path, sizeof path, AFF_ERR_NAME, sizeof path);
+}
+
+// A file with the nodes /a and /a/abc, whose names are then others: the text area is altered before close, which does not look at names.
+static void second_numbers(void) {
+    static struct writer w;
+    static const struct {
+        const char *first, *second;
+        uint64_t node, place;
+    } cases[] = {{"a", "a b", 2, 1}, {"a", "9ab", 2, 0}, {"a", "ab,", 2, 2}, {"a", "a ,", 2, 1}, {"a", "/ab", 2, 0}, {"a", "a\377b", 2, 1}, {" ", "a b", 1, 0}};
+    for (size_t k = 0; k < sizeof cases / sizeof *cases; k++) {
+        reset(&w, BUFFER, 0);
+        CHECK(begin(&w, 1) == AFF_OK && make(&w, 0, "a") == AFF_OK && make(&w, 1, "abc") == AFF_OK);
+        memcpy(w.text, cases[k].first, 1);
+        memcpy(w.text + 2, cases[k].second, 3);
+        CHECK(finish(&w, UINT64_MAX) == AFF_OK);
+        memset(record, 0x66, sizeof record);
+        CHECK(open_image(w.buffer, BUFFER) == AFF_ERR_NODE && record[0] == cases[k].node && record[12] == cases[k].place);
+        for (int i = 1; i < 12; i++) {
+            CHECK(record[i] == 0);
+        }
+        memset(record, 0x66, sizeof record);
+        w.buffer[0] = 0;
+        CHECK(open_image(w.buffer, BUFFER) == AFF_ERR_SIGNATURE && record[0] == 0 && record[12] == 0);
+    }
 }
 
 static void special_numbers(void) {
@@ -395,6 +486,8 @@ int main(int argc, char **argv) {
     listings(worked);
     outputs(worked);
     unterminated_names(worked, unterminated);
+    places_in_paths(worked);
+    second_numbers();
     special_numbers();
     printf("%lu checks, %lu failed\n", checks, failures);
     return failures != 0;

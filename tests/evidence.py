@@ -40,6 +40,19 @@ COMPARED = [
 ]
 
 
+# Malformed paths, and what the sample program prints: the path with the place in it, and a caret below the path.
+POINTED = [
+    ("/a b", "/a b: refused 14 2: the path or name is malformed at this byte, counted from 0; a path is / or /name/name\n/a b\n  ^\n"),
+    ("/a/n/", "refused 14 5: "),
+    ("/a/n/", "\n/a/n/\n     ^\n"),
+    ("//a", "\n//a\n ^\n"),
+    ("a", "\na\n^\n"),
+    ("", "\n\n^\n"),
+    ("/a\t/n", "\n/a?/n\n  ^\n"),
+    ("/x\u00e9/9", "\n/x??/9\n  ^\n"),
+]
+
+
 def built(command, **more):
     """Runs a command that builds something; what it printed is shown where it fails."""
     done = subprocess.run(command, cwd=ROOT, stdout=subprocess.PIPE, stderr=subprocess.STDOUT, text=True, **more)
@@ -103,6 +116,7 @@ def sources():
             ends([read, WORKED_FILE, "/a"], err="a Void node, which has no data"),
             ends([read, empty, "/e"], err="an empty array"),
             ends([read, WORKED_FILE, "/b"], 1, err="refused 15 0"),
+            *(ends([read, WORKED_FILE, path], 1, err=err) for path, err in POINTED),
             ends([read, unfinished, "/a"], 1, err="refused 3 0"),
             ends([read, repeated, "/a"], 1, err="refused 27 2: this string, numbered from 0, equals an earlier one"),
             ends([read], 2, err="usage"),

@@ -1,15 +1,17 @@
 #!/usr/bin/env python3
 """Makes the images of the test program test_open: lawful odd files, and damaged ones on both sides of each boundary.
 
-It shares no code with the library: it is written from source document 003, document 01 and requests C-11 and C-13, and what
+It shares no code with the library: it is written from source document 003, document 01 and requests C-11, C-13 and C-18, and what
 each image must be answered with is said here by hand. It writes crates/test_open/stdin (each
-image after its length in 4 bytes), crates/test_open/stdout and tests/test_open.txt.
+image after its length in 4 bytes), crates/test_open/stdout and tests/test_open.txt. A refusal has three numbers there: its number, its place, and the second
+number, which is the place in a node's name for 10 and 0 for the others.
 
     tests/make_images.py [FOLDER]      FOLDER: where these are written, the repository where none is given
 """
 import argparse
 import hashlib
 import os
+import re
 import struct
 
 ROOT = os.path.dirname(os.path.dirname(os.path.abspath(__file__)))
@@ -17,6 +19,7 @@ VOID, CHAR, INT, DOUBLE, COMPLEX = 1, 2, 3, 4, 5
 TEXT = {1: b"LHPC AFF version 1.0", 2: b"LHPC AFF version 2.0"}
 HEADER = {1: 144, 2: 168}
 FORM = bytes([0, 64, 2, 53, 4, 0, 3, 253])
+SUBKEY = re.compile(rb"[A-Za-z_:][A-Za-z0-9.\-_:]*")
 
 
 def destination(doc):
@@ -43,6 +46,13 @@ def strings_of(table):
     """The strings of a symbol table (request C-13): each ends at its zero; bytes after the last zero are one more string."""
     parts = table.split(b"\0")
     return parts if parts[-1] else parts[:-1]
+
+
+def fault(name):
+    """The place of the first byte of a name that breaks the rule for a subkey; 0 for an empty name; None where the name is a subkey."""
+    front = SUBKEY.match(name)
+    length = front.end() if front else 0
+    return None if name and length == len(name) else length
 
 
 class Image:
@@ -111,8 +121,14 @@ def opened(image, strings=None):
     return ("opened", image, strings)
 
 
-def refused(n, p=0):
-    return ("refused", n, p)
+def refused(n, p=0, second=0):
+    return ("refused", n, p, second)
+
+
+def malformed(node, name, place):
+    """10 at a node whose name is malformed: the second number is the place in the name, said by hand."""
+    assert fault(name) == place, (name, place)
+    return refused(10, node, place)
 
 
 def changed(ed, **kw):
@@ -338,9 +354,11 @@ def unterminated():
         i = changed(ed, ended=False, order=("data", "tree", "symbol"))
         case(f"edition {ed}: no last zero, the symbol table at the image's end", i, opened(i, 2))
         # A string that is no subkey: 10 where a node has it. The last byte of the section is a byte of the name.
-        for name in (b"9a", b"a b", b"a/", b"a@", b"@", b"a\xff"):
+        for name, place in ((b"9a", 0), (b"a b", 1), (b"a/", 1), (b"a@", 1), (b"@", 0), (b"a\xff", 1), (b"momentum:1,", 10)):
             i = node_file(ed, last, [b"a", name], ended=False)
-            case(f"edition {ed}: the name {name!r} without a zero", i, refused(10, 2))
+            case(f"edition {ed}: the name {name!r} without a zero", i, malformed(2, name, place))
+            i = node_file(ed, [entry(VOID, 0, 0), entry(VOID, 9, 1)], [b"a", name], ended=False)
+            case(f"edition {ed}: the name {name!r} without a zero, parent 9 of 2", i, malformed(2, name, place))
             i = node_file(ed, one, [b"a", name], ended=False)
             case(f"edition {ed}: the unused string {name!r} without a zero", i, opened(i, 2))
         case(f"edition {ed}: string 2 of 2, the last without its zero", node_file(ed, [entry(VOID, 0, 2)], [b"a", b"n"], ended=False), refused(10, 1))
@@ -354,7 +372,8 @@ def unterminated():
             case(f"edition {ed}: the symbol table is the first {size} bytes of the file, {n} unused", i, opened(i, n))
         for size, subkey in ((2, True), (4, True), (5, False), (20, False)):
             i = changed(ed, strings=[], entries=one, data=b"", at={"symbol": (0, size)}, nstrings=1)
-            case(f"edition {ed}: the symbol table is the first {size} bytes of the file, a node's name", i, opened(i, 1) if subkey else refused(10, 1))
+            expect = opened(i, 1) if subkey else malformed(1, TEXT[ed][:size], 4)
+            case(f"edition {ed}: the symbol table is the first {size} bytes of the file, a node's name", i, expect)
     for n in (0, 1, 3, 2**32 + 2, 2**64 - 1):
         case(f"edition 2: a string count of {n} for 2, the last without its zero", changed(2, ended=False, count={"symbol": n}), refused(26))
     for n in (0, 2):
@@ -410,9 +429,9 @@ def node_faults():
         for s in (5, 65536, 2**32 - 1):
             i = node_file(ed, [entry(VOID, 0, 0), entry(VOID, 0, s)])
             case(f"edition {ed}: string {s} of 5", i, refused(10, 2))
-        for name in (b"", b"9a", b"-a", b".a", b"a b", b"a/b", b"a\xe9", b"a@", b"a[", b"a`", b"a{", b"a,", b"a;"):
+        for name in (b"a\xe9", b"a@", b"a[", b"a`", b"a{", b"a,", b"a;", b"a\x7f", b"a\x80"):
             i = node_file(ed, [entry(VOID, 0, 0), entry(VOID, 0, 1)], [b"a", name])
-            case(f"edition {ed}: the name {name!r}", i, refused(10, 2))
+            case(f"edition {ed}: the name {name!r}", i, malformed(2, name, 1))
         i = node_file(ed, [entry(VOID, 9, 9), entry(VOID, 9, 0)])
         case(f"edition {ed}: two nodes astray", i, refused(10, 1))
         for ring, low in (([1], 1), ([0, 2], 2), ([2, 1], 1), ([0, 3, 2], 2), ([3, 0, 3], 1), ([4, 0, 4, 3], 1), ([0, 4, 1, 5, 4], 2)):
@@ -452,9 +471,47 @@ def node_faults():
         case(f"edition {ed}: 12 at node 2 before 13 at node 1", i, refused(12, 2))
 
 
+def name_places():
+    """Request C-18: 10 reports the place in the name wherever the string exists and is no subkey, its parent sound or not, else 0."""
+    astray = (3, 9, 2**32, 2**64 - 1)
+    for ed in (1, 2):
+        def nodes(*of, strings):
+            return node_file(ed, [entry(VOID, *node) for node in of], strings)
+
+        for name, place in (
+            (b"", 0), (b"9a", 0), (b"-a", 0), (b".a", 0), (b" ", 0), (b"/", 0), (b"\xff", 0), (b"9 a", 0),
+            (b"a b", 1), (b"a/b", 1), (b"a b c", 1), (b"a ,", 1), (b"ab\xff", 2), (b"abc ", 3), (b"momentum,1", 8), (b"_:.-9Zz\x01", 7),
+        ):
+            names, what = [b"a", name], f"edition {ed}: the name {name!r}"
+            case(what, nodes((0, 0), (0, 1), strings=names), malformed(2, name, place))
+            case(f"{what}, its own parent", nodes((0, 0), (2, 1), strings=names), malformed(2, name, place))
+            case(f"{what}, parent 9 of 2", nodes((0, 0), (9, 1), strings=names), malformed(2, name, place))
+        names = [b"a", b"a b", b"abc,"]
+        for parent in astray:
+            what = f"edition {ed}: parent {parent} of 2"
+            case(f"{what}, the name 'a b'", nodes((0, 0), (parent, 1), strings=names), malformed(2, b"a b", 1))
+            case(f"{what}, a sound name", nodes((0, 0), (parent, 0), strings=names), refused(10, 2))
+            case(f"{what}, string 3 of 3", nodes((0, 0), (parent, 3), strings=names), refused(10, 2))
+        case(f"edition {ed}: string 3 of 3", nodes((0, 0), (0, 3), strings=names), refused(10, 2))
+        for low, high, expect in (
+            ((9, 0), (0, 1), refused(10, 1)),
+            ((0, 9), (0, 1), refused(10, 1)),
+            ((9, 9), (9, 2), refused(10, 1)),
+            ((0, 1), (0, 2), malformed(1, b"a b", 1)),
+            ((0, 2), (0, 1), malformed(1, b"abc,", 3)),
+            ((9, 2), (0, 1), malformed(1, b"abc,", 3)),
+            ((0, 2), (9, 9), malformed(1, b"abc,", 3)),
+        ):
+            case(f"edition {ed}: two bad nodes, parents and strings {low} and {high}", nodes(low, high, strings=names), expect)
+        case(f"edition {ed}: its own parent, and above it the name 'a b'", nodes((1, 0), (0, 1), strings=names), malformed(2, b"a b", 1))
+        long = b"k" * 20000 + b" "
+        i = node_file(ed, [entry(VOID, 0, 0)], [long], ended=False)
+        case(f"edition {ed}: a name of 20,001 bytes, malformed in its last one, which has no zero", i, malformed(1, long, 20000))
+
+
 def expected(image, expect, source):
     if expect[0] == "refused":
-        return f"refused {expect[1]} {expect[2]} areas 0 0"
+        return "refused %d %d %d areas 0 0" % expect[1:]
     i = source
     places, at = [], i.where["symbol"][0]
     strings = strings_of(image[at:at + i.where["symbol"][1]])
@@ -481,6 +538,7 @@ def main():
     unterminated()
     tree_faults()
     node_faults()
+    name_places()
     crate = os.path.join(top, "crates", "test_open")
     os.makedirs(crate, exist_ok=True)
     os.makedirs(os.path.join(top, "tests"), exist_ok=True)
@@ -492,7 +550,7 @@ def main():
         out.append("%d %s" % (k, line))
         index.append("%d %s: %s" % (k, name, line))
     for what in ("strings of 2,047", "strings of 2,049", "entries of 2,047", "entries of 2,049", "a form of 11", "a form of 13"):
-        line = "refused 1 0 unchanged"
+        line = "refused 1 0 0 unchanged"
         out.append("passed " + line)
         index.append("passed %s: %s" % (what, line))
     with open(os.path.join(crate, "stdin"), "wb") as f:

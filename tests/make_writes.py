@@ -2,22 +2,20 @@
 """Makes the script of the test program test_write, and what it must print.
 
 A script is a run of steps: the writer's calls, and between them what is printed, or changed without the writer. What must be printed is worked
-out here from document 01, with no code of the library: `Writer` answers the calls by its tables, and a finished file is laid out a second time by
-make_images. The refusal that a case is about is said by hand besides. It writes crates/test_write/stdin (each step after its length in 4 bytes)
+out here from document 01 and request C-18, with no code of the library: `Writer` answers the calls by its tables, and a finished file is laid out a second
+time by make_images. The refusal that a case is about is said by hand besides. It writes crates/test_write/stdin (each step after its length in 4 bytes)
 and stdout.
 
     tests/make_writes.py [FOLDER]      FOLDER: where these are written, the repository where none is given
 """
-import re
 import struct
 
-from make_images import CHAR, COMPLEX, DOUBLE, INT, VOID, Image, destination, entry, form, md5
+from make_images import CHAR, COMPLEX, DOUBLE, INT, VOID, Image, destination, entry, fault, form, md5
 from make_listings import SIZE, brief, lines, write
 
 BUFFER_SIZE, TEXT, TREE, LIMIT = 65536, 32768, 51200, 2048
 MOST = 2**64 - 1
 FIELDS = ("length", "strings", "text", "nodes", "data", "open")
-SUBKEY = re.compile(rb"[A-Za-z_:][A-Za-z0-9.\-_:]*")
 
 
 class Writer:
@@ -97,8 +95,8 @@ class Writer:
             return wrong
         if parent > r["nodes"]:
             return ("refused", 15, 0)
-        if not SUBKEY.fullmatch(name):
-            return ("refused", 14, 0)
+        if fault(name) is not None:
+            return ("refused", 14, fault(name))
         for k in range(1, r["nodes"] + 1):
             if self.slot(k)[1] == parent and strings[self.slot(k)[2]] == name:
                 return ("refused", 17, 0)
@@ -479,13 +477,22 @@ def begin_refusals(s):
     s.refused(3)
 
 
+# Malformed names, and the place of the first byte that breaks the rule.
+NAMES = (
+    (b"", 0), (b"9a", 0), (b"-a", 0), (b".a", 0), (b"/a", 0), (b"/", 0), (b"\0", 0), (b" ", 0), (b"9", 0), (b"\xff", 0), (b"9 a", 0),
+    (b"a b", 1), (b"a/b", 1), (b"a\0", 1), (b"a\xe9", 1), (b"a\xff", 1), (b"a@", 1), (b"a[", 1), (b"a`", 1), (b"a{", 1), (b"a,", 1), (b"a;", 1),
+    (b"a b c", 1), (b"ab\0c", 2), (b"abc/", 3), (b"momentum,1", 8),
+)
+
+
 def make_refusals(s):
     s.case("make: 15, 14, 17", 400)
     s.begin()
     s.make(1, b"a", no(15))
     s.make(MOST, b"9", no(15))
-    for name in (b"", b"9a", b"-a", b".a", b"a b", b"a/b", b"/a", b"a\0", b"\0", b"a\xe9", b"a@", b"a[", b"a`", b"a{", b"a,", b"a;"):
-        s.make(0, name, no(14))
+    for name, place in NAMES:
+        s.make(0, name, no(14, place))
+        s.make(1, name, no(15))
     s.make(0, b"a", yes(1))
     s.make(0, b"a", no(17))
     s.make(1, b"a", yes(2))
@@ -495,12 +502,16 @@ def make_refusals(s):
     s.make(0, b"b", no(17))
     s.make(3, b"b", yes(4))
     s.make(5, b"b", no(15))
+    for name, place in NAMES:
+        s.make(4, name, no(14, place))
+    s.make(5, b"a b", no(15))
     s.sums()
     s.case("make: 17 comes before 20 and 21, 14 before all three", 185)
     s.begin()
     s.make(0, b"abc", yes(1))
     s.make(0, b"abc", no(17))
-    s.make(0, b"a/b", no(14))
+    s.make(0, b"a/b", no(14, 1))
+    s.make(0, b"k" * 33000 + b" ", no(14, 33000))
     s.make(0, b"abd", no(21))
     s.close(expect=yes(185))
     s.opened()

@@ -135,7 +135,7 @@ static uint32_t call_path(void) {
 }
 
 static uint32_t call_lookup(void) {
-    uint32_t found = aff_lookup(OPENED, path, path_length, &number);
+    uint32_t found = aff_lookup(OPENED, path, path_length, &number, &other);
     return found == AFF_OK && number != node ? (uint32_t)AFF_ERR_NOT_FOUND : found;
 }
 

@@ -11,8 +11,6 @@ use lib.Dec.{ltb, leb}
 use lib.ListN.{length}
 use borrow.Author.Tests.{eq-eqb, ne-eqb, eqb-false}
 use Rattle.aff_format.specs.Answer.{Answer, refused, Check, check, refusal, firstWrong}
-use Rattle.aff_format.specs.Lowest.{isAt}
-use Rattle.aff_format.specs.Path.{isPath}
 use Rattle.aff_format.specs.Tree.{Tree}
 use Rattle.aff_format.specs.declared.refusal.RefusalCode.{RefusalCode}
 use Rattle.aff_format.proofs.AnswerLaws.{Others, others-reported}
@@ -23,7 +21,7 @@ use Rattle.aff_reader.specs.declared.reader.Reader.{Reader}
 use Rattle.aff_reader.proofs.BelongsLaws.{belongs-record as reader-clauses, record-belongs as reader-belongs, none-belongs}
 use Rattle.aff_open.proofs.OpenedLaws.{opened-belongs}
 use Rattle.aff_nodes.specs.Answers.{nameAnswer, kindAnswer, countAnswer, viewAnswer, elementAnswer}
-use Rattle.aff_read.specs.Paths.{editionBy, found, pathAnswer, lookupAnswer}
+use Rattle.aff_read.specs.Paths.{lookupChecks, pathAnswer, lookupAnswer}
 use Rattle.aff_nodes.specs.Recall.{countAt, pathAt}
 use Rattle.aff_areas.specs.Belongs.{writerBelongs as belongsHere, WriterBelongs}
 use Rattle.aff_areas.specs.Writer.{noWriter}
@@ -92,7 +90,7 @@ module _ (Sort : (A : Type 0) → Answer A → Type 0) (image : List ℕ) (r : R
         element = λ node index. f _ (number node (check (leb (countAt image entries node) index) (refusal 16) ∷ [])) _ (refl, refl);
         path = λ node buffer. f _ (number node (short buffer (length (pathAt image r strings entries node)))) _ (refl, refl);
         lookup = λ path.
-            f _ (check (not (isPath (editionBy r) path)) (refusal 14) ∷ check (not (isAt (found image r strings entries path))) (refusal 15) ∷ []) _
+            f _ (lookupChecks image r strings entries path) _
             (refl, refl);
         listing = λ choice buffer. f _ (short buffer (listedCount image r strings entries choice)) _ (refl, refl);
       }

@@ -2,28 +2,29 @@
 -- (`lookup-accepts`, `lookup-absent`, `lookup-only`, `lookup-path`), of listing order and of the cases. What is new here: the answers of name and data by
 -- the definitions under them, and that record and areas of an opened file show its own tables. Assumes nothing.
 use mathlib.Core.Path.{_≡_, refl, sym, ap, subst, _∙_}
-use mathlib.Core.Bool.{Bool, true, false, cond, not, true≢false}
+use mathlib.Core.Bool.{Bool, true, false, cond, not}
 use mathlib.Core.List.{List, [], _∷_, _++_}
-use mathlib.Core.Logic.{_↔_}
+use mathlib.Core.Logic.{_↔_, Iff·trans}
 use Prim.Native.Nat.{ℕ, zero, suc, _+_, _*_, _≤_, _<_}
 use native.Mathlib.Numerals.{add-one}
 use native.Mathlib.Omega.{arith}
 use lib.Dec.{eqb, ltb}
 use lib.ListN.{length, getD, take}
 use borrow.Author.Tests.{ne-eqb, lt-ltb, le-ltb, le-leb, lt-leb}
-use Rattle.aff_format.specs.Answer.{accepted, refused, check, refusal}
+use Rattle.aff_format.specs.Answer.{accepted, refused, refusal, refusalAt}
+use Rattle.aff_format.specs.Breaks.{Breaks}
 use Rattle.aff_format.specs.Bytes.{part}
 use Rattle.aff_format.specs.Edition.{editionNumber, orTwo}
 use Rattle.aff_format.specs.Element.{elementAt}
 use Rattle.aff_format.specs.Kind.{elementSize, isVoid}
-use Rattle.aff_format.specs.Lowest.{isAt}
 use Rattle.aff_format.specs.Path.{isPath, WellFormed}
 use Rattle.aff_format.specs.Tree.{reachesBy, frontBy}
 use Rattle.aff_format.specs.declared.edition.Edition.{Edition}
 use Rattle.aff_format.specs.declared.entry.Entry.{Entry}
 use Rattle.aff_format.specs.declared.section.Section.the-variants.{Data}
+use Rattle.aff_format.proofs.BreaksLaws.{path-breaks, no-path-breaks}
 use Rattle.aff_format.proofs.EditionLaws.{edition-of-number}
-use Rattle.aff_format.proofs.PathLaws.{path-sound, path-complete}
+use Rattle.aff_format.proofs.PathLaws.{path-complete}
 use Rattle.aff_format.proofs.ClimbLaws.{reaches-within}
 use Rattle.aff_format.proofs.TreeLaws.{front-root, front-step, path-other, front-same}
 use Rattle.aff_reader.specs.Belongs.{ReaderBelongs, readerBelongs}
@@ -39,7 +40,7 @@ use Rattle.aff_open.proofs.FaultLaws.{refused-first, first-refused}
 use Rattle.aff_open.proofs.ObeysLaws.{accepted-obeys, obeys-accepted, edition-found, strings-found, entries-found}
 use Rattle.aff_open.proofs.OpenedLaws.{OpenedShape, opened-shape, opened-belongs}
 use Rattle.aff_nodes.specs.Answers.{nameAnswer, kindAnswer, countAnswer, viewAnswer, elementAnswer}
-use Rattle.aff_read.specs.Paths.{editionBy, found, lookupAnswer}
+use Rattle.aff_read.specs.Paths.{editionBy, lookupAnswer}
 use Rattle.aff_read.specs.Lookup.{NoneWith, OnlyWith}
 use Rattle.aff_nodes.specs.Recall.{kindAt, parentAt, nameAt, dataSpan, spanBytes, bytesAt, pathAt}
 use Rattle.aff_read.proofs.FrontLaws.{name-bytes}
@@ -52,7 +53,6 @@ use Rattle.aff_read.specs.Shows.{PartIs}
 use Rattle.aff_run.proofs.ShownLaws.{name-part, view-part, number-absent}
 use Rattle.aff.specs.Demand2.{dataNamed, Reads, itsEntry, itsName, itsParent, itsPath, ItsNode, NoNode, ReadsFile, Demand2}
 use Rattle.aff.proofs.CasesLaws.{cases-hold}
-use Rattle.aff.proofs.Demand1Laws.{others-not}
 use Rattle.aff_listing.specs.ListingOrder.{lists, own, preorder, kept, isListed, listingOrder, listedCount, listingAnswer}
 use Rattle.aff_listing.specs.Once.{occurrences}
 use Rattle.aff_listing.specs.declared.choice.Choice.{Choice}
@@ -75,23 +75,14 @@ module _ (image : List ℕ) (r : Reader) (strings entries : List ℕ) (b : Reade
   it : readerBelongs image r strings entries ≡ true
   it = record-belongs b
 
-  malformed : (path : List ℕ) → (lookupAnswer image r strings entries path ≡ refused (refusal 14)) ↔ (WellFormed (editionBy r) path → ⊥)
-  unfolding lookupAnswer
-  malformed path = go (isPath (editionBy r) path) refl
-    where
-      go : (w : Bool) → isPath (editionBy r) path ≡ w
-          → (lookupAnswer image r strings entries path ≡ refused (refusal 14)) ↔ (WellFormed (editionBy r) path → ⊥)
-      go true w = (
-        λ h.
-            absurd
-            (others-not 14 (check (not (isAt (found image r strings entries path))) (refusal 15) ∷ []) _ refl (refusal 14)
-            (rw (it, w) at h) refl),
-        λ n. absurd (n (path-sound (editionBy r) path w)),
-      )
-      go false w = (
-        λ h p. true≢false (sym (path-complete (editionBy r) path p) ∙ w),
-        λ n. sym (lookup-malformed image r strings entries path it w),
-      )
+  malformed : (path : List ℕ) (p : ℕ) → (lookupAnswer image r strings entries path ≡ refused (refusalAt 14 p)) ↔ Breaks (WellFormed (editionBy r)) path p
+  malformed path p = Iff·trans (lookup-malformed image r strings entries path b p) (path-breaks (editionBy r) path p)
+
+  malformed-path : (path : List ℕ) → ((p : ℕ) × (lookupAnswer image r strings entries path ≡ refused (refusalAt 14 p))) ↔ (WellFormed (editionBy r) path → ⊥)
+  malformed-path path = (
+    λ (p, h). malformed path p .0 h .not-in,
+    λ n. let (p, at) = no-path-breaks (editionBy r) path n in (p, malformed path p .1 at),
+  )
 
   module _ (node : ℕ) (there : node ≤ r .nodes) where
     passes : ltb (r .nodes) node ≡ false
@@ -152,6 +143,7 @@ module _ (image : List ℕ) (r : Reader) (strings entries : List ℕ) (b : Reade
   reads =
       record {
         malformed = malformed;
+        malformed-path = malformed-path;
         lowest = λ path w. lookup-accepts image r strings entries path b (path-complete (editionBy r) path w);
         absent = λ path w. lookup-absent image r strings entries path b (path-complete (editionBy r) path w);
         name = name-read;
@@ -172,9 +164,6 @@ module _ (image : List ℕ) (r : Reader) (strings entries : List ℕ) (b : Reade
       }
 
 -- ---- What is read right after an accepted opening.
-
-both : {A B C : Type 0} → A ↔ B → B ↔ C → A ↔ C
-both (f, g) (h, k) = (λ a. h (f a), λ c. g (k c))
 
 module _ (image form strings entries : List ℕ) {r : Reader} (h : openAnswer image form (length strings) (length entries) ≡ accepted r) (file : Obeys image form) where
   abbrev ss : List ℕ
@@ -316,9 +305,10 @@ module _ (image form strings entries : List ℕ) {r : Reader} (h : openAnswer im
         path-top = path-top;
         path-below = path-below;
         others = number-absent image r ss es here;
-        lookup-malformed = λ path. rw (← edition-is) (malformed image r ss es shown path);
-        lookup = λ path w n. both (lookup-only image form strings entries h path (formed w) n) (its-node path n);
-        lookup-absent = λ path w. both (lookup-absent image r ss es path shown (formed w)) (no-node path);
+        lookup-malformed = λ path p. rw (← edition-is) (malformed image r ss es shown path p);
+        lookup-malformed-path = λ path. rw (← edition-is) (malformed-path image r ss es shown path);
+        lookup = λ path w n. Iff·trans (lookup-only image form strings entries h path (formed w) n) (its-node path n);
+        lookup-absent = λ path w. Iff·trans (lookup-absent image r ss es path shown (formed w)) (no-node path);
         lookup-path = λ node l. rw (sym (path-is node l)) (lookup-path image form strings entries h node l);
         listing = listing-is;
         listing-order = order-is;

@@ -4,6 +4,7 @@ pub mod RulesLaws
 pub mod LeavesLaws
 pub mod Demand1Laws
 pub mod Demand2Laws
+pub mod BreakPlacesLaws
 pub mod Demand3Laws
 pub mod WithdrawnLaws
 pub mod WorkedSums

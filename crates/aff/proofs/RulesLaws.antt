@@ -38,7 +38,7 @@ use Rattle.aff_reader.proofs.BelongsLaws.{belongs-record as reader-clauses, rec
 use Rattle.aff_open.proofs.FaultLaws.{opening-settled}
 use Rattle.aff_format.proofs.RuleLaws.{AskFor, none, one, settled-by, by-checks, at-most, is-below, is-true}
 use Rattle.aff_nodes.specs.Answers.{existsChecks, nameAnswer, kindAnswer, countAnswer, viewAnswer, elementAnswer}
-use Rattle.aff_read.specs.Paths.{editionBy, found, pathAnswer, lookupAnswer}
+use Rattle.aff_read.specs.Paths.{editionBy, found, lookupChecks, pathAnswer, lookupAnswer}
 use Rattle.aff_read.specs.Lookup.{LowestWith}
 use Rattle.aff_nodes.specs.Recall.{countAt, pathAt}
 use Rattle.aff_read.proofs.LookupLaws.{lookup-accepts}
@@ -100,10 +100,7 @@ module _ (image : List ℕ) (r : Reader) (strings entries : List ℕ) where
 
   lookup-asks : (path : List ℕ)
       → AskFor
-      (check (not (readerBelongs image r strings entries)) (refusal 24)
-      ∷ check (not (isPath (editionBy r) path)) (refusal 14)
-      ∷ check (not (isAt (found image r strings entries path))) (refusal 15)
-      ∷ [])
+      (check (not (readerBelongs image r strings entries)) (refusal 24) ∷ lookupChecks image r strings entries path)
       (lookupRules image r strings entries path)
   lookup-asks path =
       one reader-asks

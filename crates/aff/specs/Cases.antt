@@ -3,10 +3,10 @@
 use mathlib.Core.Path.{_≡_}
 use mathlib.Core.Bool.{true, false}
 use mathlib.Core.List.{List, [], _∷_}
-use Prim.Native.Nat.{ℕ, _≤_}
+use Prim.Native.Nat.{ℕ, _+_, _≤_}
 use lib.IntN.{ℤ, pos, negsuc}
 use lib.ListN.{length}
-use Rattle.aff_format.specs.Answer.{Answer, accepted, refused, refusal}
+use Rattle.aff_format.specs.Answer.{Answer, accepted, refused, refusalAt}
 use Rattle.aff_format.specs.Element.{decoded}
 use Rattle.aff_format.specs.Entry.{entryBytes}
 use Rattle.aff_format.specs.Subkey.{isSubkey}
@@ -25,9 +25,9 @@ use Rattle.aff_make.specs.Make.{makeAnswer}
 pub data Case : Type 0 where
   -- A path, and what a lookup of it answers.
   pathCase : List ℕ → Answer ℕ → Case
-  -- A name that is a subkey, and one that is none.
+  -- A name that is a subkey, and one that is none, with the place at which it breaks.
   subkeyCase : List ℕ → Case
-  notSubkeyCase : List ℕ → Case
+  notSubkeyCase : List ℕ → ℕ → Case
   -- The bytes of an Int, and the number.
   intCase : List ℕ → ℤ → Case
   -- The bytes of a Void entry and of an Int entry.
@@ -51,14 +51,15 @@ EntryTakes kind size = (e : Entry) → e .kind ≡ kind → length (entryBytes e
 
 -- A name that is a subkey is never 14, neither in a path nor as the name of a new child.
 pub record Taken (name : List ℕ) : Type 0 where
-  pub in-path : (image : List ℕ) (reader : Reader) (strings entries : List ℕ) → lookupAnswer image reader strings entries (47 ∷ name) ≡ refused (refusal 14) → ⊥
-  pub as-child : (size : ℕ) (writer : Writer) (text tree : List ℕ) (parent : ℕ) → makeAnswer size writer text tree parent name ≡ refused (refusal 14) → ⊥
+  pub in-path : (place : ℕ) (image : List ℕ) (reader : Reader) (strings entries : List ℕ) → lookupAnswer image reader strings entries (47 ∷ name) ≡ refused (refusalAt 14 place) → ⊥
+  pub as-child : (place size : ℕ) (writer : Writer) (text tree : List ℕ) (parent : ℕ) → makeAnswer size writer text tree parent name ≡ refused (refusalAt 14 place) → ⊥
 
--- What a row says. A name that is no subkey is 14 in a path, and 14 as the name of a new child.
+-- What a row says. A name that is no subkey is 14 in a path, after its slash, and 14 as the name of a new child, each with its own place (request C-18).
 abbrev pub Holds : Case → Type 0
 Holds (pathCase path answer) = LookupIs path answer
 Holds (subkeyCase name) = ((e : Edition) → isSubkey e name ≡ true) × Taken name
-Holds (notSubkeyCase name) = ((e : Edition) → isSubkey e name ≡ false) × LookupIs (47 ∷ name) (refused (refusal 14)) × MakeIs name (refused (refusal 14))
+Holds (notSubkeyCase name place) =
+    ((e : Edition) → isSubkey e name ≡ false) × LookupIs (47 ∷ name) (refused (refusalAt 14 (place + 1))) × MakeIs name (refused (refusalAt 14 place))
 Holds (intCase bytes value) = decoded Int bytes 0 ≡ accepted (element.Int value)
 Holds (entryCase void int) = EntryTakes Void void × EntryTakes Int int
 
@@ -71,10 +72,10 @@ EachHolds (row ∷ rows) = Holds row × EachHolds rows
 abbrev pub caseTable : List Case
 caseTable =
     pathCase (47 ∷ []) (accepted 0)
-    ∷ pathCase [] (refused (refusal 14))
-    ∷ pathCase (47 ∷ 47 ∷ 97 ∷ []) (refused (refusal 14))
-    ∷ pathCase (47 ∷ 97 ∷ 47 ∷ []) (refused (refusal 14))
-    ∷ notSubkeyCase (57 ∷ 97 ∷ [])
+    ∷ pathCase [] (refused (refusalAt 14 0))
+    ∷ pathCase (47 ∷ 47 ∷ 97 ∷ []) (refused (refusalAt 14 1))
+    ∷ pathCase (47 ∷ 97 ∷ 47 ∷ []) (refused (refusalAt 14 3))
+    ∷ notSubkeyCase (57 ∷ 97 ∷ []) 0
     ∷ subkeyCase (95 ∷ [])
     ∷ intCase (0xff ∷ 0xff ∷ 0xff ∷ 0xba ∷ []) (negsuc 69)
     ∷ intCase (0x80 ∷ 0x00 ∷ 0x00 ∷ 0x00 ∷ []) (negsuc 2147483647)

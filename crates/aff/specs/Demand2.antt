@@ -10,7 +10,8 @@ use mathlib.Core.Logic.{_↔_}
 use Prim.Native.Nat.{ℕ, _+_, _*_, _≤_, _<_}
 use lib.Dec.{eqb}
 use lib.ListN.{length, getD, take}
-use Rattle.aff_format.specs.Answer.{accepted, refused, refusal}
+use Rattle.aff_format.specs.Answer.{accepted, refused, refusal, refusalAt}
+use Rattle.aff_format.specs.Breaks.{Breaks}
 use Rattle.aff_format.specs.Bytes.{Octets, part}
 use Rattle.aff_format.specs.Edition.{editionNumber}
 use Rattle.aff_format.specs.Element.{elementAt}
@@ -80,9 +81,10 @@ module _ (image : List ℕ) (r : Reader) (strings entries : List ℕ) where
 
   -- What is read with a record that belongs to the memory passed, also where a caller has altered some of it since opening.
   pub record Reads : Type 0 where
-    -- Lookup answers 14 exactly when the path is malformed. For a well-formed one it answers n exactly when n is the lowest node with that path, and
-    -- 15 exactly when no node has it.
-    pub malformed : (path : List ℕ) → (here lookupAnswer path ≡ refused (refusal 14)) ↔ (WellFormed (editionBy r) path → ⊥)
+    -- Lookup answers 14 with place p exactly when p is where the path breaks; a path breaks exactly when it is not well-formed. For a well-formed one it
+    -- answers n exactly when n is the lowest node with that path, and 15 exactly when no node has it.
+    pub malformed : (path : List ℕ) (p : ℕ) → (here lookupAnswer path ≡ refused (refusalAt 14 p)) ↔ Breaks (WellFormed (editionBy r)) path p
+    pub malformed-path : (path : List ℕ) → ((p : ℕ) × (here lookupAnswer path ≡ refused (refusalAt 14 p))) ↔ (WellFormed (editionBy r) path → ⊥)
     pub lowest : (path : List ℕ) → WellFormed (editionBy r) path → (n : ℕ) → (here lookupAnswer path ≡ accepted n) ↔ here LowestWith path n
     pub absent : (path : List ℕ) → WellFormed (editionBy r) path → (here lookupAnswer path ≡ refused (refusal 15)) ↔ here NoneWith path
     -- A node's name is the string of its entry's number, empty for the root; its view is the bytes that its entry names.
@@ -130,9 +132,11 @@ module _ (image : List ℕ) (r : Reader) (strings entries : List ℕ) where
         → itsPath file node ≡ itsPath file (itsParent file node) ++ (47 ∷ itsName file node)
     -- Every other number is 15.
     pub others : (n : ℕ) → r .nodes < n → here Absent n
-    -- Lookup answers 14 exactly when the path is malformed in the file's edition. For a well-formed one it answers n exactly when n is the one node with that
-    -- path, and 15 exactly when no node has it. So it finds each node by its path.
-    pub lookup-malformed : (path : List ℕ) → (here lookupAnswer path ≡ refused (refusal 14)) ↔ (WellFormed (file .edition) path → ⊥)
+    -- Lookup answers 14 with place p exactly when p is where the path breaks in the file's edition; so it answers 14 exactly when the path is malformed. For
+    -- a well-formed one it answers n exactly when n is the one node with that path, and 15 exactly when no node has it. So it finds each node by its path.
+    pub lookup-malformed : (path : List ℕ) (p : ℕ) → (here lookupAnswer path ≡ refused (refusalAt 14 p)) ↔ Breaks (WellFormed (file .edition)) path p
+    pub lookup-malformed-path : (path : List ℕ)
+        → ((p : ℕ) × (here lookupAnswer path ≡ refused (refusalAt 14 p))) ↔ (WellFormed (file .edition) path → ⊥)
     pub lookup : (path : List ℕ) → WellFormed (file .edition) path → (n : ℕ) → (here lookupAnswer path ≡ accepted n) ↔ ItsNode file path n
     pub lookup-absent : (path : List ℕ) → WellFormed (file .edition) path → (here lookupAnswer path ≡ refused (refusal 15)) ↔ NoNode file path
     pub lookup-path : (node : ℕ) → node ≤ r .nodes → here lookupAnswer (itsPath file node) ≡ accepted node

@@ -4,6 +4,7 @@ pub mod Rules
 pub mod Leaves
 pub mod Demand1
 pub mod Demand2
+pub mod BreakPlaces
 pub mod Demand3
 pub mod Withdrawn
 pub mod Worked

@@ -10,8 +10,8 @@ use Rattle.aff_format.specs.Answer.{refusal, refusalAt}
 use Rattle.aff_format.specs.Element.{countIn, elementAt}
 use Rattle.aff_format.specs.Kind.{kindCode, elementSize, entrySize}
 use Rattle.aff_format.specs.Limits.{imageLimit, stringLimit, nodeLimit, textArea, treeArea}
-use Rattle.aff_format.specs.Path.{WellFormed}
-use Rattle.aff_format.specs.Subkey.{isSubkey}
+use Rattle.aff_format.specs.Path.{pathGrammar, WellFormed}
+use Rattle.aff_format.specs.Subkey.{subkeyFrom, breakPlace, isSubkey}
 use Rattle.aff_format.specs.declared.element.Element.{Element}
 use Rattle.aff_format.specs.declared.kind.Kind.{Kind}
 use Rattle.aff_format.specs.declared.kind.Kind.the-variants.{Void}
@@ -55,11 +55,11 @@ module _ (image : List ℕ) (r : Reader) (strings entries : List ℕ) where
   abbrev pub elementRules : ℕ → ℕ → List Rule
   elementRules node index = existsRules node (rule (index < countAt image entries node) (refusal 16) ∷ [])
 
-  -- Lookup: 24; 14, the path is well-formed; 15, some node has it.
+  -- Lookup: 24; 14, the path is well-formed, else where it breaks; 15, some node has it.
   abbrev pub lookupRules : List ℕ → List Rule
   lookupRules path =
       rule (here ReaderBelongs) (refusal 24)
-      ∷ rule (WellFormed (editionBy r) path) (refusal 14)
+      ∷ rule (WellFormed (editionBy r) path) (refusalAt 14 (breakPlace (pathGrammar (editionBy r) path)))
       ∷ rule ((node : ℕ) × (node ≤ r .nodes) × (here pathAt node ≡ path)) (refusal 15)
       ∷ []
 
@@ -113,12 +113,12 @@ module _ (buffer : List ℕ) (w : Writer) (text tree : List ℕ) where
   abbrev pub Few : List ℕ → Type 0
   Few name = (w .nodes + 1 ≤ nodeLimit) × (w .strings + addedStrings w text name ≤ stringLimit) × (w .text + addedText w text name ≤ textArea)
 
-  -- Make: 24, 22; 15, the parent exists; 14, the name is a subkey; 17; 20; 21, the finished size, with a Void entry and the text added, fits the buffer.
+  -- Make: 24, 22; 15, the parent exists; 14, the name is a subkey, else where it breaks; 17; 20; 21, the finished size, with a Void entry and the text added, fits the buffer.
   abbrev pub makeRules : ℕ → List ℕ → List Rule
   makeRules parent name =
       writerRules
       (rule (parent ≤ w .nodes) (refusal 15)
-      ∷ rule (isSubkey written name ≡ true) (refusal 14)
+      ∷ rule (isSubkey written name ≡ true) (refusalAt 14 (breakPlace (subkeyFrom written 0 name)))
       ∷ rule (NoSuchChild parent name) (refusal 17)
       ∷ rule (Few name) (refusal 20)
       ∷ rule (finishedSize w tree + entrySize Void + addedText w text name ≤ length buffer) (refusal 21)

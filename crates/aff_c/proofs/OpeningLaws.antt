@@ -31,18 +31,18 @@ module _ (image form strings entries output : List ℕ) where
       × ((o ≡ recordLeft image form strings entries output)
       × ((s ≡ stringsLeft image form strings entries output) × (e ≡ entriesLeft image form strings entries output)))
 
-  pub too-short : length output < 12 → Left 255 output strings entries
+  pub too-short : length output < 13 → Left 255 output strings entries
   unfolding numberReturned recordLeft stringsLeft entriesLeft
-  too-short h = let e = lt-leb 12 (length output) h in (rw e, (rw e, (rw e, rw e)))
+  too-short h = let e = lt-leb 13 (length output) h in (rw e, (rw e, (rw e, rw e)))
 
-  pub left : 12 ≤ length output → (o : Opening) (t : RefusalCode) (n p s e : List ℕ)
+  pub left : 13 ≤ length output → (o : Opening) (t : RefusalCode) (n p s e : List ℕ)
       → answerOfOpening o ≡ openAnswer image form (length strings) (length entries) → o .reader ≡ readerAfter (answerOfOpening o)
-      → t ≡ codeOfAnswer (answerOfOpening o) → n ≡ numbersOf (t .place) (o .reader) → p ≡ n ++ drop 12 output
+      → t ≡ codeOfAnswer (answerOfOpening o) → n ≡ numbersOf t (o .reader) → p ≡ n ++ drop 13 output
       → s ≡ stringsAfter image form strings entries → e ≡ entriesAfter image form strings entries
       → Left (t .number) p s e
   unfolding numberReturned recordLeft stringsLeft entriesLeft
   left h o t n p s e answer reader reported numbers put strings' entries' =
-      let l = le-leb 12 (length output) h in
+      let l = le-leb 13 (length output) h in
       let given : n ≡ numbersIn (openAnswer image form (length strings) (length entries)) = rw (← answer) (cc) in
       (rw (l, reported, answer), (rw (l, put, given), (rw (l, strings'), rw (l, entries'))))
 

@@ -26,7 +26,7 @@ other-number (refused t) n e = n t refl e
 
 opening-number : (image form strings entries output : List ℕ) → numberReturned image form strings entries output ≡ 8 → ⊥
 unfolding numberReturned
-opening-number image form strings entries output = go (leb 12 (length output)) (openAnswer image form (length strings) (length entries)) (withdrawn .opening image form (length strings) (length entries))
+opening-number image form strings entries output = go (leb 13 (length output)) (openAnswer image form (length strings) (length entries)) (withdrawn .opening image form (length strings) (length entries))
   where
     go : (b : Bool) (a : Answer Reader) → NotBy 8 a → cond b (codeOfAnswer a .number) 255 ≡ 8 → ⊥
     go false a n e = omega arith

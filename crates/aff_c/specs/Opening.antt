@@ -10,15 +10,15 @@ use Rattle.aff_open.specs.Opening.{openAnswer, readerAfter, stringsAfter, entri
 use Rattle.aff_open.specs.Sections.{formFor}
 use Rattle.aff_reader.specs.declared.reader.Reader.{Reader}
 
--- What an answer reports: number 0 and place 0 for acceptance, else the refusal's.
+-- What an answer reports: zeros for acceptance, else number, place and second number of the refusal.
 abbrev pub codeOfAnswer : Answer Reader → RefusalCode
 codeOfAnswer (accepted r) = refusal 0
 codeOfAnswer (refused t) = t
 
--- A place and a record as 12 numbers.
-unfoldable pub numbersOf : ℕ → Reader → List ℕ
-numbersOf place r =
-    place
+-- The place that is reported, a record, and the second number that is reported: 13 numbers.
+unfoldable pub numbersOf : RefusalCode → Reader → List ℕ
+numbersOf code r =
+    code .place
     ∷ r .length
     ∷ r .edition
     ∷ r .symbols .offset
@@ -30,25 +30,26 @@ numbersOf place r =
     ∷ r .strings
     ∷ r .nodes
     ∷ r .records
+    ∷ code .second
     ∷ []
 
 -- The same of an answer. After a refusal the record is all zero.
 abbrev pub numbersIn : Answer Reader → List ℕ
-numbersIn a = numbersOf (codeOfAnswer a .place) (readerAfter a)
+numbersIn a = numbersOf (codeOfAnswer a) (readerAfter a)
 
--- The number handed back, and the three slices after it. An output of fewer than 12 numbers opens nothing: 255, and all is as it was.
+-- The number handed back, and the three slices after it. An output of fewer than 13 numbers opens nothing: 255, and all is as it was.
 module _ (image form strings entries output : List ℕ) where
   unfoldable pub numberReturned : ℕ
-  numberReturned = cond (leb 12 (length output)) (codeOfAnswer (openAnswer image form (length strings) (length entries)) .number) 255
+  numberReturned = cond (leb 13 (length output)) (codeOfAnswer (openAnswer image form (length strings) (length entries)) .number) 255
 
   unfoldable pub recordLeft : List ℕ
-  recordLeft = cond (leb 12 (length output)) (numbersIn (openAnswer image form (length strings) (length entries)) ++ drop 12 output) output
+  recordLeft = cond (leb 13 (length output)) (numbersIn (openAnswer image form (length strings) (length entries)) ++ drop 13 output) output
 
   unfoldable pub stringsLeft : List ℕ
-  stringsLeft = cond (leb 12 (length output)) (stringsAfter image form strings entries) strings
+  stringsLeft = cond (leb 13 (length output)) (stringsAfter image form strings entries) strings
 
   unfoldable pub entriesLeft : List ℕ
-  entriesLeft = cond (leb 12 (length output)) (entriesAfter image form strings entries) entries
+  entriesLeft = cond (leb 13 (length output)) (entriesAfter image form strings entries) entries
 
 -- The output o with the form of an image in its first 12 bytes, where it has so many; where it has fewer, as it was.
 unfoldable pub withForm : List ℕ → List ℕ → List ℕ

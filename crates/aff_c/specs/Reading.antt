@@ -21,7 +21,7 @@ use Rattle.aff_listing.specs.declared.choice.Choice.the-variants.{AllNodes, Not
 unfoldable pub editionNumberIn : ℕ → ℕ
 editionNumberIn n = cond (ltb 4294967295 n) 0 n
 
--- The record of the 12 numbers that `aff_open_image` writes; the first, a place, is no part of it.
+-- The record of the first 12 numbers that `aff_open_image` writes; the very first, a place, is no part of it.
 unfoldable pub readerIn : List ℕ → Reader
 readerIn l =
     record {
@@ -39,6 +39,11 @@ readerIn l =
 abbrev pub numberBy : {A : Type 0} → Answer A → ℕ
 numberBy (accepted a) = 0
 numberBy (refused t) = t .number
+
+-- The place that a refusal reports; 0 for acceptance.
+abbrev pub placeBy : {A : Type 0} → Answer A → ℕ
+placeBy (accepted a) = 0
+placeBy (refused t) = t .place
 
 -- The choice of a listing by a flag: true for all nodes, false for those that are not Void.
 abbrev pub choiceBy : Bool → Choice

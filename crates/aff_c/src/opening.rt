@@ -11,7 +11,7 @@ ghost use lib.ListN.{length, drop};
 ghost use Rattle.aff_open.specs.Opening.{answerOfOpening};
 ghost use Rattle.aff_c.specs.Opening.{codeOfAnswer, numbersOf, numberReturned, recordLeft, stringsLeft, entriesLeft, withForm};
 
-// What an opening reports: number 0 and place 0 for acceptance.
+// What an opening reports: zeros for acceptance.
 fn code_of(opening: Opening) -> RefusalCode
     ensures { λ r. ⌜ r ≡ codeOfAnswer (answerOfOpening opening) ⌝ }
 {
@@ -26,14 +26,14 @@ fn code_of(opening: Opening) -> RefusalCode
     }
 }
 
-fn numbers(place: usize, reader: Reader) -> [u64; 12]
-    ensures { λ r. ⌜ r ≡ numbersOf place reader ⌝ }
+fn numbers(code: RefusalCode, reader: Reader) -> [u64; 13]
+    ensures { λ r. ⌜ r ≡ numbersOf code reader ⌝ }
 {
     let symbols = reader.symbols;
     let tree = reader.tree;
     let data = reader.data;
     [
-        place as u64,
+        code.place as u64,
         reader.length as u64,
         reader.edition as u64,
         symbols.offset as u64,
@@ -45,16 +45,17 @@ fn numbers(place: usize, reader: Reader) -> [u64; 12]
         reader.strings as u64,
         reader.nodes as u64,
         reader.records,
+        code.second as u64,
     ]
 }
 
-// Writes 12 numbers to the front of the output, and leaves the others.
-fn put_numbers(output: &mut [u64], numbers: [u64; 12])
-    requires { ⌜ 12 ≤ length (now output) ⌝ }
-    ensures { λ _. ⌜ now (output .exit) ≡ numbers ++ drop 12 (now (output .entry)) ⌝ }
+// Writes 13 numbers to the front of the output, and leaves the others.
+fn put_numbers(output: &mut [u64], numbers: [u64; 13])
+    requires { ⌜ 13 ≤ length (now output) ⌝ }
+    ensures { λ _. ⌜ now (output .exit) ≡ numbers ++ drop 13 (now (output .entry)) ⌝ }
 {
     let mut i: usize = 0;
-    while i < 12 {
+    while i < 13 {
         output[i] = numbers[i];
         i += 1;
     }
@@ -72,10 +73,10 @@ fn put_bytes(output: &mut [u8], bytes: [u8; 12])
     }
 }
 
-// Opens a complete image in memory, as `aff_open::open` does, and returns 0 where it is accepted, else the refusal's number. It writes 12
-// numbers into the record: the place that a refusal reports, or 0; and of an accepted image, else zeros, its length, its edition, offset and
-// size of the symbol, the tree and the data section, how many strings and how many nodes it has, and the data section's record count.
-// Where the record has fewer than 12 numbers, it opens nothing, changes nothing and returns 255.
+// Opens a complete image in memory, as `aff_open::open` does, and returns 0 where it is accepted, else the refusal's number. It writes 13
+// numbers into the record: the place that a refusal reports, or 0; of an accepted image, else zeros, its length, its edition, offset and
+// size of the symbol, the tree and the data section, how many strings and how many nodes it has, and the data section's record count; and last the
+// second number of 10, or 0. Where the record has fewer than 13 numbers, it opens nothing, changes nothing and returns 255.
 #[no_mangle]
 pub extern "C" fn aff_open_image(
     image: &[u8],
@@ -89,13 +90,13 @@ pub extern "C" fn aff_open_image(
     ensures strings { λ _. ⌜ now (strings .exit) ≡ stringsLeft (now (image .entry)) (now (form .entry)) (now (strings .entry)) (now (entries .entry)) (now («record» .entry)) ⌝ }
     ensures entries { λ _. ⌜ now (entries .exit) ≡ entriesLeft (now (image .entry)) (now (form .entry)) (now (strings .entry)) (now (entries .entry)) (now («record» .entry)) ⌝ }
 {
-    if record.len() < 12 {
+    if record.len() < 13 {
         return 255;
     }
     let opening = aff_open::open(image, form, strings, entries);
     let code = code_of(opening);
     let reader = opening.reader;
-    put_numbers(record, numbers(code.place, reader));
+    put_numbers(record, numbers(code, reader));
     code.number
 }
 

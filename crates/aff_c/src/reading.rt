@@ -1,6 +1,6 @@
 // Reading for programs in C and Rust: lookup, listing order, what a node is, one element of its data, and one element of data whose place the caller
-// holds, as include/aff.h declares them. The record has 12 numbers, as `aff_open_image` writes them. Each function returns 0 where the call is
-// accepted, else the refusal's number, and then leaves the caller's memory as it was.
+// holds, as include/aff.h declares them. The record has 12 numbers, the first of those that `aff_open_image` writes. Each function returns 0
+// where the call is accepted, else the refusal's number, and then leaves the caller's memory as it was, but for the place that `aff_lookup` writes.
 use aff_format::Element;
 use aff_format::ElementAnswer;
 use aff_format::FoundKind;
@@ -22,7 +22,7 @@ ghost use Rattle.aff_format.specs.Verdict.{answerOfNumber};
 ghost use Rattle.aff_nodes.specs.Answers.{answerOfKind, answerOfPart, nameAnswer, kindAnswer, countAnswer, viewAnswer, elementAnswer};
 ghost use Rattle.aff_read.specs.Paths.{frontWritten, pathAnswer, lookupAnswer};
 ghost use Rattle.aff_nodes.specs.Recall.{pathAt};
-ghost use Rattle.aff_c.specs.Reading.{editionNumberIn, readerIn, numberBy, choiceBy, leftBy, realPart, imaginaryPart, decodedAnswer};
+ghost use Rattle.aff_c.specs.Reading.{editionNumberIn, readerIn, numberBy, placeBy, choiceBy, leftBy, realPart, imaginaryPart, decodedAnswer};
 ghost use Rattle.aff_listing.specs.ListingOrder.{listingOrder, listingAnswer};
 
 fn edition_of(number: u64) -> u32
@@ -136,7 +136,17 @@ fn put_kind(answer: KindAnswer, kind: &mut u64) -> u32
     }
 }
 
-// The lowest node with a path, as `aff_read::paths::lookup` finds it.
+// The place that a refusal reports; 0 where the call is accepted.
+fn place_of(answer: NumberAnswer) -> u64
+    ensures { λ r. ⌜ r ≡ placeBy (answerOfNumber answer) ⌝ }
+{
+    match answer {
+        NumberAnswer::Value(_) => 0,
+        NumberAnswer::Refused(refusal) => refusal.place() as u64,
+    }
+}
+
+// The lowest node with a path, as `aff_read::paths::lookup` finds it. The place is written whatever the answer: for 14 where the path breaks, else 0.
 #[no_mangle]
 pub extern "C" fn aff_lookup(
     image: &[u8],
@@ -145,11 +155,14 @@ pub extern "C" fn aff_lookup(
     entries: &[u32],
     path: &[u8],
     node: &mut u64,
+    place: &mut u64,
 ) -> u32
     ensures number { λ r. ⌜ r ≡ numberBy (lookupAnswer (now (image .entry)) (readerIn (now («record» .entry))) (now (strings .entry)) (now (entries .entry)) (now (path .entry))) ⌝ }
     ensures node { λ _. ⌜ now (node .exit) ≡ leftBy (λ (n : ℕ). n) (now (node .entry)) (lookupAnswer (now (image .entry)) (readerIn (now («record» .entry))) (now (strings .entry)) (now (entries .entry)) (now (path .entry))) ⌝ }
+    ensures place { λ _. ⌜ now (place .exit) ≡ placeBy (lookupAnswer (now (image .entry)) (readerIn (now («record» .entry))) (now (strings .entry)) (now (entries .entry)) (now (path .entry))) ⌝ }
 {
     let answer = aff_read::paths::lookup(image, reader_of(record), strings, entries, path);
+    *place = place_of(answer);
     put_number(answer, node)
 }
 

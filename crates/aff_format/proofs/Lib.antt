@@ -15,6 +15,7 @@ pub mod NumberLaws
 pub mod KindLaws
 pub mod SubkeyLaws
 pub mod PathLaws
+pub mod BreaksLaws
 pub mod StringsLaws
 pub mod EntryLaws
 pub mod SlotLaws

@@ -1,5 +1,5 @@
 -- Laws of the lowest number of which a test holds, in the terms of a loop that has passed the first k of n numbers. Assumes nothing.
-use mathlib.Core.Path.{_≡_, refl, sym}
+use mathlib.Core.Path.{_≡_, refl, sym, ap}
 use mathlib.Core.Bool.{Bool, true, false, true≢false}
 use mathlib.Core.List.{List, _∷_}
 use mathlib.Core.Logic.{⊎-elim}
@@ -10,6 +10,7 @@ use Rattle.aff_format.specs.Answer.{Check, Clear}
 use Rattle.aff_format.specs.Lowest.{lowestFrom, isAt, checkLowest}
 use Rattle.aff_format.specs.declared.lowest.Lowest.{Lowest}
 use Rattle.aff_format.specs.declared.lowest.Lowest.the-variants.{Nothing, At}
+use Rattle.aff_format.specs.declared.refusal.RefusalCode.{RefusalCode}
 use Rattle.aff_format.proofs.AnswerLaws.{numbersReported}
 
 module _ (test : ℕ → Bool) where
@@ -86,11 +87,12 @@ none-at Nothing h = refl
 none-at (At k) h = absurd (true≢false h)
 
 -- A check that reports the lowest finds nothing wrong where there is none.
-pub clear-lowest : (number : ℕ) (l : Lowest) (checks : List Check) → Clear (checkLowest number l ∷ checks) → (l ≡ Nothing) × Clear checks
-clear-lowest number Nothing checks c = (refl, c .1)
-clear-lowest number (At k) checks c = absurd (true≢false (c .0))
+pub clear-lowest : (report : ℕ → RefusalCode) (l : Lowest) (checks : List Check) → Clear (checkLowest report l ∷ checks) → (l ≡ Nothing) × Clear checks
+clear-lowest report Nothing checks c = (refl, c .1)
+clear-lowest report (At k) checks c = absurd (true≢false (c .0))
 
 -- A check for the lowest reports its own number, whether there is one or not.
-pub numbers-lowest : (number : ℕ) (l : Lowest) (checks : List Check) → numbersReported (checkLowest number l ∷ checks) ≡ number ∷ numbersReported checks
-numbers-lowest number Nothing checks = refl
-numbers-lowest number (At k) checks = refl
+pub numbers-lowest : (number : ℕ) (report : ℕ → RefusalCode) → ((k : ℕ) → report k .number ≡ number) → (l : Lowest) (checks : List Check)
+    → numbersReported (checkLowest report l ∷ checks) ≡ number ∷ numbersReported checks
+numbers-lowest number report is Nothing checks = ap (λ (n : ℕ). n ∷ numbersReported checks) (is 0)
+numbers-lowest number report is (At k) checks = ap (λ (n : ℕ). n ∷ numbersReported checks) (is k)

@@ -7,7 +7,7 @@ use mathlib.Core.Logic.{inl, inr, ⊎-elim, _↔_}
 use Prim.Native.Nat.{ℕ, zero, suc, _+_, _≤_, _<_}
 use native.Mathlib.Nat.{eq-or-lt-of-le}
 use native.Mathlib.Omega.{arith}
-use Rattle.aff_format.specs.Answer.{Answer, accepted, refused, Check, check, refusalAt, unless, firstWrong}
+use Rattle.aff_format.specs.Answer.{Answer, accepted, refused, Check, check, unless, firstWrong}
 use Rattle.aff_format.specs.Lowest.{lowestFrom, checkLowest}
 use Rattle.aff_format.specs.declared.refusal.RefusalCode.{RefusalCode}
 use Rattle.aff_format.specs.declared.lowest.Lowest.{Lowest}
@@ -33,8 +33,8 @@ pub data AskFor : List Check → List Rule → Type 1 where
   none : AskFor [] []
   one : {b : Bool} {holds : Type 0} {t : RefusalCode} {cs : List Check} {rs : List Rule} → (b ≡ false) ↔ holds
       → (holds → AskFor cs rs) → AskFor (check b t ∷ cs) (rule holds t ∷ rs)
-  each : (n : ℕ) (test : ℕ → Bool) (holds : ℕ → Type 0) (left k : ℕ) {cs : List Check} {rs : List Rule} → Each (λ j. (test j ≡ false) ↔ holds j) left k
-      → (Each holds left k → AskFor cs rs) → AskFor (checkLowest n (lowestFrom test left k) ∷ cs) (eachFrom n holds left k rs)
+  each : (report : ℕ → RefusalCode) (test : ℕ → Bool) (holds : ℕ → Type 0) (left k : ℕ) {cs : List Check} {rs : List Rule} → Each (λ j. (test j ≡ false) ↔ holds j) left k
+      → (Each holds left k → AskFor cs rs) → AskFor (checkLowest report (lowestFrom test left k) ∷ cs) (eachFrom report holds left k rs)
 
 module _ {A : Type 0} (v : A) where
   rest : {holds : Type 0} (t : RefusalCode) (rs : List Rule) (a : Answer A) → holds → Settled rs v a → Settled (rule holds t ∷ rs) v a
@@ -46,25 +46,25 @@ module _ {A : Type 0} (v : A) where
   one-settled t rs a true e s = inl (λ h. true≢false (e .1 h), refl)
   one-settled t rs a false e s = rest t rs a (e .0 refl) (s (e .0 refl))
 
-  each-settled : (n : ℕ) (test : ℕ → Bool) (holds : ℕ → Type 0) (cs : List Check) (rs : List Rule) (left k : ℕ)
+  each-settled : (report : ℕ → RefusalCode) (test : ℕ → Bool) (holds : ℕ → Type 0) (cs : List Check) (rs : List Rule) (left k : ℕ)
       → Each (λ j. (test j ≡ false) ↔ holds j) left k → (Each holds left k → Settled rs v (firstWrong cs v))
-      → Settled (eachFrom n holds left k rs) v (firstWrong (checkLowest n (lowestFrom test left k) ∷ cs) v)
+      → Settled (eachFrom report holds left k rs) v (firstWrong (checkLowest report (lowestFrom test left k) ∷ cs) v)
   unfolding lowestFrom eachFrom
-  each-settled n test holds cs rs zero k e s = s (λ j lo hi. absurd (omega arith))
-  each-settled n test holds cs rs (suc left) k e s =
+  each-settled report test holds cs rs zero k e s = s (λ j lo hi. absurd (omega arith))
+  each-settled report test holds cs rs (suc left) k e s =
       let (here, later) = each-less _ left k e in
-      go (test k) (lowestFrom test left (k + 1)) here (λ h. each-settled n test holds cs rs left (k + 1) later (λ hs. s (each-more holds left k h hs)))
+      go (test k) (lowestFrom test left (k + 1)) here (λ h. each-settled report test holds cs rs left (k + 1) later (λ hs. s (each-more holds left k h hs)))
     where
       go : (b : Bool) (l : Lowest) → (b ≡ false) ↔ holds k
-          → (holds k → Settled (eachFrom n holds left (k + 1) rs) v (firstWrong (checkLowest n l ∷ cs) v))
-          → Settled (eachFrom n holds (suc left) k rs) v (firstWrong (checkLowest n (cond b (At k) l) ∷ cs) v)
-      go true l = one-settled (refusalAt n k) (eachFrom n holds left (k + 1) rs) (firstWrong (checkLowest n l ∷ cs) v) true
-      go false l = one-settled (refusalAt n k) (eachFrom n holds left (k + 1) rs) (firstWrong (checkLowest n l ∷ cs) v) false
+          → (holds k → Settled (eachFrom report holds left (k + 1) rs) v (firstWrong (checkLowest report l ∷ cs) v))
+          → Settled (eachFrom report holds (suc left) k rs) v (firstWrong (checkLowest report (cond b (At k) l) ∷ cs) v)
+      go true l = one-settled (report k) (eachFrom report holds left (k + 1) rs) (firstWrong (checkLowest report l ∷ cs) v) true
+      go false l = one-settled (report k) (eachFrom report holds left (k + 1) rs) (firstWrong (checkLowest report l ∷ cs) v) false
 
   pub settled : {cs : List Check} {rs : List Rule} → AskFor cs rs → Settled rs v (firstWrong cs v)
   settled none = (tt, refl)
   settled (one {b} {holds} {t} {cs} {rs} e more) = one-settled t rs (firstWrong cs v) b e (λ h. settled (more h))
-  settled (each n test holds left k {cs} {rs} e more) = each-settled n test holds cs rs left k e (λ h. settled (more h))
+  settled (each report test holds left k {cs} {rs} e more) = each-settled report test holds cs rs left k e (λ h. settled (more h))
 
 -- No other answer is settled.
 hold-or-fail : (rs : List Rule) (t : RefusalCode) → AllHold rs → FirstFails rs t → ⊥
@@ -89,15 +89,15 @@ module _ {A : Type 0} (rs : List Rule) (v : A) where
   first-refuses (refused u) s f = ap refused (one-first rs s f)
 
 -- The rules of numbers in a row, and those after them.
-pub each-hold : (n : ℕ) (holds : ℕ → Type 0) (rs : List Rule) (left k : ℕ) → AllHold (eachFrom n holds left k rs) → Each holds left k × AllHold rs
+pub each-hold : (report : ℕ → RefusalCode) (holds : ℕ → Type 0) (rs : List Rule) (left k : ℕ) → AllHold (eachFrom report holds left k rs) → Each holds left k × AllHold rs
 unfolding eachFrom
-each-hold n holds rs zero k h = (λ j lo hi. absurd (omega arith), h)
-each-hold n holds rs (suc left) k h = let (hs, r) = each-hold n holds rs left (k + 1) (h .1) in (each-more holds left k (h .0) hs, r)
+each-hold report holds rs zero k h = (λ j lo hi. absurd (omega arith), h)
+each-hold report holds rs (suc left) k h = let (hs, r) = each-hold report holds rs left (k + 1) (h .1) in (each-more holds left k (h .0) hs, r)
 
-pub hold-each : (n : ℕ) (holds : ℕ → Type 0) (rs : List Rule) (left k : ℕ) → Each holds left k → AllHold rs → AllHold (eachFrom n holds left k rs)
+pub hold-each : (report : ℕ → RefusalCode) (holds : ℕ → Type 0) (rs : List Rule) (left k : ℕ) → Each holds left k → AllHold rs → AllHold (eachFrom report holds left k rs)
 unfolding eachFrom
-hold-each n holds rs zero k hs r = r
-hold-each n holds rs (suc left) k hs r = let (h, later) = each-less holds left k hs in (h, hold-each n holds rs left (k + 1) later r)
+hold-each report holds rs zero k hs r = r
+hold-each report holds rs (suc left) k hs r = let (h, later) = each-less holds left k hs in (h, hold-each report holds rs left (k + 1) later r)
 
 -- ---- By number.
 
@@ -106,11 +106,22 @@ abbrev pub OtherNumbers : ℕ → List Rule → Type 0
 OtherNumbers n [] = Unit {0}
 OtherNumbers n (rule holds t ∷ rs) = (eqb (t .number) n ≡ false) × OtherNumbers n rs
 
-pub other-each : (n number : ℕ) → eqb number n ≡ false → (holds : ℕ → Type 0) (rs : List Rule) (left k : ℕ) → OtherNumbers n rs
-    → OtherNumbers n (eachFrom number holds left k rs)
+pub other-each : (n : ℕ) (report : ℕ → RefusalCode) → ((k : ℕ) → eqb (report k .number) n ≡ false) → (holds : ℕ → Type 0) (rs : List Rule) (left k : ℕ)
+    → OtherNumbers n rs → OtherNumbers n (eachFrom report holds left k rs)
 unfolding eachFrom
-other-each n number h holds rs zero k o = o
-other-each n number h holds rs (suc left) k o = (h, other-each n number h holds rs left (k + 1) o)
+other-each n report h holds rs zero k o = o
+other-each n report h holds rs (suc left) k o = (h k, other-each n report h holds rs left (k + 1) o)
+
+pub other-both : (n : ℕ) (before rs : List Rule) → OtherNumbers n before → OtherNumbers n rs → OtherNumbers n (before ++ rs)
+other-both n [] rs o p = p
+other-both n (rule holds t ∷ before) rs o p = (o .0, other-both n before rs (o .1) p)
+
+-- The rules of numbers in a row, with rules after them that come in two parts.
+pub each-append : (report : ℕ → RefusalCode) (holds : ℕ → Type 0) (rs more : List Rule) (left k : ℕ)
+    → eachFrom report holds left k (rs ++ more) ≡ eachFrom report holds left k rs ++ more
+unfolding eachFrom
+each-append report holds rs more zero k = refl
+each-append report holds rs more (suc left) k = rw (each-append report holds rs more left (k + 1))
 
 -- Of the `left` numbers from `first` on, k is the lowest for which the rule fails.
 pub record LowestFails (holds : ℕ → Type 0) (left first k : ℕ) : Type 0 where
@@ -119,57 +130,60 @@ pub record LowestFails (holds : ℕ → Type 0) (left first k : ℕ) : Type 0 wh
   pub fails : holds k → ⊥
   pub before : (j : ℕ) → first ≤ j → j < k → holds j
 
--- A number n that one group of rules alone reports: it is reported with place k exactly where all rules before the group hold and k is the lowest for which a rule of the
--- group fails.
-module _ (n k : ℕ) where
-  not-reported : (rs : List Rule) → OtherNumbers n rs → FirstFails rs (refusalAt n k) → ⊥
+-- A refusal t whose number one group of rules alone reports: it is reported exactly where all rules before the group hold, and t is what is said of the lowest
+-- number for which a rule of the group fails.
+module _ (t : RefusalCode) where
+  not-reported : (rs : List Rule) → OtherNumbers (t .number) rs → FirstFails rs t → ⊥
   not-reported [] o f = f
-  not-reported (rule p t ∷ rs) o (inl f) = true≢false (sym (ap (λ (x : RefusalCode). eqb (x .number) n) (f .1) ∙ eq-eqb n n refl) ∙ o .0)
-  not-reported (rule p t ∷ rs) o (inr f) = not-reported rs (o .1) (f .1)
+  not-reported (rule p u ∷ rs) o (inl f) = true≢false (sym (eq-eqb (u .number) (t .number) (ap (λ (x : RefusalCode). x .number) (f .1))) ∙ o .0)
+  not-reported (rule p u ∷ rs) o (inr f) = not-reported rs (o .1) (f .1)
 
-  before-hold : (before rs : List Rule) → OtherNumbers n before → FirstFails (before ++ rs) (refusalAt n k) → AllHold before × FirstFails rs (refusalAt n k)
+  before-hold : (before rs : List Rule) → OtherNumbers (t .number) before → FirstFails (before ++ rs) t → AllHold before × FirstFails rs t
   before-hold [] rs o f = (tt, f)
-  before-hold (rule p t ∷ before) rs o (inl f) = absurd (not-reported (rule p t ∷ []) (o .0, tt) (inl f))
-  before-hold (rule p t ∷ before) rs o (inr f) = let (h, g) = before-hold before rs (o .1) (f .1) in ((f .0, h), g)
+  before-hold (rule p u ∷ before) rs o (inl f) = absurd (not-reported (rule p u ∷ []) (o .0, tt) (inl f))
+  before-hold (rule p u ∷ before) rs o (inr f) = let (h, g) = before-hold before rs (o .1) (f .1) in ((f .0, h), g)
 
-  hold-before : (before rs : List Rule) → AllHold before → FirstFails rs (refusalAt n k) → FirstFails (before ++ rs) (refusalAt n k)
+  hold-before : (before rs : List Rule) → AllHold before → FirstFails rs t → FirstFails (before ++ rs) t
   hold-before [] rs h f = f
-  hold-before (rule p t ∷ before) rs h f = inr (h .0, hold-before before rs (h .1) f)
+  hold-before (rule p u ∷ before) rs h f = inr (h .0, hold-before before rs (h .1) f)
 
-  module _ (holds : ℕ → Type 0) (rs : List Rule) where
-    each-fails : (left first : ℕ) → OtherNumbers n rs → FirstFails (eachFrom n holds left first rs) (refusalAt n k) → LowestFails holds left first k
+  module _ (report : ℕ → RefusalCode) (holds : ℕ → Type 0) (rs : List Rule) where
+    each-fails : (left first : ℕ) → OtherNumbers (t .number) rs → FirstFails (eachFrom report holds left first rs) t
+        → (k : ℕ) × LowestFails holds left first k × (report k ≡ t)
     unfolding eachFrom
     each-fails zero first o f = absurd (not-reported rs o f)
     each-fails (suc left) first o (inl f) =
-        let q : first ≡ k = ap (λ (x : RefusalCode). x .place) (f .1) in
-        record { least = omega arith; most = omega arith; fails = λ h. f .0 (rw q h); before = λ j lo hi. absurd (omega arith) }
+        (first, record { least = omega arith; most = omega arith; fails = f .0; before = λ j lo hi. absurd (omega arith) }, f .1)
     each-fails (suc left) first o (inr f) =
-        let r = each-fails left (first + 1) o (f .1) in
-        record {
-          least = omega (arith, r .least);
-          most = omega (arith, r .most);
-          fails = r .fails;
-          before = λ j lo hi. ⊎-elim (λ (q : first ≡ j). rw (sym q) (f .0)) (λ (q : first < j). r .before j (omega arith) hi) (eq-or-lt-of-le lo);
-        }
+        let (k, r, q) = each-fails left (first + 1) o (f .1) in (
+          k,
+          record {
+            least = omega (arith, r .least);
+            most = omega (arith, r .most);
+            fails = r .fails;
+            before = λ j lo hi. ⊎-elim (λ (q : first ≡ j). rw (sym q) (f .0)) (λ (q : first < j). r .before j (omega arith) hi) (eq-or-lt-of-le lo);
+          },
+          q,
+        )
 
-    fails-each : (left first : ℕ) → LowestFails holds left first k → FirstFails (eachFrom n holds left first rs) (refusalAt n k)
+    fails-each : (k left first : ℕ) → LowestFails holds left first k → report k ≡ t → FirstFails (eachFrom report holds left first rs) t
     unfolding eachFrom
-    fails-each zero first r = absurd (omega (arith, r .least, r .most))
-    fails-each (suc left) first r =
-        ⊎-elim (λ (q : first ≡ k). inl (λ h. r .fails (rw (sym q) h), ap (refusalAt n) q))
+    fails-each k zero first r e = absurd (omega (arith, r .least, r .most))
+    fails-each k (suc left) first r e =
+        ⊎-elim (λ (q : first ≡ k). inl (λ h. r .fails (rw (sym q) h), ap report q ∙ e))
         (λ (q : first < k).
         inr (
           r .before first (omega arith) q,
-          fails-each left (first + 1)
-              (record { least = omega arith; most = omega (arith, r .most); fails = r .fails; before = λ j lo hi. r .before j (omega arith) hi }),
+          fails-each k left (first + 1)
+              (record { least = omega arith; most = omega (arith, r .most); fails = r .fails; before = λ j lo hi. r .before j (omega arith) hi }) e,
         ))
         (eq-or-lt-of-le (r .least))
 
-    pub each-reported : (before : List Rule) (left first : ℕ) → OtherNumbers n before → OtherNumbers n rs
-        → FirstFails (before ++ eachFrom n holds left first rs) (refusalAt n k) ↔ (AllHold before × LowestFails holds left first k)
+    pub each-reported : (before : List Rule) (left first : ℕ) → OtherNumbers (t .number) before → OtherNumbers (t .number) rs
+        → FirstFails (before ++ eachFrom report holds left first rs) t ↔ (AllHold before × ((k : ℕ) × LowestFails holds left first k × (report k ≡ t)))
     each-reported before left first o p = (
-      λ f. let (h, g) = before-hold before (eachFrom n holds left first rs) o f in (h, each-fails left first p g),
-      λ (h, r). hold-before before (eachFrom n holds left first rs) h (fails-each left first r),
+      λ f. let (h, g) = before-hold before (eachFrom report holds left first rs) o f in (h, each-fails left first p g),
+      λ (h, (k, r, e)). hold-before before (eachFrom report holds left first rs) h (fails-each k left first r e),
     )
 
 -- ---- What rules settle is answered by them.

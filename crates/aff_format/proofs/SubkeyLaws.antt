@@ -2,16 +2,20 @@
 use mathlib.Core.Path.{_≡_, refl, sym, ap, _∙_}
 use mathlib.Core.Bool.{Bool, true, false, cond, true≢false}
 use mathlib.Core.List.{List, [], _∷_}
+use mathlib.Core.Logic.{_↔_}
 use Prim.Native.Nat.{ℕ, _+_, _-_, _<_, _≤_}
 use native.Mathlib.Nat.{add-zero}
 use native.Mathlib.Omega.{arith}
 use lib.ListN.{length, getD}
-use borrow.Author.Tests.{ne-eqb}
+use borrow.Author.Tests.{ne-eqb, eqb-false}
+use Rattle.aff_format.specs.Answer.{refused, Check, refusalAt, firstWrong}
 use Rattle.aff_format.specs.Bytes.{part, Without}
-use Rattle.aff_format.specs.Subkey.{narrowFirst, narrowNext, mayBegin, mayFollow, restOfSubkey, subkeyFrom, isSound, isSubkey, shifted}
+use Rattle.aff_format.specs.Subkey.{narrowFirst, narrowNext, mayBegin, mayFollow, restOfSubkey, subkeyFrom, isSound, breakPlace, checkGrammar, isSubkey, shifted}
+use Rattle.aff_format.proofs.AnswerLaws.{Others, others-reported}
 use Rattle.aff_format.proofs.BytesLaws.{part-cons, part-empty}
 use Rattle.aff_format.specs.declared.edition.Edition.{Edition}
 use Rattle.aff_format.specs.declared.edition.Edition.the-variants.{One, Two}
+use Rattle.aff_format.specs.declared.refusal.RefusalCode.{RefusalCode}
 use Rattle.aff_format.specs.declared.subkey.Grammar.{Grammar}
 use Rattle.aff_format.specs.declared.subkey.Grammar.the-variants.{Sound, BreaksAt}
 
@@ -110,3 +114,15 @@ pub subkey-not-empty : (e : Edition) (l : List ℕ) → isSubkey e l ≡ true �
 unfolding subkeyFrom
 subkey-not-empty e [] h = absurd (true≢false (sym h))
 subkey-not-empty e (x ∷ l) h = omega arith
+
+-- The check of a grammar reports its place, and only 14.
+pub reports-14 : {A : Type 0} (g : Grammar) (checks : List Check) (a : A) (p : ℕ) → Others 14 checks
+    → (firstWrong (checkGrammar g ∷ checks) a ≡ refused (refusalAt 14 p)) ↔ (g ≡ BreaksAt p)
+reports-14 Sound checks a p o = (
+  λ h. absurd (eqb-false 14 14 (others-reported 14 checks o a h) refl),
+  λ h. absurd (let z : _≡_ {A = ℕ} 0 1 = cc in omega arith),
+)
+reports-14 (BreaksAt q) checks a p o = (
+  λ h. let e : refusalAt 14 q ≡ refusalAt 14 p = cc in ap (λ (t : RefusalCode). BreaksAt (t .place)) e,
+  λ h. ap (λ (g : Grammar). refused (refusalAt 14 (breakPlace g))) h,
+)

@@ -5,12 +5,15 @@ use mathlib.Core.List.{List, [], _∷_}
 use Prim.Native.Nat.{ℕ}
 use Rattle.aff_format.specs.declared.refusal.RefusalCode.{RefusalCode}
 
--- A refusal that reports its number, and one that reports a place. (The place in a name that 10 reports besides is 0 before request C-18.)
+-- A refusal that reports its number; one that reports a place besides; and one that reports a place and a second number (10, by request C-18).
 abbrev pub refusal : ℕ → RefusalCode
 refusal n = record { number = n; place = 0; second = 0 }
 
 abbrev pub refusalAt : ℕ → ℕ → RefusalCode
 refusalAt n p = record { number = n; place = p; second = 0 }
+
+abbrev pub refusalWith : ℕ → ℕ → ℕ → RefusalCode
+refusalWith n p q = record { number = n; place = p; second = q }
 
 -- An accepted call's value, or a refusal.
 pub data Answer (A : Type 0) : Type 0 where

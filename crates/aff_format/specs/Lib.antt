@@ -11,6 +11,7 @@ pub mod Element
 pub mod Subkey
 pub mod passes
 pub mod Path
+pub mod Breaks
 pub mod Strings
 pub mod Entry
 pub mod Recorded

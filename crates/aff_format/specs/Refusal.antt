@@ -1,6 +1,6 @@
 -- The rows of document 01's table 'Numbers handed back'.
 use Prim.Native.Nat.{ℕ}
-use Rattle.aff_format.specs.Answer.{refusal, refusalAt}
+use Rattle.aff_format.specs.Answer.{refusal, refusalAt, refusalWith}
 use Rattle.aff_format.specs.Limits.{stringLimit}
 use Rattle.aff_format.specs.Section.{sectionNumber}
 use Rattle.aff_format.specs.declared.refusal.RefusalCode.{RefusalCode}
@@ -18,7 +18,7 @@ codeOfRefusal WrongHeaderSum = refusal 5
 codeOfRefusal (SectionOutside section) = refusalAt 6 (sectionNumber section)
 codeOfRefusal (WrongSectionSum section) = refusalAt 7 (sectionNumber section)
 codeOfRefusal (BadTreeTable entry) = refusalAt 9 entry
-codeOfRefusal (BadLink node inName) = record { number = 10; place = node; second = inName }
+codeOfRefusal (BadLink node inName) = refusalWith 10 node inName
 codeOfRefusal (EndlessClimb node) = refusalAt 11 node
 codeOfRefusal (RepeatedName node) = refusalAt 12 node
 codeOfRefusal (DataOutside node) = refusalAt 13 node

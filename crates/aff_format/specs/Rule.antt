@@ -3,7 +3,7 @@ use mathlib.Core.Path.{_≡_}
 use mathlib.Core.List.{List, [], _∷_}
 use mathlib.Core.Logic.{_⊎_, _↔_}
 use Prim.Native.Nat.{ℕ, zero, suc, _+_}
-use Rattle.aff_format.specs.Answer.{Answer, accepted, refused, refusalAt}
+use Rattle.aff_format.specs.Answer.{Answer, accepted, refused}
 use Rattle.aff_format.specs.declared.refusal.RefusalCode.{RefusalCode}
 
 -- A rule, and what is reported where it fails.
@@ -25,10 +25,10 @@ abbrev pub Settled : {A : Type 0} → List Rule → A → Answer A → Type 0
 Settled rules v (accepted w) = AllHold rules × (v ≡ w)
 Settled rules v (refused t) = FirstFails rules t
 
--- One rule for each of the `left` numbers from k on, of nodes or strings, in ascending order, reported with its number; then more rules.
-unfoldable pub eachFrom : ℕ → (ℕ → Type 0) → ℕ → ℕ → List Rule → List Rule
-eachFrom number holds zero k more = more
-eachFrom number holds (suc left) k more = rule (holds k) (refusalAt number k) ∷ eachFrom number holds left (k + 1) more
+-- One rule for each of the `left` numbers from k on, of nodes or strings, in ascending order, reported by what a function says of it; then more rules.
+unfoldable pub eachFrom : (ℕ → RefusalCode) → (ℕ → Type 0) → ℕ → ℕ → List Rule → List Rule
+eachFrom report holds zero k more = more
+eachFrom report holds (suc left) k more = rule (holds k) (report k) ∷ eachFrom report holds left (k + 1) more
 
 -- An answer by rules: accepted with v exactly when all of them hold and v is the right value; refused by t exactly when the first that fails reports t.
 pub record By (rules : List Rule) {A : Type 0} (Right : A → Type 0) (answer : Answer A) : Type 0 where

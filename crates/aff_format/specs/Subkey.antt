@@ -1,8 +1,10 @@
 -- The subkey rule of an edition: document 01, 'Layout of a file'.
-use mathlib.Core.Bool.{Bool, true, false, cond, _&&_, _||_}
+use mathlib.Core.Path.{_≡_}
+use mathlib.Core.Bool.{Bool, true, false, cond, not, _&&_, _||_}
 use mathlib.Core.List.{List, [], _∷_}
 use Prim.Native.Nat.{ℕ, _+_}
 use lib.Dec.{eqb, leb}
+use Rattle.aff_format.specs.Answer.{Check, check, refusalAt}
 use Rattle.aff_format.specs.declared.edition.Edition.{Edition}
 use Rattle.aff_format.specs.declared.edition.Edition.the-variants.{One, Two}
 use Rattle.aff_format.specs.declared.subkey.Grammar.{Grammar}
@@ -47,9 +49,27 @@ abbrev pub isSound : Grammar → Bool
 isSound Sound = true
 isSound (BreaksAt place) = false
 
+-- The place of the fault; 0 where there is none.
+abbrev pub breakPlace : Grammar → ℕ
+breakPlace Sound = 0
+breakPlace (BreaksAt place) = place
+
+-- 14, with the place of the fault (request C-18).
+abbrev pub checkGrammar : Grammar → Check
+checkGrammar g = check (not (isSound g)) (refusalAt 14 (breakPlace g))
+
 -- Whether l is a subkey.
 abbrev pub isSubkey : Edition → List ℕ → Bool
 isSubkey e l = isSound (subkeyFrom e 0 l)
+
+-- The same rule, with no trace of how it is checked: a byte that may begin a subkey, and after it only bytes that may follow.
+abbrev pub AllFollow : Edition → List ℕ → Type 0
+AllFollow e [] = Unit {0}
+AllFollow e (x ∷ l) = (mayFollow e x ≡ true) × AllFollow e l
+
+abbrev pub IsSubkey : Edition → List ℕ → Type 0
+IsSubkey e [] = ⊥
+IsSubkey e (x ∷ l) = (mayBegin e x ≡ true) × AllFollow e l
 
 -- What is found in a run that begins at place at, from what is found in it alone.
 abbrev pub shifted : ℕ → Grammar → Grammar

@@ -23,7 +23,7 @@ pub enum Refusal {
     WrongSectionSum(Section),
     // An entry is cut short, of no type or one too many; 0: the count differs.
     BadTreeTable(usize),
-    // A node's parent or string does not exist, or its string is no subkey; the place in the string.
+    // A node's parent or string does not exist, or its string is no subkey; the node, and where its string exists the place at which it breaks, else 0.
     BadLink(usize, usize),
     // A node's climb does not reach the root.
     EndlessClimb(usize),
@@ -31,7 +31,7 @@ pub enum Refusal {
     RepeatedName(usize),
     // A node's data are not inside the data section.
     DataOutside(usize),
-    // A path or subkey is malformed; the place in it.
+    // A path or a name is malformed; the place at which it breaks.
     Malformed(usize),
     // There is no such key or node number.
     Absent,

@@ -1,9 +1,9 @@
 -- Make a child: document 01, 'Writing keys', and 'Order': 24, 22, 15, 14, 17, 20, 21.
-use mathlib.Core.Bool.{Bool, true, false, cond, not, _&&_, _||_}
-use mathlib.Core.List.{List, [], _∷_, _++_, map}
+use mathlib.Core.Bool.{Bool, cond, _&&_, _||_}
+use mathlib.Core.List.{List, [], _∷_, _++_}
 use Prim.Native.Nat.{ℕ, _+_}
 use lib.Dec.{eqb, ltb}
-use lib.ListN.{length, getD}
+use lib.ListN.{length}
 use Rattle.aff_format.specs.Answer.{Answer, Check, check, refusal, firstWrong}
 use Rattle.aff_format.specs.Bytes.{sameBytes, spliced}
 use Rattle.aff_format.specs.Entry.{slotBytes}
@@ -11,7 +11,7 @@ use Rattle.aff_format.specs.Kind.{entrySize}
 use Rattle.aff_format.specs.Limits.{stringLimit, nodeLimit, textArea}
 use Rattle.aff_format.specs.Lowest.{lowestFrom, isAt}
 use Rattle.aff_format.specs.Strings.{isIn, indexIn}
-use Rattle.aff_format.specs.Subkey.{isSubkey}
+use Rattle.aff_format.specs.Subkey.{subkeyFrom, checkGrammar}
 use Rattle.aff_format.specs.declared.entry.Entry.{Entry}
 use Rattle.aff_format.specs.declared.kind.Kind.the-variants.{Void}
 use Rattle.aff_areas.specs.Areas.{namesIn, slotAt, slotEntry, nameOf, finishedSize}
@@ -72,11 +72,11 @@ module _ (writer : Writer) (text tree : List ℕ) where
   abbrev pub namedChecks : ℕ → List ℕ → List Check
   namedChecks parent name = check (childExists parent name) (refusal 17) ∷ sizeChecks name
 
-  -- 15, 14, 17, 20, 21.
+  -- 15; 14, with the place in the name at which it breaks; 17, 20, 21.
   abbrev pub childChecks : ℕ → List ℕ → List Check
   childChecks parent name =
       check (ltb (writer .nodes) parent) (refusal 15)
-      ∷ check (not (isSubkey written name)) (refusal 14)
+      ∷ checkGrammar (subkeyFrom written 0 name)
       ∷ namedChecks parent name
 
   -- The tree area that an accepted make leaves.

@@ -169,7 +169,7 @@ fn make_child(
         return writer::refused(Refusal::Absent, writer);
     }
     match subkey::subkey(Edition::Two, name) {
-        Grammar::BreaksAt(_) => writer::refused(Refusal::Malformed(0), writer),
+        Grammar::BreaksAt(place) => writer::refused(Refusal::Malformed(place), writer),
         Grammar::Sound => make_named(writer, text, tree, parent, name),
     }
 }

@@ -7,7 +7,7 @@ use Prim.Native.Nat.{ℕ, zero, suc, _≤_, _<_}
 use native.Mathlib.Omega.{arith}
 use lib.ListN.{length, getD}
 use borrow.Author.Tests.{eqb-false, ne-eqb}
-use Rattle.aff_format.specs.Answer.{accepted}
+use Rattle.aff_format.specs.Answer.{accepted, refusalAt}
 use Rattle.aff_format.specs.Bytes.{Without, EachWithout, Octets}
 use Rattle.aff_format.specs.Edition.{signatureText, orTwo}
 use Rattle.aff_format.specs.Limits.{stringLimit, nodeLimit}
@@ -20,6 +20,7 @@ use Rattle.aff_format.proofs.BytesLaws.{length-part, octets-part}
 use Rattle.aff_format.proofs.EditionLaws.{header-least}
 use Rattle.aff_format.proofs.StringsLaws.{text-ended, strings-without-zero, strings-with-last-zero, last-zero-optional, each-at}
 use Rattle.aff_format.specs.Rule.{Rule, AllHold, eachFrom}
+use Rattle.aff_tables.specs.Nodes.{contentsOf, badLink}
 use Rattle.aff_open.specs.Rules.{Inside, Summed, Unrepeated, Distinct, Linked, Climbs, NameFree, DataInside}
 use Rattle.aff_open.specs.Faults.{nodeRules, treeRules, rulesFrom27, symbolRules, sectionRules, rules}
 use Rattle.aff_open.specs.Obeys.{Obeys}
@@ -57,28 +58,28 @@ module _ (e : Edition) (image : List ℕ) (strings : List (List ℕ)) (entries :
   NodesHold = Each (Linked e strings entries) n 1 × Each (Climbs entries) n 1 × Each (NameFree strings entries) n 1 × Each (DataInside e image entries) n 1
 
   abbrev from-13 : List Rule
-  from-13 = eachFrom 13 (DataInside e image entries) n 1 []
+  from-13 = eachFrom (refusalAt 13) (DataInside e image entries) n 1 []
 
   abbrev from-12 : List Rule
-  from-12 = eachFrom 12 (NameFree strings entries) n 1 from-13
+  from-12 = eachFrom (refusalAt 12) (NameFree strings entries) n 1 from-13
 
   abbrev from-11 : List Rule
-  from-11 = eachFrom 11 (Climbs entries) n 1 from-12
+  from-11 = eachFrom (refusalAt 11) (Climbs entries) n 1 from-12
 
   nodes-hold : AllHold (nodeRules e image strings entries) → NodesHold
   nodes-hold h =
-      let (linked, more) = each-hold 10 (Linked e strings entries) from-11 n 1 h in
-      let (climbs, rest) = each-hold 11 (Climbs entries) from-12 n 1 more in
-      let (free, last) = each-hold 12 (NameFree strings entries) from-13 n 1 rest in
-      let (inside, _) = each-hold 13 (DataInside e image entries) [] n 1 last in
+      let (linked, more) = each-hold (badLink e (contentsOf strings entries)) (Linked e strings entries) from-11 n 1 h in
+      let (climbs, rest) = each-hold (refusalAt 11) (Climbs entries) from-12 n 1 more in
+      let (free, last) = each-hold (refusalAt 12) (NameFree strings entries) from-13 n 1 rest in
+      let (inside, _) = each-hold (refusalAt 13) (DataInside e image entries) [] n 1 last in
       (linked, climbs, free, inside)
 
   hold-nodes : NodesHold → AllHold (nodeRules e image strings entries)
   hold-nodes (linked, climbs, free, inside) =
-      hold-each 10 (Linked e strings entries) from-11 n 1 linked
-      (hold-each 11 (Climbs entries) from-12 n 1 climbs
-      (hold-each 12 (NameFree strings entries) from-13 n 1 free
-      (hold-each 13 (DataInside e image entries) [] n 1 inside tt)))
+      hold-each (badLink e (contentsOf strings entries)) (Linked e strings entries) from-11 n 1 linked
+      (hold-each (refusalAt 11) (Climbs entries) from-12 n 1 climbs
+      (hold-each (refusalAt 12) (NameFree strings entries) from-13 n 1 free
+      (hold-each (refusalAt 13) (DataInside e image entries) [] n 1 inside tt)))
 
   -- Each string differs from those before it; then the tree table and the nodes.
   strings-hold : AllHold (rulesFrom27 e image strings entries) → Distinct strings × AllHold (treeRules e image entries ++ nodeRules e image strings entries)

@@ -14,6 +14,7 @@ use Rattle.aff_format.specs.Rule.{Rule, rule, eachFrom}
 use Rattle.aff_format.specs.declared.section.Section.the-variants.{Symbol, Tree, Data}
 use Rattle.aff_format.specs.declared.edition.Edition.{Edition}
 use Rattle.aff_format.specs.declared.entry.Entry.{Entry}
+use Rattle.aff_tables.specs.Nodes.{contentsOf, badLink}
 use Rattle.aff_open.specs.Rules.{Inside, Summed, Counted, Unrepeated, Linked, Climbs, NameFree, DataInside}
 use Rattle.aff_open.specs.Sections.{editionIn, stringsIn, nodesIn, bytesAfterNodes}
 
@@ -59,13 +60,16 @@ treeRules e image entries =
     ∷ rule (Counted e Tree image (length entries)) (refusal 9)
     ∷ []
 
--- 10 to 13, each over all nodes before the next.
+-- 10 to 13, each over all nodes before the next. 10 reports besides the node where its name breaks (request C-18).
+abbrev pub rulesFrom11 : Edition → List ℕ → List (List ℕ) → List Entry → List Rule
+rulesFrom11 e image strings entries =
+    eachFrom (refusalAt 11) (Climbs entries) (length entries) 1
+    (eachFrom (refusalAt 12) (NameFree strings entries) (length entries) 1
+    (eachFrom (refusalAt 13) (DataInside e image entries) (length entries) 1 []))
+
 abbrev pub nodeRules : Edition → List ℕ → List (List ℕ) → List Entry → List Rule
 nodeRules e image strings entries =
-    eachFrom 10 (Linked e strings entries) (length entries) 1
-    (eachFrom 11 (Climbs entries) (length entries) 1
-    (eachFrom 12 (NameFree strings entries) (length entries) 1
-    (eachFrom 13 (DataInside e image entries) (length entries) 1 [])))
+    eachFrom (badLink e (contentsOf strings entries)) (Linked e strings entries) (length entries) 1 (rulesFrom11 e image strings entries)
 
 -- All that is asked before equal strings; then 27, string by string, and all that is asked after it.
 abbrev pub rulesBefore27 : List ℕ → List ℕ → ℕ → ℕ → List Rule
@@ -76,7 +80,14 @@ rulesBefore27 image form strings entries =
 
 abbrev pub rulesFrom27 : Edition → List ℕ → List (List ℕ) → List Entry → List Rule
 rulesFrom27 e image strings entries =
-    eachFrom 27 (Unrepeated strings) (length strings) 0 (treeRules e image entries ++ nodeRules e image strings entries)
+    eachFrom (refusalAt 27) (Unrepeated strings) (length strings) 0 (treeRules e image entries ++ nodeRules e image strings entries)
+
+-- All that is asked before the nodes.
+abbrev pub rulesBefore10 : List ℕ → List ℕ → ℕ → ℕ → List Rule
+rulesBefore10 image form strings entries =
+    rulesBefore27 image form strings entries
+    ++ eachFrom (refusalAt 27) (Unrepeated (stringsIn (editionIn image) image)) (length (stringsIn (editionIn image) image)) 0
+    (treeRules (editionIn image) image (nodesIn (editionIn image) image))
 
 -- Order: 1, then 2, text 3, edition 2's length 2, then 4 to 7, 25 to 27, 9 to 13.
 unfoldable pub rules : List ℕ → List ℕ → ℕ → ℕ → List Rule

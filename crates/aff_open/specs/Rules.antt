@@ -6,9 +6,10 @@ use mathlib.Core.List.{List, []}
 use Prim.Native.Nat.{ℕ, _+_, _*_, _≤_, _<_}
 use lib.ListN.{length, getD}
 use Rattle.md5.specs.Md5.{md5}
+use Rattle.aff_format.specs.Breaks.{Breaks}
 use Rattle.aff_format.specs.Edition.{hasCounts}
 use Rattle.aff_format.specs.Kind.{elementSize, isVoid}
-use Rattle.aff_format.specs.Subkey.{isSubkey}
+use Rattle.aff_format.specs.Subkey.{isSubkey, IsSubkey}
 use Rattle.aff_format.specs.Tree.{reachesBy}
 use Rattle.aff_format.specs.declared.section.Section.{Section}
 use Rattle.aff_format.specs.declared.section.Section.the-variants.{Data}
@@ -47,6 +48,23 @@ Linked e strings entries k =
     (nodeEntry entries k .parent ≤ length entries)
     × (nodeEntry entries k .string < length strings)
     × (isSubkey e (getD strings (nodeEntry entries k .string) []) ≡ true)
+
+-- The second number of 10, of node k (request C-18): the place at which its name breaks the rule for a subkey, wherever its string exists and is none,
+-- whether its parent exists or not; else 0.
+pub data NameBreak (e : Edition) (strings : List (List ℕ)) (entries : List Entry) (k second : ℕ) : Type 0 where
+  no-string : length strings ≤ nodeEntry entries k .string → second ≡ 0 → NameBreak e strings entries k second
+  sound-name : nodeEntry entries k .string < length strings → IsSubkey e (getD strings (nodeEntry entries k .string) []) → second ≡ 0
+      → NameBreak e strings entries k second
+  breaks : nodeEntry entries k .string < length strings → Breaks (IsSubkey e) (getD strings (nodeEntry entries k .string) []) second
+      → NameBreak e strings entries k second
+
+-- What 10 reports: node k breaks its rule, no lower node does, and the second number.
+pub record FirstBadLink (e : Edition) (strings : List (List ℕ)) (entries : List Entry) (k second : ℕ) : Type 0 where
+  pub no-root : 0 < k
+  pub exists : k ≤ length entries
+  pub bad : Linked e strings entries k → ⊥
+  pub lowest : (j : ℕ) → 0 < j → j < k → Linked e strings entries j
+  pub in-name : NameBreak e strings entries k second
 
 -- 11: its climb reaches the root.
 abbrev pub Climbs : List Entry → ℕ → Type 0

@@ -1,52 +1,59 @@
 -- What a lookup answers: the lowest node with the path, or 15 where no node has it. Each says what the other says. Assumes nothing.
 use mathlib.Core.Path.{_≡_, refl, sym, ap, _∙_}
-use mathlib.Core.Bool.{Bool, true, false}
-use mathlib.Core.List.{List}
+use mathlib.Core.Bool.{Bool, true, false, not}
+use mathlib.Core.List.{List, [], _∷_}
 use mathlib.Core.Logic.{_↔_}
 use Prim.Native.Nat.{ℕ, _+_, _≤_}
 use native.Mathlib.Nat.{le-antisymm}
 use native.Mathlib.Omega.{arith}
 use lib.Dec.{ltb}
 use borrow.Author.Tests.{ltb-true, ltb-false}
-use Rattle.aff_format.specs.Answer.{accepted, refused, refusal}
+use Rattle.aff_format.specs.Answer.{Answer, accepted, refused, check, refusal, refusalAt}
 use Rattle.aff_format.specs.Bytes.{sameBytes}
-use Rattle.aff_format.specs.Path.{isPath}
-use Rattle.aff_format.specs.declared.edition.Edition.{Edition}
+use Rattle.aff_format.specs.Lowest.{isAt}
+use Rattle.aff_format.specs.Path.{pathGrammar, isPath}
 use Rattle.aff_format.specs.declared.lowest.Lowest.{Lowest}
 use Rattle.aff_format.specs.declared.lowest.Lowest.the-variants.{Nothing, At}
+use Rattle.aff_format.specs.declared.subkey.Grammar.the-variants.{Sound, BreaksAt}
 use Rattle.aff_format.proofs.AnswerLaws.{not-both}
 use Rattle.aff_format.proofs.LowestLaws.{lowest-is, none-holds}
 use Rattle.aff_format.proofs.SameLaws.{same-eq, same-ne}
+use Rattle.aff_format.proofs.SubkeyLaws.{sound-is, reports-14}
 use Rattle.aff_reader.specs.Belongs.{ReaderBelongs, readerBelongs}
 use Rattle.aff_reader.specs.declared.reader.Reader.{Reader}
 use Rattle.aff_reader.proofs.BelongsLaws.{record-belongs}
-use Rattle.aff_read.specs.Paths.{found, editionBy, lookupAnswer}
+use Rattle.aff_read.specs.Paths.{lowestOr0, found, editionBy, lookupAnswer, lookupOfAnswer}
 use Rattle.aff_read.specs.Lookup.{LowestWith, NoneWith}
 use Rattle.aff_nodes.specs.Recall.{pathAt}
 
 module _ (image : List ℕ) (reader : Reader) (strings entries path : List ℕ) where
-  -- Each check in its turn.
-  pub lookup-wrong : readerBelongs image reader strings entries ≡ false → refused (refusal 24) ≡ lookupAnswer image reader strings entries path
+  abbrev answer : Answer ℕ
+  answer = lookupAnswer image reader strings entries path
+
+  abbrev answerOf : Answer ℕ
+  answerOf = lookupOfAnswer image reader strings entries path
+
+  -- Each check in its turn: 24, and then those of a record that belongs.
+  pub lookup-wrong : readerBelongs image reader strings entries ≡ false → refused (refusal 24) ≡ answer
   unfolding lookupAnswer
   lookup-wrong h = rw h
 
-  module _ (b : readerBelongs image reader strings entries ≡ true) where
-    pub lookup-malformed : isPath (editionBy reader) path ≡ false → refused (refusal 14) ≡ lookupAnswer image reader strings entries path
-    unfolding lookupAnswer
-    lookup-malformed h = rw (b, h)
+  pub lookup-belongs : readerBelongs image reader strings entries ≡ true → answerOf ≡ answer
+  unfolding lookupAnswer lookupOfAnswer
+  lookup-belongs h = rw h
 
-    module _ (p : isPath (editionBy reader) path ≡ true) where
-      pub lookup-none : found image reader strings entries path ≡ Nothing → refused (refusal 15) ≡ lookupAnswer image reader strings entries path
-      unfolding lookupAnswer
-      lookup-none h = rw (b, p, h)
+  pub lookup-breaks : (p : ℕ) → pathGrammar (editionBy reader) path ≡ BreaksAt p → refused (refusalAt 14 p) ≡ answerOf
+  unfolding lookupOfAnswer
+  lookup-breaks p h = rw h
 
-      pub lookup-at : (n : ℕ) → found image reader strings entries path ≡ At n → accepted n ≡ lookupAnswer image reader strings entries path
-      unfolding lookupAnswer
-      lookup-at n h = rw (b, p, h)
+  module _ (sound : pathGrammar (editionBy reader) path ≡ Sound) where
+    pub lookup-none : found image reader strings entries path ≡ Nothing → refused (refusal 15) ≡ answerOf
+    unfolding lookupOfAnswer
+    lookup-none h = rw (sound, h)
 
--- The grammar by an edition that was computed.
-pub grammar-by : (path : List ℕ) {e d : Edition} {sound : Bool} → sound ≡ isPath e path → e ≡ d → sound ≡ isPath d path
-grammar-by path {d = d} g e = rw e at g
+    pub lookup-at : (n : ℕ) → found image reader strings entries path ≡ At n → accepted n ≡ answerOf
+    unfolding lookupOfAnswer
+    lookup-at n h = rw (sound, h)
 
 -- There is one lowest at most.
 lowest-least : {image : List ℕ} {reader : Reader} {strings entries path : List ℕ} {m n : ℕ}
@@ -81,12 +88,18 @@ module _ (image : List ℕ) (reader : Reader) (strings entries path : List ℕ) 
       at : (n : ℕ) → accepted n ≡ lookupAnswer image reader strings entries path → LowestWith image reader strings entries path n → Looked
       none : refused (refusal 15) ≡ lookupAnswer image reader strings entries path → NoneWith image reader strings entries path → Looked
 
+    belonging : lookupOfAnswer image reader strings entries path ≡ lookupAnswer image reader strings entries path
+    belonging = lookup-belongs image reader strings entries path (record-belongs b)
+
+    sound : pathGrammar (editionBy reader) path ≡ Sound
+    sound = sound-is (pathGrammar (editionBy reader) path) p
+
     looked : Looked
     looked = go (found image reader strings entries path) refl
       where
         go : (l : Lowest) → found image reader strings entries path ≡ l → Looked
-        go (At n) h = at n (lookup-at image reader strings entries path (record-belongs b) p n h) (found-lowest n h)
-        go Nothing h = none (lookup-none image reader strings entries path (record-belongs b) p h) (found-none h)
+        go (At n) h = at n (lookup-at image reader strings entries path sound n h ∙ belonging) (found-lowest n h)
+        go Nothing h = none (lookup-none image reader strings entries path sound h ∙ belonging) (found-none h)
 
     -- Accepted is n exactly where n is the lowest node with the path.
     pub lookup-accepts : (n : ℕ) → (lookupAnswer image reader strings entries path ≡ accepted n) ↔ LowestWith image reader strings entries path n
@@ -103,3 +116,12 @@ module _ (image : List ℕ) (reader : Reader) (strings entries path : List ℕ) 
         go : Looked → (lookupAnswer image reader strings entries path ≡ refused (refusal 15)) ↔ NoneWith image reader strings entries path
         go (at m f w) = (λ e. not-both (sym (f ∙ e)), λ v. absurd (v m (w .exists) (w .has)))
         go (none f w) = (λ _. w, λ _. sym f)
+
+  -- 14 with place p exactly where the path breaks at p.
+  pub lookup-malformed : ReaderBelongs image reader strings entries → (p : ℕ)
+      → (lookupAnswer image reader strings entries path ≡ refused (refusalAt 14 p)) ↔ (pathGrammar (editionBy reader) path ≡ BreaksAt p)
+  unfolding lookupOfAnswer
+  lookup-malformed b p =
+      let q = lookup-belongs image reader strings entries path (record-belongs b) in
+      let r = reports-14 (pathGrammar (editionBy reader) path) (check (not (isAt (found image reader strings entries path))) (refusal 15) ∷ []) (lowestOr0 (found image reader strings entries path)) p refl in
+      (λ h. r .0 (q ∙ h), λ h. sym q ∙ r .1 h)

@@ -4,11 +4,12 @@ use mathlib.Core.List.{List, [], _∷_, _++_}
 use Prim.Native.Nat.{ℕ, _+_}
 use lib.Dec.{ltb}
 use lib.ListN.{length, drop, take}
-use Rattle.aff_format.specs.Answer.{Answer, accepted, refused, check, refusal, firstWrong}
+use Rattle.aff_format.specs.Answer.{Answer, accepted, refused, Check, check, refusal, firstWrong}
 use Rattle.aff_format.specs.Bytes.{sameBytes}
 use Rattle.aff_format.specs.Edition.{editionOf, orTwo}
 use Rattle.aff_format.specs.Lowest.{lowestFrom, isAt}
-use Rattle.aff_format.specs.Path.{isPath}
+use Rattle.aff_format.specs.Path.{pathGrammar}
+use Rattle.aff_format.specs.Subkey.{checkGrammar}
 use Rattle.aff_format.specs.declared.edition.Edition.{Edition}
 use Rattle.aff_format.specs.declared.lowest.Lowest.{Lowest}
 use Rattle.aff_format.specs.declared.lowest.Lowest.the-variants.{Nothing, At}
@@ -44,15 +45,18 @@ module _ (image : List ℕ) (reader : Reader) (strings entries : List ℕ) where
   unfoldable pub found : List ℕ → Lowest
   found path = lowestFrom (λ k. sameBytes (pathAt image reader strings entries k) path) (reader .nodes + 1) 0
 
+  -- 14, with the place in the path at which it breaks; 15.
+  abbrev pub lookupChecks : List ℕ → List Check
+  lookupChecks path = checkGrammar (pathGrammar (editionBy reader) path) ∷ check (not (isAt (found path))) (refusal 15) ∷ []
+
   -- Lookup: 24, 14, 15.
   unfoldable pub lookupAnswer : List ℕ → Answer ℕ
   lookupAnswer path =
-      firstWrong
-      (check (not (readerBelongs image reader strings entries)) (refusal 24)
-      ∷ check (not (isPath (editionBy reader) path)) (refusal 14)
-      ∷ check (not (isAt (found path))) (refusal 15)
-      ∷ [])
-      (lowestOr0 (found path))
+      firstWrong (check (not (readerBelongs image reader strings entries)) (refusal 24) ∷ lookupChecks path) (lowestOr0 (found path))
+
+  -- Of a record that belongs: 14, 15.
+  unfoldable pub lookupOfAnswer : List ℕ → Answer ℕ
+  lookupOfAnswer path = firstWrong (lookupChecks path) (lowestOr0 (found path))
 
 -- What a call leaves in an output: a refusal leaves it as it was; an accepted call returns how many bytes or numbers it wrote. These are the text, and the
 -- rest is unchanged.

@@ -17,12 +17,11 @@ ghost use Prim.Native.Nat.{_+_, _-_, _^_, _≤_, _<_};
 ghost use lib.ListN.{length, getD, drop};
 ghost use Rattle.aff_format.specs.Bytes.{sameBytes};
 ghost use Rattle.aff_format.specs.Edition.{editionOf, orTwo};
-ghost use Rattle.aff_format.specs.Path.{isPath};
 ghost use Rattle.aff_format.specs.Limits.{nodeLimit};
 ghost use Rattle.aff_reader.specs.Belongs.{ReaderBelongs};
 ghost use Rattle.aff_format.specs.Recorded.{recordedEntry, nameFrom};
 ghost use Rattle.aff_format.specs.Verdict.{answerOfNumber};
-ghost use Rattle.aff_read.specs.Paths.{pathAnswer, frontWritten, found, lookupAnswer};
+ghost use Rattle.aff_read.specs.Paths.{pathAnswer, frontWritten, found, lookupAnswer, lookupOfAnswer};
 ghost use Rattle.aff_read.specs.passes.Capped.{capped};
 ghost use Rattle.aff_read.specs.passes.Climb.{tableParent, tableName, tableFront, TableInside, NotedMore, ClimbNoted};
 ghost use Rattle.aff_read.specs.passes.Fit.{fitFrom, fitAt, FitsSettled, Climbable, Chain};
@@ -491,16 +490,30 @@ fn edition_of(number: u32) -> Edition
     }
 }
 
-fn is_path(edition: Edition, path: &[u8]) -> bool
-    ensures { λ r. ⌜ r ≡ isPath edition (now (path .entry)) ⌝ }
+// The lowest node whose path is the given one, for a record that belongs: 14, with the place at which the path breaks, 15.
+pub fn lookup_of(
+    image: &[u8],
+    reader: Reader,
+    strings: &[u32],
+    entries: &[u32],
+    path: &[u8],
+) -> NumberAnswer
+    requires { ⌜ ReaderBelongs (now image) reader (now strings) (now entries) ⌝ }
+    ensures { λ r. ⌜ answerOfNumber r ≡ lookupOfAnswer (now (image .entry)) reader (now (strings .entry)) (now (entries .entry)) (now (path .entry)) ⌝ }
 {
-    match aff_format::path::grammar(edition, path) {
-        Grammar::Sound => true,
-        Grammar::BreaksAt(_) => false,
+    match aff_format::path::grammar(edition_of(reader.edition), path) {
+        Grammar::BreaksAt(place) => {
+            return NumberAnswer::Refused(Refusal::Malformed(place));
+        }
+        Grammar::Sound => {}
+    }
+    match lowest_match(image, reader, strings, entries, path) {
+        Lowest::At(node) => NumberAnswer::Value(node),
+        Lowest::Nothing => NumberAnswer::Refused(Refusal::Absent),
     }
 }
 
-// The lowest node whose written path is the given one: 24, 14, 15.
+// The lowest node whose path is the given one: 24, 14, 15.
 pub fn lookup(
     image: &[u8],
     reader: Reader,
@@ -513,11 +526,5 @@ pub fn lookup(
     if !belongs::belongs(image, reader, strings, entries) {
         return NumberAnswer::Refused(Refusal::WrongRecord);
     }
-    if !is_path(edition_of(reader.edition), path) {
-        return NumberAnswer::Refused(Refusal::Malformed(0));
-    }
-    match lowest_match(image, reader, strings, entries, path) {
-        Lowest::At(node) => NumberAnswer::Value(node),
-        Lowest::Nothing => NumberAnswer::Refused(Refusal::Absent),
-    }
+    lookup_of(image, reader, strings, entries, path)
 }

@@ -11,7 +11,7 @@ use Rattle.aff_format.specs.Kind.{kindOf, isVoid}
 use Rattle.aff_format.specs.Limits.{stringLimit, nodeLimit, textArea}
 use Rattle.aff_format.specs.Lowest.{lowestFrom, isAt}
 use Rattle.aff_format.specs.Strings.{textOf}
-use Rattle.aff_format.specs.Subkey.{isSubkey}
+use Rattle.aff_format.specs.Subkey.{subkeyFrom, checkGrammar}
 use Rattle.aff_format.specs.Tree.{Tree, treeNode}
 use Rattle.aff_areas.specs.Writer.{written, dataPlace}
 use Rattle.aff_write.specs.Put.{wrongData, dataKind}
@@ -34,7 +34,7 @@ module _ (size : ℕ) (tree : Tree) where
   abbrev pub callChecks : Call → List Check
   callChecks (make parent name) =
       check (ltb (length tree) parent) (refusal 15)
-      ∷ check (not (isSubkey written name)) (refusal 14)
+      ∷ checkGrammar (subkeyFrom written 0 name)
       ∷ check (hasChild tree parent name) (refusal 17)
       ∷ check (tooLarge (withChild tree parent name)) (refusal 20)
       ∷ check (ltb size (sizeOf (withChild tree parent name))) (refusal 21)

@@ -1,7 +1,7 @@
 -- Parents, string numbers and names of the nodes: what the pass over them keeps, and the tests 27 and 10 to 13 by what they go by. Tests that
 -- agree node by node have the same lowest node. Assumes nothing.
 use mathlib.Core.Path.{_≡_, refl, sym, ap, _∙_}
-use mathlib.Core.Bool.{Bool, true, false, not, _&&_, _||_}
+use mathlib.Core.Bool.{Bool, true, false, cond, not, _&&_, _||_}
 use mathlib.Core.List.{List, []}
 use mathlib.Core.Logic.{⊎-elim, _↔_}
 use Prim.Native.Nat.{ℕ, _+_, _-_, _≤_, _<_}
@@ -11,26 +11,27 @@ use lib.Dec.{eqb, ltb, leb}
 use lib.ListN.{length, getD, set, take}
 use lib.Seq.{getD-set-same, getD-set-other, getD-take, length-take-le}
 use borrow.Author.Count.{below-more}
-use borrow.Author.Tests.{eqb-true, eqb-false, ltb-true, ltb-false, leb-false, le-ltb, lt-leb, not-false}
+use borrow.Author.Tests.{eqb-true, eqb-false, ltb-true, ltb-false, leb-false, le-ltb, le-leb, lt-leb, not-false}
 use Rattle.aff_format.specs.Bytes.{part, sameBytes}
 use Rattle.aff_format.specs.Lowest.{lowestFrom, isAt}
 use Rattle.aff_format.specs.Strings.{isIn, indexIn}
-use Rattle.aff_format.specs.Subkey.{subkeyFrom, isSound, isSubkey}
+use Rattle.aff_format.specs.Subkey.{subkeyFrom, isSound, breakPlace, isSubkey, shifted}
 use Rattle.aff_format.specs.declared.edition.Edition.{Edition}
 use Rattle.aff_format.specs.declared.entry.Entry.{Entry}
 use Rattle.aff_format.specs.declared.lowest.Lowest.{Lowest}
 use Rattle.aff_format.specs.declared.lowest.Lowest.the-variants.{Nothing}
 use Rattle.aff_format.specs.declared.subkey.Grammar.{Grammar}
+use Rattle.aff_format.specs.declared.subkey.Grammar.the-variants.{Sound, BreaksAt}
 use Rattle.aff_format.proofs.LowestLaws.{lowest-same, none-holds, holds-none}
 use Rattle.aff_format.proofs.SameLaws.{same-refl, ne-same}
 use Rattle.aff_format.proofs.StringsLaws.{isIn-none, none-isIn, isIn-indexIn, indexIn-found}
-use Rattle.aff_format.proofs.SubkeyLaws.{sound-shift}
+use Rattle.aff_format.proofs.SubkeyLaws.{subkey-shift, sound-shift}
 use Rattle.aff_format.proofs.TestLaws.{or-false}
 use Rattle.aff_tables.specs.passes.Distinct.{siblingTaken}
 use Rattle.aff_format.specs.Entry.{noParent, outside}
-use Rattle.aff_tables.specs.Nodes.{Contents, linkWrong, climbEndless, nameTaken, dataOutside}
+use Rattle.aff_tables.specs.Nodes.{Contents, linkWrong, nameBreak, climbEndless, nameTaken, dataOutside}
 use Rattle.aff_tables.specs.passes.Results.{bit, Judged, linkBad, Copied, AllDistinct}
-use Rattle.aff_format.specs.Recorded.{nameFrom}
+use Rattle.aff_format.specs.Recorded.{nameFrom, recordedString}
 use Rattle.aff_tables.specs.Tables.{repeats}
 use Rattle.aff_tables.proofs.ParentLaws.{reaches-same}
 use Rattle.aff_format.proofs.RecordedLaws.{name-part}
@@ -40,6 +41,39 @@ pub judged-name : (e : Edition) (image : List ℕ) (from end to : ℕ) (found g 
     → to ≡ from + length (nameFrom image end from) → found ≡ subkeyFrom e from (part from (to - from) image) → found ≡ g
     → bit (isSound g) ≡ bit (isSubkey e (nameFrom image end from))
 judged-name e image from end to found g h t r q = rw (← q, r, name-part image end from to (h .0) (h .1) t, sound-shift e from (nameFrom image end from))
+
+-- The place at which a string breaks, by the place in the image that the code has.
+module _ (e : Edition) (image : List ℕ) (end : ℕ) (places : List ℕ) (strings : ℕ) (entry : Entry) where
+  pub break-none : strings ≤ entry .string → 0 ≡ nameBreak e strings (recordedString image end places) entry
+  unfolding nameBreak
+  break-none h = rw (le-leb strings (entry .string) h)
+
+  module _ (exists : entry .string < strings) (from to : ℕ) (g : Grammar) (within : (from ≤ end) × (end ≤ length image))
+      (begins : from ≡ getD places (entry .string) 0) (ends : to ≡ from + length (nameFrom image end from))
+      (finds : g ≡ subkeyFrom e from (part from (to - from) image)) where
+    abbrev alone : Grammar
+    alone = subkeyFrom e 0 (recordedString image end places (entry .string))
+
+    finds-shifted : g ≡ shifted from alone
+    finds-shifted = finds ∙ rw (name-part image end from to (within .0) (within .1) ends, subkey-shift e from, begins)
+
+    break-found : breakPlace g - from ≡ nameBreak e strings (recordedString image end places) entry
+    unfolding nameBreak
+    break-found = rw (finds-shifted, lt-leb strings (entry .string) exists) (go alone)
+      where
+        go : (r : Grammar) → breakPlace (shifted from r) - from ≡ breakPlace r
+        go Sound = omega arith
+        go (BreaksAt p) = omega arith
+
+    pub break-sound : g ≡ Sound → 0 ≡ nameBreak e strings (recordedString image end places) entry
+    break-sound q = let n = ap breakPlace q in omega (arith, break-found)
+
+    pub break-at : (p : ℕ) → g ≡ BreaksAt p → (from ≤ p) × (p - from ≡ nameBreak e strings (recordedString image end places) entry)
+    break-at p q = (go alone (sym finds-shifted ∙ q), let n = ap breakPlace q in omega (arith, break-found))
+      where
+        go : (r : Grammar) → shifted from r ≡ BreaksAt p → from ≤ p
+        go Sound h = absurd (let z : _≡_ {A = ℕ} 0 1 = cc in omega arith)
+        go (BreaksAt o) h = let n : from + o ≡ p = ap breakPlace h in omega arith
 
 pub judged-more : (e : Edition) (image : List ℕ) (end : ℕ) (places : List ℕ) (i : ℕ) (sound : List ℕ) (p v : ℕ) → i < length sound
     → Judged e image end places i sound → p ≡ getD places i 0 → v ≡ bit (isSubkey e (nameFrom image end p))
@@ -168,6 +202,15 @@ module _ {c d : Contents} (alike : Alike c d) where
       ∙ rw (alike .nodes)
     where
       go : (s : ℕ) (b : Bool) → leb (c .strings) s ≡ b → (b || not (isSubkey e (c .string s))) ≡ (b || not (isSubkey e (d .string s)))
+      go s true h = refl
+      go s false h = rw (alike .string s (leb-false (c .strings) s h))
+
+  pub break-same : (e : Edition) (k : ℕ) → 0 < k → k ≤ c .nodes → nameBreak e (c .strings) (c .string) (c .entry k) ≡ nameBreak e (d .strings) (d .string) (d .entry k)
+  unfolding nameBreak
+  break-same e k lo hi = rw (alike .entry k lo hi, ← alike .strings) (go (d .entry k .string) (leb (c .strings) (d .entry k .string)) refl)
+    where
+      go : (s : ℕ) (b : Bool) → leb (c .strings) s ≡ b
+          → cond b 0 (breakPlace (subkeyFrom e 0 (c .string s))) ≡ cond b 0 (breakPlace (subkeyFrom e 0 (d .string s)))
       go s true h = refl
       go s false h = rw (alike .string s (leb-false (c .strings) s h))
 

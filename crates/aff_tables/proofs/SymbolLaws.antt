@@ -7,7 +7,7 @@ use native.Mathlib.Omega.{arith}
 use lib.Dec.{leb, ltb}
 use lib.ListN.{length, getD, take}
 use borrow.Author.Tests.{leb-true, leb-false, lt-ltb, le-ltb, ltb-false}
-use Rattle.aff_format.specs.Answer.{accepted, firstWrong, Clear}
+use Rattle.aff_format.specs.Answer.{accepted, refusalAt, firstWrong, Clear}
 use Rattle.aff_format.specs.Bytes.{part, laidOver}
 use Rattle.aff_format.specs.Limits.{stringLimit}
 use Rattle.aff_format.specs.Lowest.{lowestFrom}
@@ -109,7 +109,7 @@ symbols-reported e records section = go _ refl _ refl _ refl
 -- The numbers of the checks, in order.
 pub symbol-numbers : (e : Edition) (records : ℕ) (section : List ℕ) → numbersReported (symbolChecks e records section) ≡ 25 ∷ 26 ∷ 27 ∷ []
 symbol-numbers e records section =
-    ap (λ (ns : List ℕ). 25 ∷ 26 ∷ ns) (numbers-lowest 27 (lowestFrom (repeats (stringsOf section)) (length (stringsOf section)) 0) [])
+    ap (λ (ns : List ℕ). 25 ∷ 26 ∷ ns) (numbers-lowest 27 (refusalAt 27) (λ _. refl) (lowestFrom (repeats (stringsOf section)) (length (stringsOf section)) 0) [])
 
 -- What holds of a table with which nothing is wrong.
 pub symbols-clear : (e : Edition) (records : ℕ) (section : List ℕ) → Clear (symbolChecks e records section)

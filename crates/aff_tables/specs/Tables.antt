@@ -70,7 +70,7 @@ abbrev pub symbolChecks : Edition → ℕ → List ℕ → List Check
 symbolChecks e records section =
     check (ltb stringLimit (length (stringsOf section))) (refusalAt 25 stringLimit)
     ∷ check (countDiffers e records (length (stringsOf section))) (refusal 26)
-    ∷ checkLowest 27 (lowestFrom (repeats (stringsOf section)) (length (stringsOf section)) 0)
+    ∷ checkLowest (refusalAt 27) (lowestFrom (repeats (stringsOf section)) (length (stringsOf section)) 0)
     ∷ []
 
 abbrev pub isEmpty : List ℕ → Bool

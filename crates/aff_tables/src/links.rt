@@ -12,9 +12,9 @@ ghost use Rattle.aff_format.specs.Lowest.{lowestFrom};
 ghost use Rattle.aff_format.specs.Subkey.{isSubkey};
 ghost use Rattle.aff_format.specs.declared.lowest.Lowest.the-variants.{Nothing};
 ghost use Rattle.aff_tables.specs.passes.Distinct.{Places};
-ghost use Rattle.aff_tables.specs.Nodes.{linkWrong, recordedContents};
+ghost use Rattle.aff_tables.specs.Nodes.{linkWrong, nameBreak, recordedContents};
 ghost use Rattle.aff_tables.specs.passes.Results.{bit, Judged, linkBad, Copied};
-ghost use Rattle.aff_format.specs.Recorded.{recordedEntry, nameFrom};
+ghost use Rattle.aff_format.specs.Recorded.{recordedEntry, recordedString, nameFrom};
 
 // 1 where the string that begins at a place is a subkey, else 0.
 fn judged(image: &[u8], edition: Edition, from: usize, end: usize) -> u8
@@ -108,4 +108,31 @@ pub fn linked(
     let mut sound = [0u8; 2048];
     judge(image, edition, end, places, strings, &mut sound);
     links(image, entries, nodes, strings, &sound, parents, names)
+}
+
+// The place in a node's name at which it breaks the rule for a subkey; 0 where its string does not exist or is one. Reads the entry, and its string where
+// there is one.
+pub fn name_break(
+    image: &[u8],
+    edition: Edition,
+    end: usize,
+    places: &[u32],
+    strings: usize,
+    entries: &[u32],
+    node: usize,
+) -> usize
+    requires { ⌜ Places (now image) end (now places) strings ⌝ }
+    ensures { λ r. ⌜ r ≡ nameBreak edition strings (recordedString (now (image .entry)) end (now (places .entry))) (recordedEntry (now (image .entry)) (now (entries .entry)) node) ⌝ }
+{
+    let entry = recorded::recorded_entry(image, entries, node);
+    let string = entry.string as usize;
+    if strings <= string {
+        return 0;
+    }
+    let from = recorded::place(places, string);
+    let to = recorded::name_end(image, from, end);
+    match subkey::subkey_within(edition, image, from, to) {
+        Grammar::Sound => 0,
+        Grammar::BreaksAt(place) => place - from,
+    }
 }

@@ -77,7 +77,10 @@ pub fn node_checks(
         &mut parents,
         &mut names,
     ) {
-        Lowest::At(k) => Verdict::Refused(Refusal::BadLink(k, 0)),
+        Lowest::At(k) => {
+            let place = links::name_break(image, edition, end, places, strings, entries, k);
+            Verdict::Refused(Refusal::BadLink(k, place))
+        }
         Lowest::Nothing => copied_checks(image, entries, nodes, from, size, &parents, &names),
     }
 }

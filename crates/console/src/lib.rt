@@ -32,6 +32,13 @@ pub fn refusal(refusal: Refusal) {
     decimal(refusal.place() as u64);
 }
 
+// `refused N P S`, with the second number, that only 10 has.
+pub fn refusal_in_full(why: Refusal) {
+    refusal(why);
+    text(b" ");
+    decimal(why.second_place() as u64);
+}
+
 // A double by its bits in hexadecimal. The bits of a NaN are not those of the file.
 pub fn real(x: f64) {
     if x == x {

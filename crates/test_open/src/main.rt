@@ -1,5 +1,5 @@
 // Opens each image of standard input, each after its length in 4 bytes, and prints what opening answers: the record's edition, strings,
-// nodes and data record count, or the refusal's number and place; then the sums of the two areas. tests/make_images.py makes images and
+// nodes and data record count, or the refusal's number, place and second number; then the sums of the two areas. tests/make_images.py makes images and
 // answers; it shares no code with the library. Last, areas and forms of wrong lengths are passed: nothing changes.
 use aff_format::Verdict;
 use aff_open::Opening;
@@ -35,7 +35,7 @@ fn show(opening: Opening) {
             console::decimal(reader.records);
         }
         Verdict::Refused(refusal) => {
-            console::refusal(refusal);
+            console::refusal_in_full(refusal);
         }
     }
 }

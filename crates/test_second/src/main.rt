@@ -1,5 +1,5 @@
-// Prints of each image of standard input what the second reader says of it as well: the refusal, or each node in listing order, its line and its
-// first elements, bit for bit. tests/second_reader makes images and answers; it shares no code with the library.
+// Prints of each image of standard input what the second reader says of it as well: the refusal with its place and its second number, or each node in
+// listing order, its line, its first elements, bit for bit, and where a malformed path breaks. tests/second_reader makes images and answers; it shares no code with the library.
 use aff::Choice;
 use aff::NumberAnswer;
 use aff::Reader;
@@ -23,6 +23,15 @@ fn elements(image: &[u8], reader: Reader, strings: &[u32], entries: &[u32], node
     }
 }
 
+// What a lookup answers.
+fn looked_up(answer: NumberAnswer) {
+    match answer {
+        NumberAnswer::Value(node) => console::decimal(node as u64),
+        NumberAnswer::Refused(refusal) => console::refusal(refusal),
+    }
+}
+
+// A node: its line, its first elements, and what a lookup answers that takes the line for a path: 14, with the place of the blank after the path.
 fn node(image: &[u8], reader: Reader, strings: &[u32], entries: &[u32], k: usize) {
     let mut line = [0u8; 131072];
     match line::line(image, reader, strings, entries, k, &mut line) {
@@ -30,6 +39,8 @@ fn node(image: &[u8], reader: Reader, strings: &[u32], entries: &[u32], k: usize
         NumberAnswer::Refused(refusal) => console::refusal(refusal),
     }
     elements(image, reader, strings, entries, k);
+    console::text(b" ");
+    looked_up(aff::lookup(image, reader, strings, entries, &line));
     console::text(b"\n");
 }
 
@@ -62,7 +73,7 @@ fn open_and_print(image: &[u8]) {
     match verdict {
         Verdict::Accepted => nodes(image, opening.reader, &strings, &entries),
         Verdict::Refused(refusal) => {
-            console::refusal(refusal);
+            console::refusal_in_full(refusal);
             console::text(b"\n");
         }
     }

@@ -3,8 +3,10 @@
 use crate::answers::{decoded, judged, Choice, Element, Passed, Reader};
 use crate::format::{form_for, Kind, MOST};
 use crate::images::{image, Image};
+use crate::kinds;
 use crate::library;
 use crate::open::{open_lent, Record, Span};
+use crate::paths::{self, PATHS};
 use crate::random::Random;
 use crate::report::Report;
 
@@ -55,9 +57,9 @@ fn opened(
             report.same("strings", &opened.strings, &first);
             report.same("entries", &opened.entries, &second);
         }
-        Err((number, _)) => {
+        Err(refused) => {
             // "A refused opening from 2 to 13 leaves both work areas all zero"; 25 to 27 clear them too (C-11); 1 changes nothing.
-            let left = |before: u32| if number == 1 { before } else { 0 };
+            let left = |before: u32| if refused.number == 1 { before } else { 0 };
             report.same("record", &Record::default(), &record);
             report.same("strings", &vec![left(77); strings], &first);
             report.same("entries", &vec![left(78); entries], &second);
@@ -107,7 +109,7 @@ fn answers(random: &Random, passed: &Passed, report: &mut Report) {
     for choice in [Choice::All, Choice::NotVoid] {
         listing(random, passed, &reader, choice, report);
     }
-    for path in [b"".as_slice(), b"/", b"//", b"a", b"/9", b"/a", b"/a/"] {
+    for path in PATHS {
         lookup(passed, &reader, path, report);
     }
 }
@@ -160,7 +162,7 @@ fn part(
     }
 }
 
-/// Path into an output that is long enough, just long enough, or one byte too short; then lookup of it and of others near it.
+/// Path into an output that is long enough, just long enough, or one byte too short; then lookup of it, of one near it, and of a malformed one.
 fn path(
     random: &Random,
     passed: &Passed,
@@ -180,31 +182,20 @@ fn path(
         return;
     };
     lookup(passed, reader, &path, report);
-    let near = near_path(random, &path);
-    lookup(passed, reader, &near, report);
+    lookup(passed, reader, &paths::near(random, &path), report);
+    lookup(passed, reader, &paths::malformed(random, &path), report);
 }
 
-/// A path like another: often absent, sometimes malformed.
-fn near_path(random: &Random, path: &[u8]) -> Vec<u8> {
-    let mut near = path.to_vec();
-    let place = random.below(near.len().max(1));
-    match random.below(9) {
-        0 => near.push(b'/'),
-        1 => near.extend(b"/zz"),
-        2 => near.push(b'x'),
-        3 => near.truncate(near.len().saturating_sub(1)),
-        4 => near.insert(0, b'/'),
-        5 if !near.is_empty() => near[place] ^= 0x20,
-        6 if !near.is_empty() => near[place] = random.byte(),
-        7 => near.truncate(place),
-        _ => near.insert(place, b'/'),
-    }
-    near
-}
-
+/// The node, or number and place of the refusal; 24 reports 0.
 fn lookup(passed: &Passed, reader: &Result<Reader, u32>, path: &[u8], report: &mut Report) {
-    let ours = here(reader, |r| r.lookup(path));
+    let ours = match reader {
+        Ok(reader) => reader.lookup(path),
+        Err(number) => Err((*number, 0)),
+    };
     report.same("lookup", &ours, &library::lookup(passed, path));
+    if let Err((14, place)) = ours {
+        report.met(14, kinds::of_path(path, place));
+    }
 }
 
 /// Indices to ask for: all of a few elements, some of many, and the first that does not exist.

@@ -1,6 +1,9 @@
-//! The answers of an opened image, from document 01, "Reading keys", "Numbers handed back" and "The lister", and requests C-12 and C-13.
+//! The answers of an opened image, from document 01, "Reading keys", "Numbers handed back" and "The lister", and requests C-12, C-13
+//! and C-18.
 
-use crate::format::{big, form_for, is_path, Edition, Entry, Kind, LONGEST_IMAGE, MOST};
+use crate::format::{
+    big, form_for, path_fault, Edition, Entry, Kind, Refusal, LONGEST_IMAGE, MOST,
+};
 use crate::open::{open, reaches_root, until_zero, Record, Span};
 
 /// What a caller passes to a reading call.
@@ -237,16 +240,16 @@ impl<'a> Reader<'a> {
         Ok(length)
     }
 
-    /// "A lookup names the lowest node there"; 14 for a malformed path, 15 where there is none.
-    pub fn lookup(&self, path: &[u8]) -> Result<u64, u32> {
-        if !is_path(path) {
-            return Err(14);
+    /// "A lookup names the lowest node there"; 14 for a malformed path, reported the place in the path (C-18), 15 where there is none.
+    pub fn lookup(&self, path: &[u8]) -> Result<u64, Refusal> {
+        if let Some(place) = path_fault(path) {
+            return Err((14, place));
         }
         let there = |number: &u64| {
             self.path_length(*number) == Ok(path.len() as u64)
                 && self.path(*number).as_deref() == Ok(path)
         };
-        (0..=self.nodes()).find(there).ok_or(15)
+        (0..=self.nodes()).find(there).ok_or((15, 0))
     }
 
     /// "a node, then its children in number order, each followed by its whole subtree".
@@ -304,7 +307,8 @@ pub fn listing(input: &[u8], choice: Choice) -> Vec<u8> {
         return b"too long\n".to_vec();
     }
     match open(input, &form_for(input)) {
-        Err((number, place)) => refused(number, place),
+        // C-18: "the lister's refusal line stays as it is".
+        Err(refusal) => refused(refusal.number, refusal.place),
         Ok(opened) => {
             let passed = Passed {
                 image: input,

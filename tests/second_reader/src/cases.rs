@@ -1,7 +1,7 @@
 //! The frozen sample of the gate: images and this reader's answers, in the form that the program `test_second` reads and writes.
 
 use crate::answers::{self, Element, Passed};
-use crate::format::form_for;
+use crate::format::{form_for, Refusal};
 use crate::images;
 use crate::open::open;
 
@@ -32,10 +32,14 @@ pub fn sample(seed: u64, count: usize) -> Result<Sample, u32> {
     Ok(Sample { input, output })
 }
 
-/// The refusal, or a line for each node in listing order, as `listall` prints it, and after it the first elements.
+/// The refusal with both its places, or a line for each node in listing order, as `listall` prints it; after it the first elements, and what lookup
+/// answers to that line.
 fn answer(image: &[u8]) -> Result<Vec<u8>, u32> {
     match open(image, &form_for(image)) {
-        Err((number, place)) => Ok(format!("refused {number} {place}\n").into_bytes()),
+        Err(refused) => {
+            let (number, place, second) = (refused.number, refused.place, refused.second);
+            Ok(format!("refused {number} {place} {second}\n").into_bytes())
+        }
         Ok(opened) => nodes(&Passed {
             image,
             record: opened.record,
@@ -50,14 +54,24 @@ fn nodes(passed: &Passed) -> Result<Vec<u8>, u32> {
     let mut output = Vec::new();
     for number in reader.order() {
         let count = reader.count(number)?;
-        output.extend(reader.path(number)?);
-        output.extend(format!(" {} {count}", reader.kind(number)?.word()).into_bytes());
+        let mut line = reader.path(number)?;
+        line.extend(format!(" {} {count}", reader.kind(number)?.word()).into_bytes());
+        output.extend(&line);
         for index in 0..count.min(ELEMENTS) {
             output.extend(element(reader.element(number, index)?).into_bytes());
         }
+        output.extend(found(reader.lookup(&line)).into_bytes());
         output.push(b'\n');
     }
     Ok(output)
+}
+
+/// The line of a node is no path: 14, reported the place of its first blank.
+fn found(reported: Result<u64, Refusal>) -> String {
+    match reported {
+        Ok(node) => format!(" {node}"),
+        Err((number, place)) => format!(" refused {number} {place}"),
+    }
 }
 
 fn element(element: Element) -> String {

@@ -3,12 +3,12 @@
 //! A symbol table that lost its last zero may still be lawful (request C-13); then the image is aimed at being accepted.
 
 use crate::format::{big, is_subkey, Edition, Kind, MOST, SIGNATURE, TEXT};
-use crate::images::{apart, image, Aim, Draft, Image, Node, DATA, NO_SUBKEYS, SYMBOLS, TREE};
+use crate::images::{apart, image, Aim, Draft, Image, Node, DATA, SYMBOLS, TREE};
 use crate::images::{
-    draft, insert_string, new_name, plain, sum_again, sum_header, tables, with_data,
+    draft, insert_string, malformed, new_name, plain, sum_again, sum_header, tables, with_data,
 };
 use crate::md5::md5;
-use crate::open::Span;
+use crate::open::{Refused, Span};
 use crate::random::Random;
 use std::collections::HashSet;
 
@@ -49,7 +49,20 @@ pub fn damaged(random: &Random) -> Image {
 fn aimed(bytes: Vec<u8>, number: u32, place: u64, what: &str) -> Image {
     Image {
         bytes,
-        aim: Aim::Refused((number, place)),
+        aim: Aim::Refused((number, place).into()),
+        what: what.to_string(),
+    }
+}
+
+/// 10 with its second number (C-18). A node's number counts from 0 here.
+fn aimed_at_node(bytes: Vec<u8>, node: usize, second: u64, what: &str) -> Image {
+    Image {
+        bytes,
+        aim: Aim::Refused(Refused {
+            number: 10,
+            place: node as u64 + 1,
+            second,
+        }),
         what: what.to_string(),
     }
 }
@@ -284,7 +297,8 @@ fn no_numbers(random: &Random, draft: &mut Draft) {
 
 /// The last zero of a whole table is taken away. The section is one byte shorter: then the last string has no zero or, where it was the
 /// empty one, it is gone, and edition 2's count differs: 26. Or the zero is another byte, which the last string then has at its end: it may be an
-/// earlier string, 27, or no subkey, 10 if a node has it. The counts are those of the table before.
+/// earlier string, 27, or no subkey, 10 if a node has it, which then had a subkey: the new byte is the first that breaks the rule. The counts are
+/// those of the table before.
 fn last_zero(random: &Random) -> Image {
     let mut draft = tables(random);
     draft.unterminated = false;
@@ -330,7 +344,9 @@ fn last_zero(random: &Random) -> Image {
     let what = format!("{byte} in its place");
     match user {
         _ if earlier => aimed(bytes, 27, last as u64, &what),
-        Some(node) if !is_subkey(&string) => aimed(bytes, 10, node as u64 + 1, &what),
+        Some(node) if !is_subkey(&string) => {
+            aimed_at_node(bytes, node, string.len() as u64 - 1, &what)
+        }
         _ => Image {
             bytes,
             aim: Aim::Accepted,
@@ -348,15 +364,15 @@ fn accepted(draft: Draft, what: &str) -> Image {
     }
 }
 
-/// A last string with no zero, and how nodes use it: the name of a node, accepted; no subkey, 10 if a node has it; the name of two
-/// siblings, 12; one number beyond, 10.
+/// A last string with no zero, and how nodes use it: the name of a node, accepted; no subkey, 10 if a node has it, whether its parent exists or not; the
+/// name of two siblings, 12; one number beyond, 10.
 fn name_not_ended(random: &Random) -> Image {
     let mut draft = base(random, 2);
     draft.unterminated = true;
     if draft.strings.len() == MOST {
         return accepted(placed(random, draft), "2,048 strings");
     }
-    let no_subkey = random.pick(&NO_SUBKEYS[1..]).to_vec();
+    let (no_subkey, place) = malformed(random);
     let way = random.below(5);
     let string = match way {
         1..=2 if !draft.strings.contains(&no_subkey) => no_subkey,
@@ -383,11 +399,14 @@ fn name_not_ended(random: &Random) -> Image {
         }
         _ => draft.nodes[one].string = last + 1,
     }
+    if way == 1 && !lawful && random.one_in(3) {
+        draft.nodes[one].parent = no_parent(random, &draft, one);
+    }
     let draft = placed(random, draft);
     match way {
-        1 if !lawful => aimed(draft.finish(), 10, one as u64 + 1, "no subkey"),
+        1 if !lawful => aimed_at_node(draft.finish(), one, place, "no subkey"),
         3 => aimed(draft.finish(), 12, two as u64 + 1, "two siblings"),
-        4 => aimed(draft.finish(), 10, one as u64 + 1, "one number beyond"),
+        4 => aimed_at_node(draft.finish(), one, 0, "one number beyond"),
         2 => accepted(draft, "unused"),
         _ => accepted(draft, "used"),
     }
@@ -594,54 +613,81 @@ fn too_many(random: &Random) -> Image {
     aimed(bytes, 9, 2049, "2,049th entry")
 }
 
-/// The number of a string that is no subkey; adds it where it is not in the table.
-fn no_subkey(random: &Random, draft: &mut Draft) -> Option<u32> {
-    let string = random.pick(&NO_SUBKEYS).to_vec();
-    if let Some(number) = draft.strings.iter().position(|s| *s == string) {
-        return Some(number as u32);
-    }
-    if draft.strings.len() == MOST {
-        return None;
-    }
-    draft.strings.push(string);
-    Some(draft.strings.len() as u32 - 1)
+/// What is wrong with the name of a node that 10 is about.
+enum Flaw {
+    None,
+    NoString,
+    /// The string is no subkey; the place is that of the first byte that breaks the rule.
+    Malformed(Vec<u8>, u64),
 }
 
-/// 10: "parent or string number does not exist, or the string is no subkey", reported the lowest node.
-fn numbers(random: &Random) -> Image {
-    let mut draft = base(random, 1);
+/// A flaw; adds the string where it is not in the table. None where the table is full.
+fn flaw(random: &Random, draft: &mut Draft) -> Flaw {
+    let (string, place) = match random.below(8) {
+        0..=1 => return Flaw::None,
+        2 => return Flaw::NoString,
+        3 => (Vec::new(), 0),
+        _ => malformed(random),
+    };
+    if !draft.strings.contains(&string) {
+        if draft.strings.len() == MOST {
+            return Flaw::None;
+        }
+        let end = draft.strings.len();
+        let number = random.pick(&[end, random.between(0, end)]);
+        insert_string(draft, number, string.clone());
+    }
+    Flaw::Malformed(string, place)
+}
+
+/// A number of no node.
+fn no_parent(random: &Random, draft: &Draft, node: usize) -> u64 {
     let nodes = draft.nodes.len() as u64;
-    let bad = random.some_of(nodes as usize);
-    let names: Vec<Option<u32>> = bad.iter().map(|_| no_subkey(random, &mut draft)).collect();
+    let far = [
+        nodes + 1,
+        nodes + 1,
+        1 << 32,
+        (1 << 32) + draft.nodes[node].parent,
+        1 << 63,
+        u64::MAX,
+    ];
+    random.pick(&far)
+}
+
+/// The number of the string that a flaw gives a node, where it gives one.
+fn bad_string(random: &Random, draft: &Draft, flaw: &Flaw) -> Option<u32> {
     let strings = draft.strings.len() as u32;
-    for (number, name) in bad.iter().zip(names) {
-        let node = &mut draft.nodes[*number];
-        match (random.below(3), name) {
-            (0, Some(name)) => node.string = name,
-            (1, _) => {
-                node.string = random.pick(&[strings, strings, strings + 1, 1 << 31, u32::MAX])
-            }
-            _ => {
-                let far = [
-                    nodes + 1,
-                    nodes + 1,
-                    1 << 32,
-                    (1 << 32) + node.parent,
-                    1 << 63,
-                    u64::MAX,
-                ];
-                node.parent = random.pick(&far);
-            }
+    match flaw {
+        Flaw::None => None,
+        Flaw::NoString => Some(random.pick(&[strings, strings, strings + 1, 1 << 31, u32::MAX])),
+        Flaw::Malformed(string, _) => {
+            let number = draft.strings.iter().position(|other| other == string);
+            number.map(|number| number as u32)
         }
     }
-    draft.records[SYMBOLS] = u64::from(strings);
+}
+
+/// 10: "parent or string number does not exist, or the string is no subkey", reported the lowest node and the place in its name.
+pub fn numbers(random: &Random) -> Image {
+    let mut draft = base(random, 1);
+    let bad = random.some_of(draft.nodes.len());
+    let flaws: Vec<Flaw> = bad.iter().map(|_| flaw(random, &mut draft)).collect();
+    for (node, flaw) in bad.iter().zip(&flaws) {
+        let string = bad_string(random, &draft, flaw);
+        if string.is_none() || random.one_in(3) {
+            draft.nodes[*node].parent = no_parent(random, &draft, *node);
+        }
+        if let Some(string) = string {
+            draft.nodes[*node].string = string;
+        }
+    }
+    draft.records[SYMBOLS] = draft.strings.len() as u64;
     let bytes = placed(random, draft).finish();
-    aimed(
-        bytes,
-        10,
-        bad[0] as u64 + 1,
-        &format!("{} nodes", bad.len()),
-    )
+    let second = match flaws[0] {
+        Flaw::Malformed(_, place) => place,
+        _ => 0,
+    };
+    aimed_at_node(bytes, bad[0], second, &format!("{} nodes", bad.len()))
 }
 
 /// Whether a node, counted from 1, is another or below it.

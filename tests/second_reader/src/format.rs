@@ -5,7 +5,7 @@ pub const LONGEST_IMAGE: u64 = 2_147_483_647;
 /// "2,048 strings; 2,048 nodes besides the root; the reader's two work areas hold exactly 2,048 32-bit numbers each."
 pub const MOST: usize = 2048;
 
-/// Number and place of a refused call, from the table "Numbers handed back".
+/// Number and place of a refused call, from the table "Numbers handed back" and request C-18. Opening has its own: see `open.rs`.
 pub type Refusal = (u32, u64);
 
 /// An edition of the format: the table at the head of "Layout of a file".
@@ -190,23 +190,40 @@ pub fn big(bytes: &[u8], place: usize, width: usize) -> u64 {
         .fold(0, |number, byte| number << 8 | u64::from(*byte))
 }
 
-/// "A subkey is a letter A-Z or a-z, `_` or `:`, followed by any of letters, digits, `.`, `-`, `_`, `:`."
-pub fn is_subkey(name: &[u8]) -> bool {
+/// "A subkey is a letter A-Z or a-z, `_` or `:`, followed by any of letters, digits, `.`, `-`, `_`, `:`." Where a name is none, C-18: "the place of
+/// the first byte that breaks it, or, where the subkey is empty, the place at which it would begin", which is 0 in the name.
+pub fn subkey_fault(name: &[u8]) -> Option<u64> {
     let first = |byte: u8| byte.is_ascii_alphabetic() || byte == b'_' || byte == b':';
     let later = |byte: u8| first(byte) || byte.is_ascii_digit() || byte == b'.' || byte == b'-';
     match name.split_first() {
-        None => false,
-        Some((head, tail)) => first(*head) && tail.iter().all(|byte| later(*byte)),
+        None => Some(0),
+        Some((head, _)) if !first(*head) => Some(0),
+        Some((_, tail)) => {
+            let breaks = tail.iter().position(|byte| !later(*byte));
+            breaks.map(|place| place as u64 + 1)
+        }
     }
 }
 
-/// "A path is `/` alone, or one or more times `/` and a subkey."
-pub fn is_path(path: &[u8]) -> bool {
+pub fn is_subkey(name: &[u8]) -> bool {
+    subkey_fault(name).is_none()
+}
+
+/// "A path is `/` alone, or one or more times `/` and a subkey." Where it is none, the place in the path of the first subkey's fault; C-18: "A path that
+/// lacks its first slash tells 0."
+pub fn path_fault(path: &[u8]) -> Option<u64> {
     if path == b"/" {
-        return true;
+        return None;
     }
-    match path.split_first() {
-        Some((b'/', rest)) => rest.split(|byte| *byte == b'/').all(is_subkey),
-        _ => false,
+    let Some((b'/', rest)) = path.split_first() else {
+        return Some(0);
+    };
+    let mut begin = 1;
+    for subkey in rest.split(|byte| *byte == b'/') {
+        if let Some(place) = subkey_fault(subkey) {
+            return Some(begin + place);
+        }
+        begin += subkey.len() as u64 + 1;
     }
+    None
 }

@@ -1,9 +1,9 @@
 //! Lawful images of both editions: random trees, names, kinds, and places of the sections. `damage.rs` spoils them.
 
 use crate::damage;
-use crate::format::{is_subkey, Edition, Kind, Refusal, MOST, SIGNATURE, TEXT};
+use crate::format::{is_subkey, Edition, Kind, MOST, SIGNATURE, TEXT};
 use crate::md5::md5;
-use crate::open::Span;
+use crate::open::{Refused, Span};
 use crate::random::Random;
 use std::collections::HashSet;
 
@@ -11,7 +11,7 @@ use std::collections::HashSet;
 #[derive(Clone, Copy, PartialEq, Eq, Debug)]
 pub enum Aim {
     Accepted,
-    Refused(Refusal),
+    Refused(Refused),
     Unknown,
 }
 
@@ -182,23 +182,52 @@ pub fn subkey(random: &Random) -> Vec<u8> {
     name
 }
 
-/// Strings that are no subkeys: each may stand in the table while no node has it for its name.
-pub const NO_SUBKEYS: [&[u8]; 14] = [
-    b"",
-    b"9a",
-    b".a",
-    b"-",
-    b"a/b",
-    b"/",
-    b"a b",
-    b" ",
-    b"a;",
-    b"a\x01",
-    b"\xc3\xa9",
-    b"a\xff",
-    b"a@",
-    b"[",
+/// Strings that are no subkeys: each may stand in the table while no node has it for its name. With each the place of the first byte that breaks the
+/// rule (C-18), by hand.
+pub const NO_SUBKEYS: [(&[u8], u64); 16] = [
+    (b"", 0),
+    (b"9a", 0),
+    (b".a", 0),
+    (b"-", 0),
+    (b"a/b", 1),
+    (b"/", 0),
+    (b"a b", 1),
+    (b" ", 0),
+    (b"a;", 1),
+    (b"a\x01", 1),
+    (b"\xc3\xa9", 0),
+    (b"a\xff", 1),
+    (b"a@", 1),
+    (b"[", 0),
+    (b"momentum,1", 8),
+    (b"a.b c d", 3),
 ];
+
+/// Bytes that are in no subkey, other than zero. The first of them is not a subkey's, and neither is a digit, a dot or a minus.
+pub const NEVER: &[u8] = b" /,;@[`{\x01!\"#$%&'()*+<=>?\\]^|}~\x7f\x80\xe9\xff";
+const NEVER_FIRST: &[u8] = b"09.-";
+
+/// A string that is no subkey, and the place of the first byte that breaks the rule: one of the list, or a subkey with another byte in place of its
+/// first, its last or one between. Any bytes but zero may follow.
+pub fn malformed(random: &Random) -> (Vec<u8>, u64) {
+    if random.one_in(3) {
+        let (string, place) = random.pick(&NO_SUBKEYS);
+        return (string.to_vec(), place);
+    }
+    let mut string = [subkey(random), vec![random.pick(LATER); 2]].concat();
+    let last = string.len() - 1;
+    let place = random.pick(&[0, random.between(1, last - 1), last]);
+    string[place] = match place {
+        0 => random.pick(&[NEVER, NEVER_FIRST].concat()),
+        _ => random.pick(NEVER),
+    };
+    for byte in &mut string[place + 1..] {
+        if random.one_in(4) {
+            *byte = 1 + random.below(255) as u8;
+        }
+    }
+    (string, place as u64)
+}
 
 /// Gives each node a name: often one that a node elsewhere has, else a new one.
 fn named(random: &Random, parents: &[u64]) -> (Vec<Vec<u8>>, Vec<Node>) {
@@ -253,7 +282,7 @@ fn with_unused(random: &Random, strings: &mut Vec<Vec<u8>>, nodes: &mut [Node]) 
     let mut known: HashSet<Vec<u8>> = strings.iter().cloned().collect();
     while strings.len() < wanted.min(MOST) {
         let mut string = match random.one_in(2) {
-            true => random.pick(&NO_SUBKEYS).to_vec(),
+            true => malformed(random).0,
             false => subkey(random),
         };
         while !known.insert(string.clone()) {

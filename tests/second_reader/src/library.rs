@@ -3,7 +3,7 @@
 
 use crate::answers::{Choice, Passed};
 use crate::format::Refusal;
-use crate::open::{Record, Span};
+use crate::open::{Record, Refused, Span};
 use crate::runs::{Alteration, Call, Desk, Run};
 use crate::writer::{Numbers, Reported};
 
@@ -117,7 +117,7 @@ macro_rules! reading {
 }
 
 reading! {
-    aff_lookup(path: *const u8, path_length: usize, node: *mut u64);
+    aff_lookup(path: *const u8, path_length: usize, node: *mut u64, place: *mut u64);
     aff_listing(all: bool, output: *mut u32, output_length: usize, count: *mut u64);
     aff_name(node: u64, offset: *mut u64, size: *mut u64);
     aff_kind(node: u64, kind: *mut u64);
@@ -136,14 +136,14 @@ pub fn form_for(image: &[u8]) -> [u8; 12] {
     form
 }
 
-/// Opens an image; the record is handed back whether or not it is accepted.
+/// Opens an image; the record is handed back whether or not it is accepted. Of the 13 numbers the first is the place and the last is the second number.
 pub fn open(
     image: &[u8],
     form: &[u8],
     strings: &mut [u32],
     entries: &mut [u32],
-) -> (Result<(), Refusal>, Record) {
-    let mut numbers = [u64::MAX; 12];
+) -> (Result<(), Refused>, Record) {
+    let mut numbers = [u64::MAX; 13];
     // SAFETY: as above.
     let number = unsafe {
         aff_open_image(
@@ -159,9 +159,13 @@ pub fn open(
             numbers.len(),
         )
     };
-    let reported = match (number, numbers[0]) {
-        (0, 0) => Ok(()),
-        (number, place) => Err((number, place)),
+    let reported = match (number, numbers[0], numbers[12]) {
+        (0, 0, 0) => Ok(()),
+        (number, place, second) => Err(Refused {
+            number,
+            place,
+            second,
+        }),
     };
     (reported, record_of(&numbers))
 }
@@ -196,7 +200,7 @@ fn reported<T: PartialEq>(number: u32, value: T, before: T) -> Result<T, u32> {
     }
 }
 
-fn record_of(numbers: &[u64; 12]) -> Record {
+fn record_of(numbers: &[u64; 13]) -> Record {
     let span = |place: usize| Span {
         offset: numbers[place],
         size: numbers[place + 1],
@@ -213,6 +217,7 @@ fn record_of(numbers: &[u64; 12]) -> Record {
     }
 }
 
+/// The numbers that the reading calls take: the first 12.
 fn numbers_of(record: &Record) -> [u64; 12] {
     [
         0,
@@ -251,10 +256,22 @@ macro_rules! ask {
     }};
 }
 
-pub fn lookup(passed: &Passed, path: &[u8]) -> Result<u64, u32> {
-    let mut node = NONE;
-    let number = ask!(aff_lookup, passed, path.as_ptr(), path.len(), &mut node);
-    reported(number, node, NONE)
+/// The place is written in every case: 0 where the path is found.
+pub fn lookup(passed: &Passed, path: &[u8]) -> Result<u64, Refusal> {
+    let (mut node, mut place) = (NONE, NONE);
+    let number = ask!(
+        aff_lookup,
+        passed,
+        path.as_ptr(),
+        path.len(),
+        &mut node,
+        &mut place
+    );
+    match reported(number, node, NONE) {
+        Ok(node) if place == 0 => Ok(node),
+        Ok(_) => Err((0, place)),
+        Err(number) => Err((number, place)),
+    }
 }
 
 pub fn name(passed: &Passed, node: u64) -> Result<Span, u32> {

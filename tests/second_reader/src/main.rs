@@ -9,6 +9,7 @@ mod format;
 mod images;
 #[cfg(feature = "library")]
 mod kills;
+mod kinds;
 #[cfg(feature = "library")]
 mod library;
 #[cfg(feature = "library")]
@@ -18,6 +19,8 @@ mod lists;
 mod mapped;
 mod md5;
 mod open;
+#[cfg(any(test, feature = "library"))]
+mod paths;
 #[cfg(feature = "library")]
 mod plans;
 mod random;

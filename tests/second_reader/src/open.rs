@@ -1,9 +1,9 @@
 //! Opening: every refusal from 1 to 7, from 9 to 13 and from 25 to 27 with its place, in document 01's order: "opening 1 (nothing changed),
 //! then 2, text 3, edition 2's length 2, then 4 to 13, each check over all nodes before the next; sections in the order symbol, tree, data".
 //! Request C-11 puts 25, 26 and 27 "before 9, in this order". By request C-13 no file gets 8, as the last string need not have its zero;
-//! request C-14 withdraws the number.
+//! request C-14 withdraws the number. Request C-18 gives 10 a second number.
 
-use crate::format::{big, is_subkey, Edition, Entry, Kind, Refusal, LONGEST_IMAGE, MOST};
+use crate::format::{big, subkey_fault, Edition, Entry, Kind, Refusal, LONGEST_IMAGE, MOST};
 use crate::format::{SIGNATURE, TEXT};
 use crate::md5::md5;
 use std::collections::HashSet;
@@ -45,6 +45,25 @@ pub struct Opened {
     pub entries: Vec<u32>,
 }
 
+/// A refused opening.
+#[derive(Clone, Copy, PartialEq, Eq, Debug)]
+pub struct Refused {
+    pub number: u32,
+    pub place: u64,
+    /// C-18: "10 tells a second number"; 0 with every other number.
+    pub second: u64,
+}
+
+impl From<Refusal> for Refused {
+    fn from((number, place): Refusal) -> Refused {
+        Refused {
+            number,
+            place,
+            second: 0,
+        }
+    }
+}
+
 /// One section header as it stands in the image.
 #[derive(Clone, Copy)]
 struct Header {
@@ -54,7 +73,7 @@ struct Header {
 }
 
 /// Opens an image with areas of the right length.
-pub fn open(image: &[u8], form: &[u8]) -> Result<Opened, Refusal> {
+pub fn open(image: &[u8], form: &[u8]) -> Result<Opened, Refused> {
     open_lent(image, form, MOST, MOST)
 }
 
@@ -64,7 +83,7 @@ pub fn open_lent(
     form: &[u8],
     strings_length: usize,
     entries_length: usize,
-) -> Result<Opened, Refusal> {
+) -> Result<Opened, Refused> {
     passed(image, form, strings_length, entries_length)?;
     let edition = signature(image, form)?;
     header_sum(image, edition)?;
@@ -261,16 +280,60 @@ fn names<'a>(image: &'a [u8], symbols: Span, places: &[usize]) -> Vec<&'a [u8]> 
     places.iter().map(string).collect()
 }
 
-/// 10: "parent or string number does not exist, or the string is no subkey", reported the lowest node.
-fn numbers_exist(nodes: &[Entry], names: &[&[u8]]) -> Result<(), Refusal> {
-    for (number, node) in (1..).zip(nodes) {
-        let parent = node.parent <= nodes.len() as u64;
-        let name = names.get(node.string as usize);
-        if !parent || !name.is_some_and(|name| is_subkey(name)) {
-            return Err((10, number));
-        }
+/// A node as 10 sees it: whether its parent exists, and its string where that exists.
+pub struct Node<'a> {
+    pub number: u64,
+    pub parent: bool,
+    pub name: Option<&'a [u8]>,
+}
+
+impl Node<'_> {
+    /// "parent or string number does not exist, or the string is no subkey".
+    fn is_bad(&self) -> bool {
+        !self.parent || self.name.is_none() || self.fault().is_some()
     }
-    Ok(())
+
+    /// Where the string breaks the rule, if it exists and is no subkey.
+    pub fn fault(&self) -> Option<u64> {
+        self.name.and_then(subkey_fault)
+    }
+}
+
+/// The nodes that 10 is about, ascending.
+fn bad<'a: 'b, 'b>(
+    nodes: &'b [Entry],
+    names: &'b [&'a [u8]],
+) -> impl Iterator<Item = Node<'a>> + 'b {
+    let seen = move |(number, node): (u64, &Entry)| Node {
+        number,
+        parent: node.parent <= nodes.len() as u64,
+        name: names.get(node.string as usize).copied(),
+    };
+    (1..).zip(nodes).map(seen).filter(Node::is_bad)
+}
+
+/// 10, reported the lowest node. The second number (C-18): "the place wherever the node's string exists and is no subkey, its parent sound or not, else
+/// zero".
+fn numbers_exist(nodes: &[Entry], names: &[&[u8]]) -> Result<(), Refused> {
+    match bad(nodes, names).next() {
+        None => Ok(()),
+        Some(node) => Err(Refused {
+            number: 10,
+            place: node.number,
+            second: node.fault().unwrap_or(0),
+        }),
+    }
+}
+
+/// The nodes that 10 is about in an image that was refused by it, for the counts of what was met.
+pub fn bad_nodes(image: &[u8]) -> Vec<Node<'_>> {
+    let edition = Edition::from_text(image).expect("10 comes after 3");
+    let header = |section| section_header(image, edition, section);
+    let strings = symbol_table(image, &header(0)).expect("10 comes after 27");
+    let entries = tree_table(image, &header(1)).expect("10 comes after 9");
+    let nodes = read_nodes(image, &entries);
+    let names = names(image, header(0).span, &strings);
+    bad(&nodes, &names).collect()
 }
 
 /// Whether the climb by parents from a node reaches the root. In as many steps as there are nodes it must.

@@ -1,10 +1,10 @@
 //! Runs of the writer for processes that are stopped half-way: the file before, the calls, the stores in document 01's order, and
 //! what may be left of the file at any moment.
 
-use crate::format::{Edition, Kind, Refusal};
+use crate::format::{Edition, Kind};
 use crate::images::subkey;
 use crate::library;
-use crate::open::open;
+use crate::open::{open, Refused};
 use crate::random::Random;
 use crate::report::Report;
 use crate::runs::{play, shows_run, worked_calls, Call, Run};
@@ -121,7 +121,7 @@ impl Plan {
         report.same("opening", &here, &by_library);
         let left = match here {
             _ if buffer == self.run.buffer => Some(Left::AsItWas),
-            Some((3, 0)) => Some(Left::Refused),
+            Some(refused) if refused == Refused::from((3, 0)) => Some(Left::Refused),
             None if buffer == self.finished => Some(Left::Whole),
             _ => None,
         };
@@ -157,7 +157,7 @@ impl Plan {
 }
 
 /// What the library's opening reports of a file: none where it accepts.
-fn opened_by_library(buffer: &[u8]) -> Option<Refusal> {
+fn opened_by_library(buffer: &[u8]) -> Option<Refused> {
     let (mut strings, mut entries) = (vec![0; 2048], vec![0; 2048]);
     let form = library::form_for(buffer);
     library::open(buffer, &form, &mut strings, &mut entries)

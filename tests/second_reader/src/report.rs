@@ -2,6 +2,8 @@
 
 use crate::format::Refusal;
 use crate::images::{Aim, Image};
+use crate::kinds::{self, Kind};
+use crate::open::{bad_nodes, Refused};
 use std::collections::BTreeMap;
 use std::fmt::Debug;
 
@@ -14,6 +16,7 @@ pub struct Report {
     differ: usize,
     questions: u64,
     by_number: BTreeMap<u32, usize>,
+    kinds: BTreeMap<(u32, Kind), usize>,
     judged: [usize; 2],
 }
 
@@ -55,12 +58,17 @@ impl Report {
     }
 
     /// This reader's verdict, beside what the maker of the image knows.
-    pub fn opened<T>(&mut self, image: &Image, reported: &Result<T, Refusal>) {
+    pub fn opened<T>(&mut self, image: &Image, reported: &Result<T, Refused>) {
         let refusal = reported.as_ref().err().copied();
-        *self
-            .by_number
-            .entry(refusal.map_or(0, |r| r.0))
-            .or_insert(0) += 1;
+        let number = refusal.map_or(0, |r| r.number);
+        *self.by_number.entry(number).or_insert(0) += 1;
+        if number == 10 {
+            let nodes = bad_nodes(&image.bytes);
+            self.met(10, kinds::of_node(&nodes[0]));
+            if let Some(kind) = kinds::of_several(&nodes) {
+                self.met(10, kind);
+            }
+        }
         match image.aim {
             Aim::Accepted => self.same("aim", &None, &refusal),
             Aim::Refused(aim) => self.same("aim", &Some(aim), &refusal),
@@ -72,6 +80,11 @@ impl Report {
     pub fn reported(&mut self, reported: &Result<u64, Refusal>) {
         let number = reported.as_ref().err().map_or(0, |refusal| refusal.0);
         *self.by_number.entry(number).or_insert(0) += 1;
+    }
+
+    /// A kind of malformed name or path, which 10 or 14 is about.
+    pub fn met(&mut self, number: u32, kind: Kind) {
+        *self.kinds.entry((number, kind)).or_insert(0) += 1;
     }
 
     /// Whether a state of passed memory passed 24.
@@ -100,6 +113,9 @@ impl Report {
                 0 => println!("accepted: {count}"),
                 _ => println!("refused {number}: {count}"),
             }
+        }
+        for ((number, (what, more)), count) in &self.kinds {
+            println!("{number}: {what}, {more}: {count}");
         }
         if self.judged != [0, 0] {
             let [refused, passed] = self.judged;

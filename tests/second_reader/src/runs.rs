@@ -3,8 +3,9 @@
 
 use crate::answers::{decoded, judged, Choice, Passed, Reader};
 use crate::format::{Edition, Kind, MOST};
-use crate::images::subkey;
-use crate::open::open;
+use crate::images::{malformed, subkey};
+use crate::kinds;
+use crate::open::{open, Refused};
 use crate::random::Random;
 use crate::report::Report;
 use crate::writer::{Numbers, Record, Reported, Writer, TEXT_AREA, TREE_AREA};
@@ -383,8 +384,8 @@ fn make(random: &Random, now: &Writer, style: Style) -> Call {
     };
     let mut name = subkey(random);
     match (style, random.below(30)) {
-        (_, 0) => name = random.pick(&BAD_NAMES).to_vec(),
-        (Style::Long, 1) => name = vec![b'k'; random.between(20_000, 33_000)],
+        (_, 0) => name = bad_name(random),
+        (Style::Long, 1) => name = long_name(random),
         // As long as the text area takes with a zero, or one byte longer.
         (Style::Long, 2..=3) => name = vec![b'm'; left.max(2) - random.below(2)],
         (Style::Long, _) => name.extend(vec![b'l'; random.below(2000)]),
@@ -397,7 +398,48 @@ fn make(random: &Random, now: &Writer, style: Style) -> Call {
     Call::Make(parent, name)
 }
 
-const BAD_NAMES: [&[u8]; 6] = [b"", b"9a", b"a/b", b"a\0", b"/", b"a\xe9"];
+const BAD_NAMES: [&[u8]; 14] = [
+    b"",
+    b"9a",
+    b"9",
+    b"a/b",
+    b"/",
+    b"a/",
+    b"a b",
+    b" ",
+    b"a\0",
+    b"\0",
+    b"a\xe9",
+    b"\xff",
+    b"a\xff",
+    b"momentum,1",
+];
+
+/// A malformed name: one of a list, or any other, some with a zero in it.
+pub fn bad_name(random: &Random) -> Vec<u8> {
+    let (mut name, _) = malformed(random);
+    match random.below(6) {
+        0..=2 => random.pick(&BAD_NAMES).to_vec(),
+        3 if !name.is_empty() => {
+            let place = random.below(name.len());
+            name[place] = random.pick(&[0, b'/', b' ', 255]);
+            name
+        }
+        _ => name,
+    }
+}
+
+/// A name of thousands of bytes, some with a fault at their end or anywhere: 14 comes before 20.
+fn long_name(random: &Random) -> Vec<u8> {
+    let mut name = vec![b'k'; random.between(20_000, 33_000)];
+    let last = name.len() - 1;
+    match random.below(4) {
+        0 => name[last] = random.pick(&[0, b'/', 255]),
+        1 => name[random.below(last)] = b' ',
+        _ => (),
+    }
+    name
+}
 
 fn put(random: &Random, nodes: usize) -> Call {
     let node = random.below(nodes + 2) as u64;
@@ -508,7 +550,7 @@ pub fn compare(seed: u64, number: u64, other: Option<NewDesk>, report: &mut Repo
         .zip(&answers)
         .map(|(c, t)| stores(c, t))
         .sum();
-    answers.iter().for_each(|reported| report.reported(reported));
+    count(&run.calls, &answers, report);
     let cuts = cuts(&random, total, run.calls.len());
     if !run.is_altered() {
         shows_run(&run.calls, &answers, &whole.buffer, report);
@@ -522,6 +564,16 @@ pub fn compare(seed: u64, number: u64, other: Option<NewDesk>, report: &mut Repo
         }
     }
     report.end(&[]);
+}
+
+/// Counts the answers, and the names that make refused.
+fn count(calls: &[Call], answers: &[Reported], report: &mut Report) {
+    for (call, reported) in calls.iter().zip(answers) {
+        report.reported(reported);
+        if let (Call::Make(_, name), Err((14, place))) = (call, reported) {
+            report.met(14, kinds::of_name(name, *place));
+        }
+    }
 }
 
 /// All cuts of a short run, some of a long one.
@@ -556,7 +608,7 @@ pub fn shows_run(calls: &[Call], answers: &[Reported], buffer: &[u8], report: &m
 fn check_cut(run: &Run, cut: u64, total: u64, report: &mut Report) {
     let mut desk = run.desk();
     let answers = play(&mut desk, &run.calls, cut);
-    answers.iter().for_each(|reported| report.reported(reported));
+    count(&run.calls, &answers, report);
     let made: u64 = run
         .calls
         .iter()
@@ -571,7 +623,7 @@ fn check_cut(run: &Run, cut: u64, total: u64, report: &mut Report) {
         .count();
     if begun == 1 && made > 0 && made < total {
         let reported = open(&desk.buffer, &Edition::Two.form()).map(|_| ()).err();
-        report.same("cut", &Some((3, 0)), &reported);
+        report.same("cut", &Some(Refused::from((3, 0))), &reported);
     }
 }
 

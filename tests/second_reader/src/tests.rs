@@ -1,13 +1,17 @@
-//! Document 01's worked file and cases, the symbol tables of requests C-11 and C-13, request C-12's listings, and the generator's images beside
-//! what their maker knows.
+//! Document 01's worked file and cases, the symbol tables of requests C-11 and C-13, request C-12's listings, request C-18's places, and the
+//! generator's images beside what their maker knows.
 
 use crate::answers::{decoded, judged, listing, Choice, Element, Passed, LISTED};
-use crate::format::{big, form_for, is_path, is_subkey, Edition, Kind, Refusal};
-use crate::images::{image, Draft, Node, DATA, SYMBOLS, TREE};
-use crate::open::{open, Opened, Span};
+use crate::damage::numbers;
+use crate::format::{big, form_for, is_subkey, path_fault, subkey_fault, Edition, Kind, Refusal};
+use crate::images::{image, Draft, Image, Node, DATA, SYMBOLS, TREE};
+use crate::open::{bad_nodes, open, Opened, Refused, Span};
+use crate::random::Random;
 use crate::report::Report;
-use crate::runs::{play, worked_calls, Call};
+use crate::runs::{bad_name, play, worked_calls, Call, Desk};
 use crate::writer::{Writer, TEXT_AREA, TREE_AREA};
+use crate::{kinds, paths};
+use std::collections::BTreeMap;
 
 fn desk(buffer: usize) -> Writer {
     Writer::passed(vec![0; buffer], vec![0; TEXT_AREA], vec![0; TREE_AREA])
@@ -40,7 +44,7 @@ fn cut_drill() {
         let mut desk = desk(214);
         play(&mut desk, &worked_calls(), total);
         let reported = open(&desk.buffer, &Edition::Two.form()).map(|_| ()).err();
-        let refused = (total < 215).then_some((3, 0));
+        let refused = (total < 215).then_some(Refused::from((3, 0)));
         assert_eq!(reported, refused, "{total}");
     }
 }
@@ -67,9 +71,9 @@ fn cases_on_each_side() {
     let passed = passed(&desk.buffer, &opened);
     let reader = judged(&passed).ok().unwrap();
     assert_eq!(reader.lookup(b"/"), Ok(0));
-    for path in [b"".as_slice(), b"//a", b"/a/", b"/9a"] {
-        assert_eq!(reader.lookup(path), Err(14));
-        assert!(!is_path(path));
+    for (path, place) in [(b"".as_slice(), 0), (b"//a", 1), (b"/a/", 3), (b"/9a", 1)] {
+        assert_eq!(reader.lookup(path), Err((14, place)));
+        assert_eq!(path_fault(path), Some(place));
     }
     assert_eq!(reader.lookup(b"/a/n"), Ok(2));
     assert_eq!(reader.element(2, 0), Ok(Element::Int(-70)));
@@ -105,7 +109,14 @@ fn opened(edition: Edition, symbols: &[u8], count: u64, tree: &[u8]) -> Result<u
         records: [count, 0, 0],
     };
     draft.seal();
-    open(&draft.bytes, &edition.form()).map(|opened| opened.record.strings)
+    let opened = open(&draft.bytes, &edition.form()).map_err(without_second)?;
+    Ok(opened.record.strings)
+}
+
+/// Number and place of a refusal that has no second number.
+fn without_second(refused: Refused) -> Refusal {
+    assert_eq!(refused.second, 0);
+    (refused.number, refused.place)
 }
 
 /// An entry of type 0: 9 at entry 1.
@@ -271,44 +282,342 @@ fn worked_file_not_ended() {
     }
 }
 
+/// An image of Void nodes, each a parent and a string number. Its symbol table is last, with or without its last zero, and before some bytes.
+fn nodes_with(
+    edition: Edition,
+    strings: &[&[u8]],
+    of: &[(u64, u32)],
+    unterminated: bool,
+    after: &[u8],
+) -> Vec<u8> {
+    let mut draft = draft_of(edition, &[]);
+    draft.strings = strings.iter().map(|string| string.to_vec()).collect();
+    draft.unterminated = unterminated;
+    let node = |(parent, string): &(u64, u32)| Node {
+        code: Kind::Void.code(),
+        parent: *parent,
+        string: *string,
+        count: 0,
+        offset: 0,
+    };
+    draft.nodes = of.iter().map(node).collect();
+    draft.records = [strings.len() as u64, of.len() as u64, 0];
+    lay_out(&mut draft, [DATA, TREE, SYMBOLS], 0, after);
+    draft.finish()
+}
+
+/// The number of strings, or the refusal, of such an image, in both editions alike.
+fn opened_nodes(
+    strings: &[&[u8]],
+    of: &[(u64, u32)],
+    unterminated: bool,
+    after: &[u8],
+) -> Result<u64, Refused> {
+    let both = EDITIONS.map(|edition| {
+        let image = nodes_with(edition, strings, of, unterminated, after);
+        open(&image, &edition.form()).map(|opened| opened.record.strings)
+    });
+    assert_eq!(both[0], both[1]);
+    both[0]
+}
+
+/// 10 with its node and its second number.
+fn ten<T>(place: u64, second: u64) -> Result<T, Refused> {
+    Err(Refused {
+        number: 10,
+        place,
+        second,
+    })
+}
+
 /// 10 and 12 of a last string that has no zero, with bytes after the section that would make another name.
 #[test]
 fn names_not_ended() {
-    let opened_with = |strings: &[&[u8]], of: &[(u64, u32)], after: &[u8]| {
-        let both = EDITIONS.map(|edition| {
-            let mut draft = draft_of(edition, &[]);
-            draft.strings = strings.iter().map(|string| string.to_vec()).collect();
-            draft.unterminated = true;
-            let node = |(parent, string): &(u64, u32)| Node {
-                code: Kind::Void.code(),
-                parent: *parent,
-                string: *string,
-                count: 0,
-                offset: 0,
-            };
-            draft.nodes = of.iter().map(node).collect();
-            draft.records = [strings.len() as u64, of.len() as u64, 0];
-            lay_out(&mut draft, [DATA, TREE, SYMBOLS], 0, after);
-            open(&draft.finish(), &edition.form()).map(|opened| opened.record.strings)
-        });
-        assert_eq!(both[0], both[1]);
-        both[0]
-    };
+    let opened_with =
+        |strings: &[&[u8]], of: &[(u64, u32)], after: &[u8]| opened_nodes(strings, of, true, after);
     let chain = [(0, 0), (1, 1)];
     let siblings = [(0, 0), (0, 1)];
     for after in [b"".as_slice(), b"b\0", b"\0", b"/", b"9"] {
         assert_eq!(opened_with(&[b"a", b"n"], &chain, after), Ok(2));
         assert_eq!(opened_with(&[b"ab", b"a"], &siblings, after), Ok(2));
-        for name in [b"9".as_slice(), b"a ", b"a@", b"a/", b"\xff"] {
-            assert_eq!(opened_with(&[b"a", name], &chain, after), Err((10, 2)));
+        for (name, place) in [
+            (b"9".as_slice(), 0),
+            (b"a ", 1),
+            (b"a@", 1),
+            (b"a/", 1),
+            (b"\xff", 0),
+            (b"momentum:1 ", 10),
+        ] {
+            for parent in [1, 9] {
+                let nodes = [(0, 0), (parent, 1)];
+                assert_eq!(opened_with(&[b"a", name], &nodes, after), ten(2, place));
+            }
             assert_eq!(opened_with(&[b"a", name], &[(0, 0)], after), Ok(2));
         }
         assert_eq!(
             opened_with(&[b"a", b"n"], &[(0, 1), (0, 1)], after),
-            Err((12, 2))
+            Err(Refused::from((12, 2)))
         );
-        assert_eq!(opened_with(&[b"a", b"n"], &[(0, 2)], after), Err((10, 1)));
+        assert_eq!(opened_with(&[b"a", b"n"], &[(0, 2)], after), ten(1, 0));
     }
+}
+
+/// Names and paths of each byte. The bytes are written by hand.
+#[test]
+fn every_byte() {
+    const FIRST: &[u8] = b"ABCDEFGHIJKLMNOPQRSTUVWXYZabcdefghijklmnopqrstuvwxyz_:";
+    const DIGITS: &[u8] = b"0123456789.-";
+    for byte in 0..=255 {
+        let first = FIRST.contains(&byte);
+        let later = first || DIGITS.contains(&byte);
+        assert_eq!(subkey_fault(&[byte]), (!first).then_some(0), "{byte}");
+        let place = if first { 1 } else { 0 };
+        assert_eq!(subkey_fault(&[byte, b' ']), Some(place), "{byte}");
+        assert_eq!(subkey_fault(&[b'a', byte]), (!later).then_some(1));
+        let place = if later { 2 } else { 1 };
+        assert_eq!(subkey_fault(&[b'a', byte, 0]), Some(place), "{byte}");
+        let root = byte == b'/';
+        assert_eq!(path_fault(&[byte]), (!root).then_some(0), "{byte}");
+        assert_eq!(path_fault(&[b'/', byte]), (!first).then_some(1), "{byte}");
+        let place = if root { 3 } else { 2 };
+        let fault = (!later).then_some(place);
+        assert_eq!(path_fault(&[b'/', b'a', byte]), fault, "{byte}");
+    }
+}
+
+/// C-18's places in a path, by hand.
+const MALFORMED: [(&[u8], u64); 34] = [
+    (b"", 0),
+    (b"a", 0),
+    (b"a/", 0),
+    (b"a b", 0),
+    (b" /a", 0),
+    (b"9", 0),
+    (b"\0", 0),
+    (b"\xff", 0),
+    (b"//", 1),
+    (b"//a", 1),
+    (b"///", 1),
+    (b"/a/", 3),
+    (b"/a//", 3),
+    (b"/a//n", 3),
+    (b"/a/n/", 5),
+    (b"/a/n//", 5),
+    (b"/9a", 1),
+    (b"/9", 1),
+    (b"/.", 1),
+    (b"/-a", 1),
+    (b"/ ", 1),
+    (b"/a ", 2),
+    (b"/a b/9", 2),
+    (b"/a/9", 3),
+    (b"/a/n b", 4),
+    (b"/\0", 1),
+    (b"/a\0", 2),
+    (b"/a\0/n", 2),
+    (b"/a/\0", 3),
+    (b"/\xff", 1),
+    (b"/a\xff", 2),
+    (b"/a/n\xff", 4),
+    (b"/a/n/\xff\0", 5),
+    (b"/momentum,1/x", 9),
+];
+
+#[test]
+fn places_in_a_path() {
+    let keys = [(0, "a", Kind::Void, 0), (1, "n", Kind::Int, 1)];
+    for edition in EDITIONS {
+        let image = tree(edition, &keys);
+        let opened = open(&image, &edition.form()).ok().unwrap();
+        let passed = passed(&image, &opened);
+        let reader = judged(&passed).ok().unwrap();
+        for (path, place) in MALFORMED {
+            assert_eq!(reader.lookup(path), Err((14, place)), "{path:?}");
+        }
+        for (path, place) in long_malformed() {
+            assert_eq!(reader.lookup(&path), Err((14, place)));
+        }
+        assert_eq!(reader.lookup(b"/"), Ok(0));
+        assert_eq!(reader.lookup(b"/a"), Ok(1));
+        assert_eq!(reader.lookup(b"/a/n"), Ok(2));
+        for path in ["/n", "/A", "/a/n/x", "/_", "/:.-_9", "/a/n/momentum.1"] {
+            let path = path.as_bytes();
+            assert_eq!(reader.lookup(path), Err((15, 0)), "{path:?}");
+        }
+    }
+}
+
+/// Paths of 65,536 bytes, one subkey or 32,768, with a fault in their last byte; and an empty subkey after it.
+fn long_malformed() -> Vec<(Vec<u8>, u64)> {
+    let one = [b"/".to_vec(), vec![b'k'; 65_535]].concat();
+    let many = b"/k".repeat(32_768);
+    let mut found = Vec::new();
+    for path in [one, many] {
+        for byte in [0, b' ', 255] {
+            let mut bad = path.clone();
+            bad[65_535] = byte;
+            found.push((bad, 65_535));
+        }
+        found.push(([path, b"/".to_vec()].concat(), 65_537));
+    }
+    let mut slash = b"/k".repeat(32_767);
+    slash.extend(b"k/");
+    found.push((slash, 65_536));
+    found
+}
+
+/// C-18's places in a name that make refuses: they are reported, and nothing else changes. 15 comes before 14, and 14 before 20 and 21.
+#[test]
+fn places_in_a_name() {
+    let mut long = vec![b'k'; 40_000];
+    long[39_999] = b'/';
+    let names: [(&[u8], u64); 18] = [
+        (b"", 0),
+        (b"9a", 0),
+        (b"9", 0),
+        (b"a/b", 1),
+        (b"/", 0),
+        (b"/a", 0),
+        (b"a b", 1),
+        (b" ", 0),
+        (b"momentum,1", 8),
+        (b"\0", 0),
+        (b"a\0", 1),
+        (b"ab\0c d", 2),
+        (b"\xff", 0),
+        (b"a\xff", 1),
+        (b"a\xe9", 1),
+        (b"-a", 0),
+        (b"a.b-c_d:e;", 9),
+        (&long, 39_999),
+    ];
+    let mut desk = desk(190);
+    play(&mut desk, &worked_calls()[..2], u64::MAX);
+    for (name, place) in names {
+        for parent in [0, 1] {
+            let before = desk.clone();
+            let call = Call::Make(parent, name.to_vec());
+            assert_eq!(desk.call(&call, 0), Err((14, place)), "{name:?}");
+            assert_eq!(desk.numbers().0[0], place);
+            desk.last = before.last;
+            assert!(desk == before);
+        }
+        let call = Call::Make(2, name.to_vec());
+        assert_eq!(desk.call(&call, 0), Err((15, 0)));
+    }
+}
+
+/// C-18's second number of 10, by hand: names with the place, and a parent that exists or not.
+#[test]
+fn second_number() {
+    let long = [vec![b'k'; 70_000], b" ".to_vec()].concat();
+    let names: [(&[u8], u64); 13] = [
+        (b"a b", 1),
+        (b"9a", 0),
+        (b"", 0),
+        (b"momentum,1", 8),
+        (b"a/b", 1),
+        (b"/", 0),
+        (b"ab\xff", 2),
+        (b"\xff", 0),
+        (b"a b c", 1),
+        (b"a ,", 1),
+        (b"9 a", 0),
+        (b"abc ", 3),
+        (&long, 70_000),
+    ];
+    for (name, place) in names {
+        for unterminated in [false, true] {
+            let strings = [b"a".as_slice(), name];
+            let opened = |of: &[(u64, u32)]| opened_nodes(&strings, of, unterminated, b"x\0");
+            assert_eq!(opened(&[(0, 0), (0, 1)]), ten(2, place));
+            assert_eq!(opened(&[(0, 0), (2, 1)]), ten(2, place));
+            for parent in [3, 9, 1 << 32, u64::MAX] {
+                assert_eq!(opened(&[(0, 0), (parent, 1)]), ten(2, place));
+                // The parent alone is wrong; the number of the string, alone or with the parent.
+                assert_eq!(opened(&[(0, 0), (parent, 0)]), ten(2, 0));
+                assert_eq!(opened(&[(0, 0), (parent, 2)]), ten(2, 0));
+                // A higher node with a place of its own.
+                assert_eq!(opened(&[(parent, 0), (0, 1)]), ten(1, 0));
+                assert_eq!(opened(&[(parent, 9), (0, 1)]), ten(1, 0));
+                assert_eq!(opened(&[(parent, 1), (0, 2)]), ten(1, place));
+            }
+            assert_eq!(opened(&[(0, 0), (0, 2)]), ten(2, 0));
+            assert_eq!(opened(&[(0, 0), (0, u32::MAX)]), ten(2, 0));
+            assert_eq!(opened(&[(0, 0)]), Ok(2));
+        }
+    }
+    let two = [b"a".as_slice(), b"a b", b"abc,"];
+    assert_eq!(opened_nodes(&two, &[(0, 2), (0, 1)], false, b""), ten(1, 3));
+    assert_eq!(opened_nodes(&two, &[(0, 1), (0, 2)], false, b""), ten(1, 1));
+    // 11, 12 and 13 come later; 9 and 27 before.
+    assert_eq!(opened_nodes(&two, &[(1, 0), (0, 1)], false, b""), ten(2, 1));
+    let twice = [b"a b".as_slice(), b"a b"];
+    let refused = opened_nodes(&twice, &[(0, 1)], false, b"");
+    assert_eq!(refused, Err(Refused::from((27, 1))));
+}
+
+/// "the lister's refusal line stays as it is".
+#[test]
+fn lister_has_one_place() {
+    for edition in EDITIONS {
+        let image = nodes_with(edition, &[b"a", b"ab c"], &[(0, 0), (9, 1)], false, b"");
+        for choice in [Choice::All, Choice::NotVoid] {
+            assert_eq!(listing(&image, choice), b"refused 10 2\n");
+        }
+    }
+}
+
+/// How often each kind was met; each must be met more than once.
+fn counted(met: impl Iterator<Item = kinds::Kind>) -> BTreeMap<kinds::Kind, usize> {
+    let mut counts = BTreeMap::new();
+    met.for_each(|kind| *counts.entry(kind).or_insert(0) += 1);
+    assert!(counts.values().all(|count| *count > 1), "{counts:?}");
+    counts
+}
+
+/// Images made for 10 get it with both their places. A name has 5 faults or none, a parent exists or not; two kinds of several nodes.
+#[test]
+fn kinds_of_nodes() {
+    let mut report = Report::default();
+    let made = |number: u64| {
+        let image = numbers(&Random::of(30, number));
+        assert_eq!(judge(30, number, &image, &mut report), 10);
+        let nodes = bad_nodes(&image.bytes);
+        [Some(kinds::of_node(&nodes[0])), kinds::of_several(&nodes)]
+    };
+    let counts = counted((0..600).flat_map(made).flatten());
+    assert!(report.finish());
+    assert_eq!(counts.len(), 11 + 2, "{counts:?}");
+}
+
+/// No first slash, of an empty path and of another; 4 faults of a subkey at 4 depths, but no first subkey that is empty at the path's end: that is `/`.
+#[test]
+fn kinds_of_paths() {
+    let random = Random::of(31, 0);
+    let some: [&[u8]; 4] = [b"/", b"/a", b"/a/n", b"/momentum.1/x-9/_"];
+    let made = |number: usize| {
+        let path = paths::malformed(&random, some[number % 4]);
+        let near = paths::near(&random, some[number % 4]);
+        [path, near].map(|path| Some(kinds::of_path(&path, path_fault(&path)?)))
+    };
+    let counts = counted((0..30_000).flat_map(made).flatten());
+    assert_eq!(counts.len(), 2 + 15, "{counts:?}");
+    let mut sound = paths::PATHS.to_vec();
+    sound.retain(|path| path_fault(path).is_none());
+    assert_eq!(sound, [b"/".as_slice(), b"/a"]);
+}
+
+/// No byte; 5 bytes and others at the first place, 4 and others at the last and between.
+#[test]
+fn kinds_of_names() {
+    let random = Random::of(32, 0);
+    let made = |_| {
+        let name = bad_name(&random);
+        kinds::of_name(&name, subkey_fault(&name).unwrap())
+    };
+    let counts = counted((0..3000).map(made));
+    assert_eq!(counts.len(), 1 + 6 + 5 + 5, "{counts:?}");
 }
 
 /// 24 by where a string begins, and names that end at a zero or at the section's end. The image is the worked file, whose symbol section is `a`,
@@ -551,11 +860,7 @@ fn aims() {
     let mut unterminated = [0; 28];
     for number in 0..1500 {
         let image = image(20, number);
-        let reported = open(&image.bytes, &form_for(&image.bytes));
-        report.begin(20, number, &image);
-        report.opened(&image, &reported);
-        report.end(&image.bytes);
-        let verdict = reported.err().map_or(0, |refusal| refusal.0 as usize);
+        let verdict = judge(20, number, &image, &mut report);
         met[verdict] += 1;
         unterminated[verdict] += usize::from(last_byte(&image.bytes).is_some_and(|byte| byte != 0));
     }
@@ -565,6 +870,15 @@ fn aims() {
     assert_eq!(met[8], 0);
     let mut of_strings = [0, 10, 12, 25, 26, 27].into_iter();
     assert!(of_strings.all(|number| unterminated[number] > 2), "{unterminated:?}");
+}
+
+/// Opens an image and compares the verdict with what its maker knows; the number.
+fn judge(seed: u64, number: u64, image: &Image, report: &mut Report) -> usize {
+    let reported = open(&image.bytes, &form_for(&image.bytes));
+    report.begin(seed, number, image);
+    report.opened(image, &reported);
+    report.end(&image.bytes);
+    reported.err().map_or(0, |refused| refused.number as usize)
 }
 
 /// The last byte of an image's symbol section, if the header names one inside the image.

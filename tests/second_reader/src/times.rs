@@ -5,7 +5,7 @@
 use crate::answers::{decoded, judged, Choice, Element, Passed};
 use crate::format::{form_for, Edition, Kind, MOST};
 use crate::md5::md5;
-use crate::open::{open, Opened};
+use crate::open::{open, Opened, Refused};
 use crate::writer::{Writer, TEXT_AREA, TREE_AREA};
 use crate::Outcome;
 use std::error::Error;
@@ -99,7 +99,7 @@ fn digest(message: &[u8], times: &Times) -> Fallible<()> {
 /// Opening must hand back the number: 0 for acceptance, else the refusal's.
 fn opening(image: &[u8], expected: u32, times: &Times) -> Fallible<()> {
     let form = form_for(image);
-    let number = |reported: Result<Opened, (u32, u64)>| reported.err().map_or(0, |refusal| refusal.0);
+    let number = |reported: Result<Opened, Refused>| reported.err().map_or(0, |refused| refused.number);
     times.print(|_| number(black_box(open(black_box(image), &form))) == expected)
 }
 
@@ -144,8 +144,13 @@ fn lookup(image: &[u8], keys: &[Key], times: &Times) -> Fallible<()> {
     let passed = passed(image, &opened);
     times.print(|turn| {
         let key = &keys[turn % keys.len()];
-        let reported = judged(black_box(&passed)).and_then(|reader| reader.lookup(&key.path));
-        let expected = if key.node == 0 { Err(15) } else { Ok(key.node) };
+        let reader = judged(black_box(&passed)).map_err(|number| (number, 0));
+        let reported = reader.and_then(|reader| reader.lookup(&key.path));
+        let expected = if key.node == 0 {
+            Err((15, 0))
+        } else {
+            Ok(key.node)
+        };
         black_box(reported) == expected
     })
 }

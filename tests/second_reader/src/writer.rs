@@ -1,6 +1,6 @@
 //! A model of the writer, from document 01, "Writing keys": begin, make, put, close, their refusals, and their byte stores in order.
 
-use crate::format::{is_subkey, Edition, Entry, Kind, Refusal, LONGEST_IMAGE, MOST};
+use crate::format::{subkey_fault, Edition, Entry, Kind, Refusal, LONGEST_IMAGE, MOST};
 use crate::md5::md5;
 
 /// "The writer has a text area of 32,768 bytes (zeros counted) and a tree area of 51,200 bytes."
@@ -92,14 +92,14 @@ impl Writer {
         Ok(reported)
     }
 
-    /// "Make: 24, 22, 15, 14, 17, 20, 21." "Making a child stores nothing."
+    /// "Make: 24, 22, 15, 14, 17, 20, 21." "Making a child stores nothing." 14 reports the place in the name (C-18).
     pub fn make(&mut self, parent: u64, name: &[u8]) -> Reported {
         self.judge()?;
         if parent > self.record.nodes {
             return Err((15, 0));
         }
-        if !is_subkey(name) {
-            return Err((14, 0));
+        if let Some(place) = subkey_fault(name) {
+            return Err((14, place));
         }
         if self.has_child(parent, name) {
             return Err((17, 0));

@@ -92,9 +92,9 @@ pub record Copied (entry : ℕ → Entry) (n : ℕ) (parents names : List ℕ) :
 -- 11 to 13 by copied parents and string numbers.
 abbrev pub copiedChecks : ℕ → ℕ → List ℕ → List ℕ → ℕ → (ℕ → Entry) → List Check
 copiedChecks from size parents names nodes entry =
-    checkLowest 11 (lowestFrom (λ k. not (reachesBy (copiedParent parents) nodes k)) nodes 1)
-    ∷ checkLowest 12 (lowestFrom (siblingTaken parents names) nodes 1)
-    ∷ checkLowest 13 (lowestFrom (dataOutside from size entry) nodes 1)
+    checkLowest (refusalAt 11) (lowestFrom (λ k. not (reachesBy (copiedParent parents) nodes k)) nodes 1)
+    ∷ checkLowest (refusalAt 12) (lowestFrom (siblingTaken parents names) nodes 1)
+    ∷ checkLowest (refusalAt 13) (lowestFrom (dataOutside from size entry) nodes 1)
     ∷ []
 
 -- No two of n strings are equal.

@@ -9,10 +9,10 @@ use Rattle.aff_c.proofs.opening.put_numbers.Statement.{statement}
 use Rattle.aff_c.proofs.opening.put_numbers.Tie as tie
 
 abbrev Inv-loop : tie.InvT-loop
-Inv-loop output₀ numbers i₀ output i = Copied 12 numbers output₀ output i
+Inv-loop output₀ numbers i₀ output i = Copied 13 numbers output₀ output i
 
 abbrev μ-loop : tie.MeasureT-loop
-μ-loop output₀ numbers i₀ output i = 12 - i
+μ-loop output₀ numbers i₀ output i = 13 - i
 
 loop-holds : tie.Need-loop-holds Inv-loop μ-loop
 loop-holds c = copied-none
@@ -20,12 +20,12 @@ loop-holds c = copied-none
 loop-again : tie.Need-loop-again Inv-loop μ-loop
 loop-again c =
     let s = c .before .before in
-    let whole : length (s .args .t2) ≡ 12 = omega arith in
+    let whole : length (s .args .t2) ≡ 13 = omega arith in
     copied-next whole (c .before .loop .inv) (s .pre) (c .loop-test .taken)
 
 returns : tie.Need-returns Inv-loop μ-loop
 returns c =
-    let whole : length (c .before .before .args .t2) ≡ 12 = omega arith in
+    let whole : length (c .before .before .args .t2) ≡ 13 = omega arith in
     copied-all whole (c .before .loop .inv) (c .loop-test .left)
 
 pub put-numbers-spec : {M : Type 1} → statement M

@@ -15,10 +15,10 @@ returns c =
 
 returns-2 : tie.Need-returns-2
 returns-2 c =
-    let k = c .before .before .before in
+    let k = c .before .before .before .before in
     let z = k .before .before .before .before .before .before in
-    refuses (childChecks (z .args .writer) (z .args .text .now) (z .args .tree .now) (z .args .parent) (z .args .name .now)) _ _ _ _ _ (Malformed 0) refl (c .refused2 .ensures)
-    (rw (le-ltb _ _ (k .before .if1 .left), sym (k .subkey .ensures) ∙ c .before .enum-told .given .1))
+    refuses (childChecks (z .args .writer) (z .args .text .now) (z .args .tree .now) (z .args .parent) (z .args .name .now)) _ _ _ _ _ (Malformed _) refl (c .refused2 .ensures)
+    (rw (le-ltb _ _ (k .before .if1 .left), sym (k .subkey .ensures) ∙ c .before .before .place .given .1))
 
 returns-3 : tie.Need-returns-3
 returns-3 c =
@@ -27,7 +27,7 @@ returns-3 c =
     let k = t .before .before in
     let z = k .before .before .before .before .before .before in
     passes (childChecks (z .args .writer) (z .args .text .now) (z .args .tree .now) (z .args .parent) (z .args .name .now)) _ _ _ _ _ (namedChecks (z .args .writer) (z .args .text .now) (z .args .tree .now) (z .args .parent) (z .args .name .now)) (m .make-named .result)
-    (rw (le-ltb _ _ (k .before .if1 .left), sym (k .subkey .ensures) ∙ t .enum-told2 .given .1)) (m .make-named .ensures)
+    (rw (le-ltb _ _ (k .before .if1 .left), sym (k .subkey .ensures) ∙ t .enum-told .given .1)) (m .make-named .ensures)
 
 pub make-child-spec : {M : Type 1} → statement M
 make-child-spec =

@@ -25,8 +25,11 @@ copied-checks-requires c κs =
       p .3,
     )
 
+name-break-requires : tie.Need-name-break-requires
+name-break-requires c κs = c .before .before .before .before .before .before .before .before .before .before .before .pre .0
+
 returns : tie.Need-returns
-returns c = rw (sym (c .before .before .before .before .before .linked .ensures .0) ∙ c .before .k .given .1)
+returns c = let k = c .before .before in rw (sym (k .before .before .before .before .linked .ensures .0) ∙ k .k .given .1, c .name-break .ensures)
 
 returns-2 : tie.Need-returns-2
 returns-2 c =
@@ -42,5 +45,5 @@ returns-2 c =
 pub node-checks-spec : {M : Type 1} → statement M
 node-checks-spec =
     tie.close
-    (tie.spec (λ c. search needs) (λ c. search needs) linked-requires (λ c. search needs) (λ c. search needs) (λ c. search needs) (λ c. search needs)
+    (tie.spec (λ c. search needs) (λ c. search needs) linked-requires (λ c. search needs) name-break-requires (λ c. search needs) (λ c. search needs) (λ c. search needs)
     copied-checks-requires returns returns-2)

@@ -1,0 +1,41 @@
+-- Where a malformed name or path breaks (request C-18). 14 reports this place, and 10 reports it as its second number. `Breaks`, in
+-- crates/aff_format/specs/Breaks.antt, says the place for any language: the bytes before it can be continued to something sound, and with the byte there they
+-- cannot. `IsSubkey` and `WellFormed`, there in Subkey.antt and Path.antt, are document 01's two rules. (For lookup: `malformed` of Demand2.)
+use mathlib.Core.Path.{_≡_}
+use mathlib.Core.Bool.{true}
+use mathlib.Core.List.{List}
+use mathlib.Core.Logic.{_↔_}
+use Prim.Native.Nat.{ℕ, _≤_}
+use Rattle.aff_format.specs.Answer.{refused, refusalAt, refusalWith}
+use Rattle.aff_format.specs.Breaks.{Breaks}
+use Rattle.aff_format.specs.Path.{pathGrammar, WellFormed}
+use Rattle.aff_format.specs.Rule.{AllHold}
+use Rattle.aff_format.specs.Subkey.{subkeyFrom, IsSubkey}
+use Rattle.aff_format.specs.declared.edition.Edition.{Edition}
+use Rattle.aff_format.specs.declared.subkey.Grammar.the-variants.{BreaksAt}
+use Rattle.aff_open.specs.Faults.{rulesBefore10}
+use Rattle.aff_open.specs.Opening.{openAnswer}
+use Rattle.aff_open.specs.Rules.{FirstBadLink}
+use Rattle.aff_open.specs.Sections.{editionIn, stringsIn, nodesIn}
+use Rattle.aff_areas.specs.Belongs.{WriterBelongs}
+use Rattle.aff_areas.specs.Writer.{written}
+use Rattle.aff_areas.specs.declared.writer.Writer.{Writer}
+use Rattle.aff_make.specs.Make.{makeAnswer}
+
+pub record BreakPlaces : Type 1 where
+  -- The rule for a subkey and the grammar of a path find a fault at p exactly when p is where the bytes break.
+  pub subkey-breaks : (e : Edition) (name : List ℕ) (p : ℕ) → (subkeyFrom e 0 name ≡ BreaksAt p) ↔ Breaks (IsSubkey e) name p
+  pub path-breaks : (e : Edition) (path : List ℕ) (p : ℕ) → (pathGrammar e path ≡ BreaksAt p) ↔ Breaks (WellFormed e) path p
+  -- What is no subkey, and what is no well-formed path, breaks somewhere; and nothing breaks at two places, whatever the language.
+  pub no-subkey : (e : Edition) (name : List ℕ) → (IsSubkey e name → ⊥) → (p : ℕ) × Breaks (IsSubkey e) name p
+  pub no-path : (e : Edition) (path : List ℕ) → (WellFormed e path → ⊥) → (p : ℕ) × Breaks (WellFormed e) path p
+  pub one-place : (In : List ℕ → Type 0) (l : List ℕ) (p q : ℕ) → Breaks In l p → Breaks In l q → p ≡ q
+  -- Make, by a record of a live writer that belongs, below a node that exists: 14 with p exactly when p is where the name breaks.
+  pub make : (size : ℕ) (w : Writer) (text tree : List ℕ) (parent : ℕ) (name : List ℕ) → WriterBelongs size w text tree → w .live ≡ true → parent ≤ w .nodes
+      → (p : ℕ) → (makeAnswer size w text tree parent name ≡ refused (refusalAt 14 p)) ↔ Breaks (IsSubkey written) name p
+  -- Opening: 10 with node k and a second number exactly when all rules before hold, k is the lowest node whose parent or string does not exist or whose string is
+  -- no subkey, and the number is the one that `NameBreak` says.
+  pub opening : (image form : List ℕ) (strings entries k second : ℕ)
+      → (openAnswer image form strings entries ≡ refused (refusalWith 10 k second))
+      ↔ (AllHold (rulesBefore10 image form strings entries)
+      × FirstBadLink (editionIn image) (stringsIn (editionIn image) image) (nodesIn (editionIn image) image) k second)
