@@ -1,4 +1,5 @@
--- Where names and paths break: from the laws of the grammars, of 10 and of 14. Assumes nothing.
+-- Where names and paths break: from the laws of the grammars, of 10 and of 14; that no other number has a second number, from the rules of each call.
+-- Assumes nothing.
 use mathlib.Core.Path.{_≡_, refl, sym, _∙_}
 use mathlib.Core.Bool.{true}
 use mathlib.Core.List.{List, _∷_}
@@ -9,14 +10,22 @@ use Rattle.aff_format.specs.Answer.{refused, refusalAt, firstWrong}
 use Rattle.aff_format.specs.Breaks.{Breaks}
 use Rattle.aff_format.specs.Subkey.{subkeyFrom, checkGrammar, IsSubkey}
 use Rattle.aff_format.proofs.BreaksLaws.{subkey-breaks, path-breaks, no-subkey-breaks, no-path-breaks, breaks-once}
+use Rattle.aff_format.proofs.RefusalLaws.{rows-second}
+use Rattle.aff_format.proofs.RuleLaws.{by-second}
 use Rattle.aff_format.proofs.SubkeyLaws.{reports-14}
-use Rattle.aff_open.proofs.FaultLaws.{refused-10}
+use Rattle.aff_open.specs.Faults.{rules}
+use Rattle.aff_open.specs.Opening.{openAnswer}
+use Rattle.aff_open.proofs.FaultLaws.{refused-10, rules-second}
+use Rattle.aff_reader.specs.declared.reader.Reader.{Reader}
 use Rattle.aff_areas.specs.Belongs.{WriterBelongs}
 use Rattle.aff_areas.specs.Writer.{written}
 use Rattle.aff_areas.specs.declared.writer.Writer.{Writer}
 use Rattle.aff_areas.proofs.BelongsLaws.{record-belongs}
 use Rattle.aff_make.specs.Make.{namedChecks, makeAnswer}
-use Rattle.aff.specs.BreakPlaces.{BreakPlaces}
+use Rattle.aff_write.specs.Begin.{beginAnswer}
+use Rattle.aff.specs.BreakPlaces.{SecondBy10, BreakPlaces}
+use Rattle.aff.specs.Demand1.{EachReading, EachWriting}
+use Rattle.aff.proofs.RulesLaws.{opening-by, reading-by, begin-by, writing-by}
 
 module _ (size : ℕ) (w : Writer) (text tree : List ℕ) (parent : ℕ) (name : List ℕ)
     (b : WriterBelongs size w text tree) (live : w .live ≡ true) (there : parent ≤ w .nodes) where
@@ -31,6 +40,39 @@ module _ (size : ℕ) (w : Writer) (text tree : List ℕ) (parent : ℕ) (name :
       let s = subkey-breaks written name p in
       (λ h. s .0 (r .0 (from-14 ∙ h)), λ h. sym from-14 ∙ r .1 (s .1 h))
 
+-- ---- The second number, by the rules of each call.
+
+opening-second : (image form : List ℕ) (strings entries : ℕ) → SecondBy10 _ (openAnswer image form strings entries)
+opening-second image form strings entries =
+    by-second (rules image form strings entries) (openAnswer image form strings entries) (opening-by image form strings entries) (rules-second image form strings entries)
+
+reading-second : (image : List ℕ) (r : Reader) (strings entries : List ℕ) → EachReading SecondBy10 image r strings entries
+reading-second image r strings entries =
+    let b = reading-by image r strings entries in
+    record {
+      name = λ node. by-second _ _ (b .name node) (λ _. refl, (λ _. refl, tt));
+      kind = λ node. by-second _ _ (b .kind node) (λ _. refl, (λ _. refl, tt));
+      count = λ node. by-second _ _ (b .count node) (λ _. refl, (λ _. refl, tt));
+      view = λ node. by-second _ _ (b .view node) (λ _. refl, (λ _. refl, tt));
+      element = λ node index. by-second _ _ (b .element node index) (λ _. refl, (λ _. refl, (λ _. refl, tt)));
+      path = λ node size. by-second _ _ (b .path node size) (λ _. refl, (λ _. refl, (λ _. refl, tt)));
+      lookup = λ path. by-second _ _ (b .lookup path) (λ _. refl, (λ _. refl, (λ _. refl, tt)));
+      listing = λ choice size. by-second _ _ (b .listing choice size) (λ _. refl, (λ _. refl, tt));
+    }
+
+begin-second : (buffer form text tree : List ℕ) (allowance : ℕ) → SecondBy10 _ (beginAnswer buffer form text tree allowance)
+begin-second buffer form text tree allowance = by-second _ _ (begin-by buffer form text tree allowance) (λ _. refl, (λ _. refl, (λ _. refl, tt)))
+
+writing-second : (buffer : List ℕ) (w : Writer) (text tree : List ℕ) → EachWriting SecondBy10 buffer w text tree
+writing-second buffer w text tree =
+    let b = writing-by buffer w text tree in
+    record {
+      make = λ parent name. by-second _ _ (b .make parent name) (λ _. refl, (λ _. refl, (λ _. refl, (λ _. refl, (λ _. refl, (λ _. refl, (λ _. refl, tt)))))));
+      put = λ node type bytes allowance.
+          by-second _ _ (b .put node type bytes allowance) (λ _. refl, (λ _. refl, (λ _. refl, (λ _. refl, (λ _. refl, (λ _. refl, (λ _. refl, tt)))))));
+      close = λ allowance. by-second _ _ (b .close allowance) (λ _. refl, (λ _. refl, (λ _. refl, tt)));
+    }
+
 pub break-places : BreakPlaces
 break-places =
     record {
@@ -41,4 +83,9 @@ break-places =
       one-place = breaks-once;
       make = make-breaks;
       opening = refused-10;
+      opening-second = opening-second;
+      reading-second = reading-second;
+      begin-second = begin-second;
+      writing-second = writing-second;
+      row-second = rows-second;
     }

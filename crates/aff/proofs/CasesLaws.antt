@@ -7,7 +7,7 @@ use Prim.Native.Nat.{ℕ, _+_}
 use native.Mathlib.Numerals.{add-one}
 use lib.Dec.{ltb}
 use lib.ListN.{drop}
-use borrow.Author.Tests.{le-ltb, eqb-false}
+use borrow.Author.Tests.{le-ltb}
 use Rattle.aff_format.specs.Answer.{accepted, refused, Check, check, refusal, refusalAt, firstWrong}
 use Rattle.aff_format.specs.Bytes.{sameBytes}
 use Rattle.aff_format.specs.Element.{decoded, elementAt}
@@ -23,7 +23,7 @@ use Rattle.aff_format.specs.declared.kind.Kind.the-variants.{Void, Int}
 use Rattle.aff_format.specs.declared.lowest.Lowest.the-variants.{At}
 use Rattle.aff_format.specs.declared.refusal.RefusalCode.{RefusalCode}
 use Rattle.aff_format.specs.declared.subkey.Grammar.the-variants.{BreaksAt}
-use Rattle.aff_format.proofs.AnswerLaws.{Others, others-reported, others-both}
+use Rattle.aff_format.proofs.AnswerLaws.{Others, others-both}
 use Rattle.aff_format.proofs.EntryLaws.{length-entryBytes}
 use Rattle.aff_format.proofs.PathLaws.{path-complete}
 use Rattle.aff_format.proofs.SubkeyLaws.{sound-is}
@@ -36,6 +36,8 @@ use Rattle.aff_areas.specs.Belongs.{writerChecks}
 use Rattle.aff_areas.specs.Writer.{written}
 use Rattle.aff_areas.proofs.BelongsLaws.{record-belongs}
 use Rattle.aff_make.specs.Make.{namedChecks, makeAnswer}
+use Rattle.aff.specs.Demand1.{NotBy}
+use Rattle.aff.proofs.Demand1Laws.{others-not}
 use Rattle.aff.specs.Cases.{notSubkeyCase, entryCase, Holds, EachHolds, caseTable, LookupIs, MakeIs, Taken, EntryTakes}
 
 each-edition : (P : Edition → Type 0) → P One → P Two → (e : Edition) → P e
@@ -58,24 +60,24 @@ pass-over [] t after a = refl
 pass-over (check true q ∷ before) t after a = refl
 pass-over (check false q ∷ before) t after a = pass-over before t after a
 
--- So a call whose check for 14 finds nothing wrong never reports 14, with any place.
-never-14 : {A : Type 0} (before after : List Check) (a : A) (t : RefusalCode) (p : ℕ) → Others 14 before → Others 14 after
-    → firstWrong (before ++ (check false t ∷ after)) a ≡ refused (refusalAt 14 p) → ⊥
-never-14 before after a t p o q h =
-    eqb-false 14 14 (others-reported 14 (before ++ after) (others-both 14 before after o q) a (sym (pass-over before t after a) ∙ h)) refl
+-- So a call whose check for 14 finds nothing wrong is never refused by 14.
+never-14 : {A : Type 0} (before after : List Check) (a : A) (t : RefusalCode) → Others 14 before → Others 14 after → NotBy 14 (firstWrong (before ++ (check false t ∷ after)) a)
+never-14 before after a t o p u h = others-not 14 (before ++ after) a (others-both 14 before after o p) u (sym (pass-over before t after a) ∙ h)
 
 -- What is a path of one subkey in both editions, and a subkey of the edition that is written, is never 14.
 taken : (name : List ℕ) → isPath One (47 ∷ name) ≡ true → isPath Two (47 ∷ name) ≡ true → isSubkey written name ≡ true → Taken name
 unfolding lookupAnswer makeAnswer
 taken name one two is =
     record {
-      in-path = λ place image reader strings entries h.
-          never-14 (check (not (readerBelongs image reader strings entries)) (refusal 24) ∷ [])
+      in-path = λ image reader strings entries.
+          rw (each-edition (λ e. isPath e (47 ∷ name) ≡ true) one two (editionBy reader))
+          (never-14 (check (not (readerBelongs image reader strings entries)) (refusal 24) ∷ [])
           (check (not (isAt (found image reader strings entries (47 ∷ name)))) (refusal 15) ∷ []) (lowestOr0 (found image reader strings entries (47 ∷ name)))
-          (refusalAt 14 (breakPlace (pathGrammar (editionBy reader) (47 ∷ name)))) place refl refl (rw (each-edition (λ e. isPath e (47 ∷ name) ≡ true) one two (editionBy reader)) at h);
-      as-child = λ place buffer writer text tree parent h.
-          never-14 (writerChecks buffer writer text tree ++ (check (ltb (writer .nodes) parent) (refusal 15) ∷ [])) (namedChecks writer text tree parent name) (writer .nodes + 1)
-          (refusalAt 14 (breakPlace (subkeyFrom written 0 name))) place refl refl (rw is at h);
+          (refusalAt 14 (breakPlace (pathGrammar (editionBy reader) (47 ∷ name)))) refl refl);
+      as-child = λ buffer writer text tree parent.
+          rw is
+          (never-14 (writerChecks buffer writer text tree ++ (check (ltb (writer .nodes) parent) (refusal 15) ∷ [])) (namedChecks writer text tree parent name) (writer .nodes + 1)
+          (refusalAt 14 (breakPlace (subkeyFrom written 0 name))) refl refl);
     }
 
 -- Whether a name is a subkey.

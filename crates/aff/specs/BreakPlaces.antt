@@ -1,17 +1,21 @@
--- Where a malformed name or path breaks (request C-18). 14 reports this place, and 10 reports it as its second number. `Breaks`, in
--- crates/aff_format/specs/Breaks.antt, says the place for any language: the bytes before it can be continued to something sound, and with the byte there they
--- cannot. `IsSubkey` and `WellFormed`, there in Subkey.antt and Path.antt, are document 01's two rules. (For lookup: `malformed` of Demand2.)
+-- Where a malformed name or path breaks (request C-18). 14 reports this place, and 10 reports it as its second number where its node's name breaks. `Breaks`,
+-- in crates/aff_format/specs/Breaks.antt, defines the place for any language: the bytes before it can be continued to a list in the language, and with the byte
+-- there, if there is one, they cannot. `IsSubkey` and `WellFormed`, there in Subkey.antt and Path.antt, are document 01's two rules. (For lookup: `malformed` of
+-- Demand2.)
 use mathlib.Core.Path.{_≡_}
 use mathlib.Core.Bool.{true}
 use mathlib.Core.List.{List}
 use mathlib.Core.Logic.{_↔_}
 use Prim.Native.Nat.{ℕ, _≤_}
-use Rattle.aff_format.specs.Answer.{refused, refusalAt, refusalWith}
+use Rattle.aff_format.specs.Answer.{Answer, refused, refusalAt, refusalWith, SecondOf10}
 use Rattle.aff_format.specs.Breaks.{Breaks}
 use Rattle.aff_format.specs.Path.{pathGrammar, WellFormed}
+use Rattle.aff_format.specs.Refusal.{codeOfRefusal}
 use Rattle.aff_format.specs.Rule.{AllHold}
 use Rattle.aff_format.specs.Subkey.{subkeyFrom, IsSubkey}
 use Rattle.aff_format.specs.declared.edition.Edition.{Edition}
+use Rattle.aff_format.specs.declared.refusal.Refusal.{Refusal}
+use Rattle.aff_format.specs.declared.refusal.RefusalCode.{RefusalCode}
 use Rattle.aff_format.specs.declared.subkey.Grammar.the-variants.{BreaksAt}
 use Rattle.aff_open.specs.Faults.{rulesBefore10}
 use Rattle.aff_open.specs.Opening.{openAnswer}
@@ -21,6 +25,13 @@ use Rattle.aff_areas.specs.Belongs.{WriterBelongs}
 use Rattle.aff_areas.specs.Writer.{written}
 use Rattle.aff_areas.specs.declared.writer.Writer.{Writer}
 use Rattle.aff_make.specs.Make.{makeAnswer}
+use Rattle.aff_reader.specs.declared.reader.Reader.{Reader}
+use Rattle.aff_write.specs.Begin.{beginAnswer}
+use Rattle.aff.specs.Demand1.{EachReading, EachWriting}
+
+-- An answer has a second number only where it is a refusal by 10.
+abbrev pub SecondBy10 : (A : Type 0) → Answer A → Type 0
+SecondBy10 A answer = (t : RefusalCode) → answer ≡ refused t → SecondOf10 t
 
 pub record BreakPlaces : Type 1 where
   -- The rule for a subkey and the grammar of a path find a fault at p exactly when p is where the bytes break.
@@ -39,3 +50,9 @@ pub record BreakPlaces : Type 1 where
       → (openAnswer image form strings entries ≡ refused (refusalWith 10 k second))
       ↔ (AllHold (rulesBefore10 image form strings entries)
       × FirstBadLink (editionIn image) (stringsIn (editionIn image) image) (nodesIn (editionIn image) image) k second)
+  -- Every other refusal has the second number 0: of each call, for every image, record, memory and argument, and of each value of `Refusal`.
+  pub opening-second : (image form : List ℕ) (strings entries : ℕ) → SecondBy10 _ (openAnswer image form strings entries)
+  pub reading-second : (image : List ℕ) (r : Reader) (strings entries : List ℕ) → EachReading SecondBy10 image r strings entries
+  pub begin-second : (buffer form text tree : List ℕ) (allowance : ℕ) → SecondBy10 _ (beginAnswer buffer form text tree allowance)
+  pub writing-second : (buffer : List ℕ) (w : Writer) (text tree : List ℕ) → EachWriting SecondBy10 buffer w text tree
+  pub row-second : (r : Refusal) → SecondOf10 (codeOfRefusal r)

@@ -21,6 +21,7 @@ use Rattle.aff_read.specs.Paths.{lookupAnswer}
 use Rattle.aff_areas.specs.Belongs.{WriterBelongs}
 use Rattle.aff_areas.specs.declared.writer.Writer.{Writer}
 use Rattle.aff_make.specs.Make.{makeAnswer}
+use Rattle.aff.specs.Demand1.{NotBy}
 
 pub data Case : Type 0 where
   -- A path, and what a lookup of it answers.
@@ -51,8 +52,8 @@ EntryTakes kind size = (e : Entry) → e .kind ≡ kind → length (entryBytes e
 
 -- A name that is a subkey is never 14, neither in a path nor as the name of a new child.
 pub record Taken (name : List ℕ) : Type 0 where
-  pub in-path : (place : ℕ) (image : List ℕ) (reader : Reader) (strings entries : List ℕ) → lookupAnswer image reader strings entries (47 ∷ name) ≡ refused (refusalAt 14 place) → ⊥
-  pub as-child : (place size : ℕ) (writer : Writer) (text tree : List ℕ) (parent : ℕ) → makeAnswer size writer text tree parent name ≡ refused (refusalAt 14 place) → ⊥
+  pub in-path : (image : List ℕ) (reader : Reader) (strings entries : List ℕ) → NotBy 14 (lookupAnswer image reader strings entries (47 ∷ name))
+  pub as-child : (size : ℕ) (writer : Writer) (text tree : List ℕ) (parent : ℕ) → NotBy 14 (makeAnswer size writer text tree parent name)
 
 -- What a row says. A name that is no subkey is 14 in a path, after its slash, and 14 as the name of a new child, each with its own place (request C-18).
 abbrev pub Holds : Case → Type 0

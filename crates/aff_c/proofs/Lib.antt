@@ -3,3 +3,4 @@ mod OpeningLaws
 mod ReadingLaws
 mod WritingLaws
 mod WithdrawnLaws
+mod PlacesLaws

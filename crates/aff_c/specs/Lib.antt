@@ -3,3 +3,4 @@ pub mod Opening
 pub mod Reading
 pub mod Writing
 pub mod Withdrawn
+pub mod Places

@@ -7,7 +7,7 @@ use mathlib.Core.Logic.{inl, inr, ⊎-elim, _↔_}
 use Prim.Native.Nat.{ℕ, zero, suc, _+_, _≤_, _<_}
 use native.Mathlib.Nat.{eq-or-lt-of-le}
 use native.Mathlib.Omega.{arith}
-use Rattle.aff_format.specs.Answer.{Answer, accepted, refused, Check, check, unless, firstWrong}
+use Rattle.aff_format.specs.Answer.{Answer, accepted, refused, SecondOf10, Check, check, unless, firstWrong}
 use Rattle.aff_format.specs.Lowest.{lowestFrom, checkLowest}
 use Rattle.aff_format.specs.declared.refusal.RefusalCode.{RefusalCode}
 use Rattle.aff_format.specs.declared.lowest.Lowest.{Lowest}
@@ -123,6 +123,30 @@ unfolding eachFrom
 each-append report holds rs more zero k = refl
 each-append report holds rs more (suc left) k = rw (each-append report holds rs more left (k + 1))
 
+-- Each of the rules reports a second number with 10 alone; so does the first that fails.
+abbrev pub EachSecondOf10 : List Rule → Type 0
+EachSecondOf10 [] = Unit {0}
+EachSecondOf10 (rule holds t ∷ rs) = SecondOf10 t × EachSecondOf10 rs
+
+first-second : (rs : List Rule) (t : RefusalCode) → EachSecondOf10 rs → FirstFails rs t → SecondOf10 t
+first-second [] t o f = absurd f
+first-second (rule p u ∷ rs) t o (inl f) = subst SecondOf10 (f .1) (o .0)
+first-second (rule p u ∷ rs) t o (inr f) = first-second rs t (o .1) (f .1)
+
+pub each-second : (report : ℕ → RefusalCode) → ((k : ℕ) → SecondOf10 (report k)) → (holds : ℕ → Type 0) (rs : List Rule) (left k : ℕ)
+    → EachSecondOf10 rs → EachSecondOf10 (eachFrom report holds left k rs)
+unfolding eachFrom
+each-second report h holds rs zero k o = o
+each-second report h holds rs (suc left) k o = (h k, each-second report h holds rs left (k + 1) o)
+
+pub both-second : (before rs : List Rule) → EachSecondOf10 before → EachSecondOf10 rs → EachSecondOf10 (before ++ rs)
+both-second [] rs o p = p
+both-second (rule holds t ∷ before) rs o p = (o .0, both-second before rs (o .1) p)
+
+pub by-second : {A : Type 0} (rs : List Rule) {Right : A → Type 0} (answer : Answer A) → By rs Right answer → EachSecondOf10 rs
+    → (t : RefusalCode) → answer ≡ refused t → SecondOf10 t
+by-second rs answer b o t h = first-second rs t o (b .refuses t .0 h)
+
 -- Of the `left` numbers from `first` on, k is the lowest for which the rule fails.
 pub record LowestFails (holds : ℕ → Type 0) (left first k : ℕ) : Type 0 where
   pub least : first ≤ k
@@ -130,7 +154,7 @@ pub record LowestFails (holds : ℕ → Type 0) (left first k : ℕ) : Type 0 wh
   pub fails : holds k → ⊥
   pub before : (j : ℕ) → first ≤ j → j < k → holds j
 
--- A refusal t whose number one group of rules alone reports: it is reported exactly where all rules before the group hold, and t is what is said of the lowest
+-- A refusal t whose number one group of rules alone reports: it is reported exactly where all rules before the group hold, and t is `report` of the lowest
 -- number for which a rule of the group fails.
 module _ (t : RefusalCode) where
   not-reported : (rs : List Rule) → OtherNumbers (t .number) rs → FirstFails rs t → ⊥

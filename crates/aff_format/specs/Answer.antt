@@ -5,7 +5,7 @@ use mathlib.Core.List.{List, [], _∷_}
 use Prim.Native.Nat.{ℕ}
 use Rattle.aff_format.specs.declared.refusal.RefusalCode.{RefusalCode}
 
--- A refusal that reports its number; one that reports a place besides; and one that reports a place and a second number (10, by request C-18).
+-- A refusal that reports its number; its number and a place; and its number, a place and a second number (10, by request C-18).
 abbrev pub refusal : ℕ → RefusalCode
 refusal n = record { number = n; place = 0; second = 0 }
 
@@ -14,6 +14,10 @@ refusalAt n p = record { number = n; place = p; second = 0 }
 
 abbrev pub refusalWith : ℕ → ℕ → ℕ → RefusalCode
 refusalWith n p q = record { number = n; place = p; second = q }
+
+-- A second number is reported with 10 alone: with any other number it is 0.
+abbrev pub SecondOf10 : RefusalCode → Type 0
+SecondOf10 t = (t .number ≡ 10 → ⊥) → t .second ≡ 0
 
 -- An accepted call's value, or a refusal.
 pub data Answer (A : Type 0) : Type 0 where

@@ -39,7 +39,7 @@ use Rattle.aff_reader.specs.declared.reader.Reader.{Reader}
 use Rattle.aff_tables.proofs.LinkLaws.{link-asks, repeat-asks, repeat-found}
 use Rattle.aff_format.proofs.EntryLaws.{data-asks}
 use Rattle.aff_open.proofs.TablesLaws.{lengths-right}
-use Rattle.aff_format.proofs.RuleLaws.{AskFor, none, one, each, Each, settled, all-accept, first-refuses, OtherNumbers, other-each, other-both, each-append, LowestFails, each-reported}
+use Rattle.aff_format.proofs.RuleLaws.{AskFor, none, one, each, Each, settled, all-accept, first-refuses, EachSecondOf10, each-second, both-second, OtherNumbers, other-each, other-both, each-append, LowestFails, each-reported}
 use Rattle.aff_open.proofs.SectionLaws.{known-is, text-known, known-text}
 use Rattle.aff_tables.proofs.TreeTableLaws.{empty-is}
 
@@ -313,3 +313,18 @@ module _ (image form : List ℕ) (strings entries : ℕ) where
             (reported .1
             (b, (k, record { least = r .no-root; most = omega (arith, r .exists); fails = r .bad; before = r .lowest }, ap (refusalWith 10 k) (is-break e ss es k second (r .in-name)))))),
       )
+
+  -- No rule but 10's reports a second number.
+  nodes-second : EachSecondOf10 (nodeRules (editionIn image) image (stringsIn (editionIn image) image) (nodesIn (editionIn image) image))
+  nodes-second =
+      let n = length (nodesIn (editionIn image) image) in
+      each-second (badLink (editionIn image) (contentsIn (editionIn image) image)) (λ k other. absurd (other refl)) _ _ n 1
+      (each-second (refusalAt 11) (λ k _. refl) _ _ n 1 (each-second (refusalAt 12) (λ k _. refl) _ _ n 1 (each-second (refusalAt 13) (λ k _. refl) _ [] n 1 tt)))
+
+  pub rules-second : EachSecondOf10 (rules image form strings entries)
+  unfolding rules
+  rules-second =
+      let ss = stringsIn (editionIn image) image in
+      both-second (rulesBefore27 image form strings entries) (rulesFrom27 (editionIn image) image ss (nodesIn (editionIn image) image))
+      (λ _. refl, (λ _. refl, (λ _. refl, (λ _. refl, (λ _. refl, (λ _. refl, (λ _. refl, (λ _. refl, (λ _. refl, (λ _. refl, (λ _. refl, (λ _. refl, (λ _. refl, (λ _. refl, tt))))))))))))))
+      (each-second (refusalAt 27) (λ k _. refl) (Unrepeated ss) _ (length ss) 0 (λ _. refl, (λ _. refl, nodes-second)))

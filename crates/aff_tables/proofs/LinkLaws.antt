@@ -1,7 +1,7 @@
 -- Parents, string numbers and names of the nodes: what the pass over them keeps, and the tests 27 and 10 to 13 by what they go by. Tests that
 -- agree node by node have the same lowest node. Assumes nothing.
 use mathlib.Core.Path.{_≡_, refl, sym, ap, _∙_}
-use mathlib.Core.Bool.{Bool, true, false, cond, not, _&&_, _||_}
+use mathlib.Core.Bool.{Bool, true, false, cond, not, _&&_, _||_, true≢false}
 use mathlib.Core.List.{List, []}
 use mathlib.Core.Logic.{⊎-elim, _↔_}
 use Prim.Native.Nat.{ℕ, _+_, _-_, _≤_, _<_}
@@ -31,7 +31,7 @@ use Rattle.aff_tables.specs.passes.Distinct.{siblingTaken}
 use Rattle.aff_format.specs.Entry.{noParent, outside}
 use Rattle.aff_tables.specs.Nodes.{Contents, linkWrong, nameBreak, climbEndless, nameTaken, dataOutside}
 use Rattle.aff_tables.specs.passes.Results.{bit, Judged, linkBad, Copied, AllDistinct}
-use Rattle.aff_format.specs.Recorded.{nameFrom, recordedString}
+use Rattle.aff_format.specs.Recorded.{nameFrom}
 use Rattle.aff_tables.specs.Tables.{repeats}
 use Rattle.aff_tables.proofs.ParentLaws.{reaches-same}
 use Rattle.aff_format.proofs.RecordedLaws.{name-part}
@@ -42,38 +42,38 @@ pub judged-name : (e : Edition) (image : List ℕ) (from end to : ℕ) (found g 
     → bit (isSound g) ≡ bit (isSubkey e (nameFrom image end from))
 judged-name e image from end to found g h t r q = rw (← q, r, name-part image end from to (h .0) (h .1) t, sound-shift e from (nameFrom image end from))
 
--- The place at which a string breaks, by the place in the image that the code has.
-module _ (e : Edition) (image : List ℕ) (end : ℕ) (places : List ℕ) (strings : ℕ) (entry : Entry) where
-  pub break-none : strings ≤ entry .string → 0 ≡ nameBreak e strings (recordedString image end places) entry
+-- The place at which a string breaks, by the place in the image that the rule finds.
+module _ (e : Edition) (image : List ℕ) (from end to : ℕ) (g : Grammar) (within : (from ≤ end) × (end ≤ length image))
+    (ends : to ≡ from + length (nameFrom image end from)) (finds : g ≡ subkeyFrom e from (part from (to - from) image)) where
+  abbrev alone : Grammar
+  alone = subkeyFrom e 0 (nameFrom image end from)
+
+  finds-shifted : g ≡ shifted from alone
+  finds-shifted = finds ∙ rw (name-part image end from to (within .0) (within .1) ends) (subkey-shift e from (nameFrom image end from))
+
+  pub break-sound : g ≡ Sound → 0 ≡ breakPlace alone
+  break-sound q = go alone (sym finds-shifted ∙ q)
+    where
+      go : (r : Grammar) → shifted from r ≡ Sound → 0 ≡ breakPlace r
+      go Sound h = refl
+      go (BreaksAt o) h = absurd (true≢false (sym (ap isSound h)))
+
+  pub break-at : (p : ℕ) → g ≡ BreaksAt p → (from ≤ p) × (p - from ≡ breakPlace alone)
+  break-at p q = go alone (sym finds-shifted ∙ q)
+    where
+      go : (r : Grammar) → shifted from r ≡ BreaksAt p → (from ≤ p) × (p - from ≡ breakPlace r)
+      go Sound h = absurd (true≢false (ap isSound h))
+      go (BreaksAt o) h = let n : from + o ≡ p = ap breakPlace h in (omega arith, omega arith)
+
+-- The second number of 10, by whether the string exists.
+module _ (e : Edition) (strings : ℕ) (string : ℕ → List ℕ) (entry : Entry) where
+  pub break-none : strings ≤ entry .string → 0 ≡ nameBreak e strings string entry
   unfolding nameBreak
   break-none h = rw (le-leb strings (entry .string) h)
 
-  module _ (exists : entry .string < strings) (from to : ℕ) (g : Grammar) (within : (from ≤ end) × (end ≤ length image))
-      (begins : from ≡ getD places (entry .string) 0) (ends : to ≡ from + length (nameFrom image end from))
-      (finds : g ≡ subkeyFrom e from (part from (to - from) image)) where
-    abbrev alone : Grammar
-    alone = subkeyFrom e 0 (recordedString image end places (entry .string))
-
-    finds-shifted : g ≡ shifted from alone
-    finds-shifted = finds ∙ rw (name-part image end from to (within .0) (within .1) ends, subkey-shift e from, begins)
-
-    break-found : breakPlace g - from ≡ nameBreak e strings (recordedString image end places) entry
-    unfolding nameBreak
-    break-found = rw (finds-shifted, lt-leb strings (entry .string) exists) (go alone)
-      where
-        go : (r : Grammar) → breakPlace (shifted from r) - from ≡ breakPlace r
-        go Sound = omega arith
-        go (BreaksAt p) = omega arith
-
-    pub break-sound : g ≡ Sound → 0 ≡ nameBreak e strings (recordedString image end places) entry
-    break-sound q = let n = ap breakPlace q in omega (arith, break-found)
-
-    pub break-at : (p : ℕ) → g ≡ BreaksAt p → (from ≤ p) × (p - from ≡ nameBreak e strings (recordedString image end places) entry)
-    break-at p q = (go alone (sym finds-shifted ∙ q), let n = ap breakPlace q in omega (arith, break-found))
-      where
-        go : (r : Grammar) → shifted from r ≡ BreaksAt p → from ≤ p
-        go Sound h = absurd (let z : _≡_ {A = ℕ} 0 1 = cc in omega arith)
-        go (BreaksAt o) h = let n : from + o ≡ p = ap breakPlace h in omega arith
+  pub break-some : entry .string < strings → breakPlace (subkeyFrom e 0 (string (entry .string))) ≡ nameBreak e strings string entry
+  unfolding nameBreak
+  break-some h = rw (lt-leb strings (entry .string) h)
 
 pub judged-more : (e : Edition) (image : List ℕ) (end : ℕ) (places : List ℕ) (i : ℕ) (sound : List ℕ) (p v : ℕ) → i < length sound
     → Judged e image end places i sound → p ≡ getD places i 0 → v ≡ bit (isSubkey e (nameFrom image end p))

@@ -9,7 +9,7 @@ ghost use mathlib.Core.Path.{_≡_};
 ghost use Prim.Native.Nat.{_≤_, _<_};
 ghost use lib.ListN.{length};
 ghost use Rattle.aff_format.specs.Lowest.{lowestFrom};
-ghost use Rattle.aff_format.specs.Subkey.{isSubkey};
+ghost use Rattle.aff_format.specs.Subkey.{subkeyFrom, breakPlace, isSubkey};
 ghost use Rattle.aff_format.specs.declared.lowest.Lowest.the-variants.{Nothing};
 ghost use Rattle.aff_tables.specs.passes.Distinct.{Places};
 ghost use Rattle.aff_tables.specs.Nodes.{linkWrong, nameBreak, recordedContents};
@@ -110,8 +110,19 @@ pub fn linked(
     links(image, entries, nodes, strings, &sound, parents, names)
 }
 
-// The place in a node's name at which it breaks the rule for a subkey; 0 where its string does not exist or is one. Reads the entry, and its string where
-// there is one.
+// The place in the string that begins at a place of the image, counted from there, at which it breaks the rule for a subkey; 0 where it is one.
+fn break_in(image: &[u8], edition: Edition, from: usize, end: usize) -> usize
+    requires { ⌜ (from ≤ end) × (end ≤ length (now image)) ⌝ }
+    ensures { λ r. ⌜ r ≡ breakPlace (subkeyFrom edition 0 (nameFrom (now (image .entry)) end from)) ⌝ }
+{
+    let to = recorded::name_end(image, from, end);
+    match subkey::subkey_within(edition, image, from, to) {
+        Grammar::Sound => 0,
+        Grammar::BreaksAt(place) => place - from,
+    }
+}
+
+// The second number of 10: the place at which a node's name breaks, 0 where its string does not exist. Reads the entry, and its string where there is one.
 pub fn name_break(
     image: &[u8],
     edition: Edition,
@@ -129,10 +140,5 @@ pub fn name_break(
     if strings <= string {
         return 0;
     }
-    let from = recorded::place(places, string);
-    let to = recorded::name_end(image, from, end);
-    match subkey::subkey_within(edition, image, from, to) {
-        Grammar::Sound => 0,
-        Grammar::BreaksAt(place) => place - from,
-    }
+    break_in(image, edition, recorded::place(places, string), end)
 }
