@@ -14,6 +14,8 @@
 //   - 256 KiB of stack are left. No call needs more; docs/SPEED.md has the measured figures.
 //
 // Every function but aff_form_for returns AFF_OK or one of the numbers below.
+//
+// Programs that were compiled with a header in which AFF_RECORD is 12 must be compiled again: aff_lookup has one more output, place.
 #ifndef AFF_H
 #define AFF_H
 
@@ -38,11 +40,11 @@ enum {
     AFF_ERR_SECTION_SUM = 7,       // A section's MD5 sum is wrong. Place: 1 symbols, 2 tree, 3 data.
     AFF_ERR_SYMBOLS = 8,           // Withdrawn; no call returns it. In old logs: the symbol table's last byte is not zero, or, before 25 to 27 were added, one of these.
     AFF_ERR_TREE = 9,              // A tree entry is cut short, of no type, or the 2,049th. Place: the entry; 0 if their number is not the header's.
-    AFF_ERR_NODE = 10,             // A node's parent or string does not exist, or its name is malformed. Place: the lowest such node. record[12]: the place in its name.
+    AFF_ERR_NODE = 10,             // A node's parent or string does not exist, or its name is malformed. Place: the lowest such node. record[12]: where its name is malformed, else 0.
     AFF_ERR_CYCLE = 11,            // A node's parents do not lead to the root. Place: the lowest such node.
     AFF_ERR_SIBLING = 12,          // A node has the name of a sibling with a lower number. Place: the lowest such node.
     AFF_ERR_DATA = 13,             // A node's data is not inside the data section. Place: the lowest such node.
-    AFF_ERR_NAME = 14,             // The path or the name is malformed. Place: the first byte that breaks the rule; see aff_lookup and aff_make.
+    AFF_ERR_NAME = 14,             // The path or the name is malformed. Place: the first byte that breaks the rule, or the length if it ends too early; see aff_lookup and aff_make.
     AFF_ERR_NOT_FOUND = 15,        // No node has that path or number.
     AFF_ERR_INDEX = 16,            // The index is not below the number of elements.
     AFF_ERR_EXISTS = 17,           // The parent has a child of that name already.

@@ -27,7 +27,7 @@ static const char *meaning(uint32_t number) {
         "the parents of this node do not lead to the root",
         "this node has the name of a sibling",
         "the data of this node are not inside the data section",
-        "the path or name is malformed at this byte, counted from 0; a path is / or /name/name",
+        "the path or name is malformed at this place, counted from 0; a path is / or /name/name",
         "no node has this path or number",
         "the node has no element of this index",
         "the parent has a child of this name already",

@@ -393,7 +393,7 @@ static void places_in_paths(const uint8_t *worked) {
     for (int k = 0; k < ALL_NAMES; k++) {
         path[0] = '/';
         memcpy(path + 1, NAMES[k].bytes, NAMES[k].length);
-        // Behind a slash a name has its fault one place later. Left out: no name, and names with a slash, which is a fault in a name only.
+        // After a slash a name has its fault one place later. Left out: no name, and names with a slash, which is a fault in a name only.
         if (NAMES[k].length != 0 && NAMES[k].bytes[NAMES[k].place] != '/') {
             looked_up(worked, WORKED, path, NAMES[k].length + 1, AFF_ERR_NAME, NAMES[k].place + 1);
         }

@@ -42,7 +42,7 @@ COMPARED = [
 
 # Malformed paths, and what the sample program prints: the path with the place in it, and a caret below the path.
 POINTED = [
-    ("/a b", "/a b: refused 14 2: the path or name is malformed at this byte, counted from 0; a path is / or /name/name\n/a b\n  ^\n"),
+    ("/a b", "/a b: refused 14 2: the path or name is malformed at this place, counted from 0; a path is / or /name/name\n/a b\n  ^\n"),
     ("/a/n/", "refused 14 5: "),
     ("/a/n/", "\n/a/n/\n     ^\n"),
     ("//a", "\n//a\n ^\n"),

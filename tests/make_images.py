@@ -126,7 +126,7 @@ def refused(n, p=0, second=0):
 
 
 def malformed(node, name, place):
-    """10 at a node whose name is malformed: the second number is the place in the name, said by hand."""
+    """10 at a node whose name is malformed: the second number is the place in the name, written by hand."""
     assert fault(name) == place, (name, place)
     return refused(10, node, place)
 

@@ -1,8 +1,8 @@
 #!/usr/bin/env python3
 """Makes the images and paths of the test program test_lookup: lookups of well-formed and of malformed paths, in both editions.
 
-It shares no code with the library: it is written from document 01 and request C-18. Where a path breaks is worked out as that place up to which it can be
-continued to a path; the request's own cases are said by hand besides. It writes crates/test_lookup/stdin (an image, its paths, each after a `p`, and an
+It shares no code with the library: it is written from document 01 and request C-18. Where a path breaks is computed as the length of the longest beginning that
+can be continued to a path; the request's own cases are written by hand besides. It writes crates/test_lookup/stdin (an image, its paths, each after a `p`, and an
 empty part, each after its length in 4 bytes) and crates/test_lookup/stdout.
 
     tests/make_lookups.py [FOLDER]      FOLDER: where these are written, the repository where none is given
@@ -18,7 +18,7 @@ PATH = re.compile(rb"(/|(/" + KEY + rb")+)\Z")
 FRONT = re.compile(rb"(|/|(/" + KEY + rb")+/?)\Z")
 NODES = {b"/": 0, b"/a": 1, b"/a/n": 2}
 
-# Said by hand: the place at which each breaks.
+# Written by hand: the place at which each breaks.
 BREAKS = {
     b"": 0, b"a": 0, b"a/n": 0, b"9": 0, b" /a": 0, b"\0": 0, b"\xff": 0, b"//": 1, b"//a": 1, b"///": 1, b"/9a": 1, b"/9": 1, b"/-a": 1, b"/.": 1, b"/ ": 1,
     b"/\0": 1, b"/\xff": 1, b"/a b": 2, b"/a b/9": 2, b"/a ": 2, b"/a\0": 2, b"/a\0/n": 2, b"/a\xff": 2, b"/a/": 3, b"/a//": 3, b"/a//n": 3, b"/a/9": 3,

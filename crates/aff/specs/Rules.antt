@@ -55,7 +55,7 @@ module _ (image : List ℕ) (r : Reader) (strings entries : List ℕ) where
   abbrev pub elementRules : ℕ → ℕ → List Rule
   elementRules node index = existsRules node (rule (index < countAt image entries node) (refusal 16) ∷ [])
 
-  -- Lookup: 24; 14, the path is well-formed, else where it breaks; 15, some node has it.
+  -- Lookup: 24; 14, the path is well-formed (reported with the place at which it breaks); 15, some node has it.
   abbrev pub lookupRules : List ℕ → List Rule
   lookupRules path =
       rule (here ReaderBelongs) (refusal 24)
@@ -113,7 +113,8 @@ module _ (buffer : List ℕ) (w : Writer) (text tree : List ℕ) where
   abbrev pub Few : List ℕ → Type 0
   Few name = (w .nodes + 1 ≤ nodeLimit) × (w .strings + addedStrings w text name ≤ stringLimit) × (w .text + addedText w text name ≤ textArea)
 
-  -- Make: 24, 22; 15, the parent exists; 14, the name is a subkey, else where it breaks; 17; 20; 21, the finished size, with a Void entry and the text added, fits the buffer.
+  -- Make: 24, 22; 15, the parent exists; 14, the name is a subkey (reported with the place at which it breaks); 17; 20; 21, the finished size, with a Void
+  -- entry and the text added, fits the buffer.
   abbrev pub makeRules : ℕ → List ℕ → List Rule
   makeRules parent name =
       writerRules

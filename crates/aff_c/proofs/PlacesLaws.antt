@@ -1,40 +1,71 @@
 -- The places that C programs get: from `break-places` and demand 2 of the crate `aff`. Assumes nothing.
-use mathlib.Core.Path.{_≡_, refl, sym, ap, _∙_, subst}
-use mathlib.Core.Bool.{Bool, true, false, cond, true≢false}
-use mathlib.Core.List.{List, [], _∷_, _++_}
+use mathlib.Core.Path.{_≡_, refl, sym, ap, _∙_}
+use mathlib.Core.Bool.{true}
+use mathlib.Core.List.{List}
 use mathlib.Core.Logic.{_↔_, inl, inr}
-use Prim.Native.Nat.{ℕ, _≤_}
+use Prim.Native.Nat.{ℕ, _≤_, _<_}
 use native.Mathlib.Omega.{arith}
-use lib.Dec.{leb}
-use lib.ListN.{length, getD, drop}
+use lib.ListN.{length, getD}
+use lib.Seq.{getD-set-same}
 use borrow.Author.Tests.{le-leb}
 use Rattle.aff_format.specs.Answer.{Answer, accepted, refused, refusalAt, refusalWith}
 use Rattle.aff_format.specs.Breaks.{Breaks}
 use Rattle.aff_format.specs.Path.{WellFormed}
-use Rattle.aff_format.specs.Rule.{Rule, rule, FirstFails, AllHold}
+use Rattle.aff_format.specs.Rule.{FirstFails, AllHold}
 use Rattle.aff_format.specs.declared.refusal.RefusalCode.{RefusalCode}
 use Rattle.aff_open.specs.Faults.{rulesBefore10}
-use Rattle.aff_open.specs.Opening.{openAnswer, readerAfter}
+use Rattle.aff_open.specs.Opening.{openAnswer}
 use Rattle.aff_open.specs.Rules.{FirstBadLink}
 use Rattle.aff_open.specs.Sections.{editionIn, stringsIn, nodesIn}
 use Rattle.aff_reader.specs.Belongs.{ReaderBelongs}
 use Rattle.aff_reader.specs.declared.reader.Reader.{Reader}
 use Rattle.aff_read.specs.Paths.{editionBy, lookupAnswer}
-use Rattle.aff.specs.BreakPlaces.{SecondZero}
+use Rattle.aff.specs.BreakPlaces.{SecondBy10}
 use Rattle.aff.specs.Rules.{lookupRules}
 use Rattle.aff.proofs.BreakPlacesLaws.{break-places}
 use Rattle.aff.proofs.Demand1Laws.{demand1}
 use Rattle.aff.proofs.Demand2Laws.{demand2}
-use Rattle.aff_c.specs.Opening.{codeOfAnswer, numbersOf, numbersIn, numberReturned, recordLeft}
+use Rattle.aff_format.specs.Subkey.{IsSubkey}
+use Rattle.aff_areas.specs.Belongs.{WriterBelongs}
+use Rattle.aff_areas.specs.Writer.{written, stopped}
+use Rattle.aff_areas.specs.declared.writer.Writer.{Writer}
+use Rattle.aff_make.specs.Make.{madeWriter}
+use Rattle.aff_c.specs.Writing.{given, makeReturned, numbersLeft, numbersMade}
+use Rattle.aff_c.specs.Opening.{codeOfAnswer, numbersOf, numberReturned, recordLeft}
 use Rattle.aff_c.specs.Reading.{numberBy, placeBy}
 use Rattle.aff_c.specs.Places.{PlacesInC}
 
 -- A refusal by 14 with place p: its second number is 0.
-whole : (a : Answer ℕ) (p : ℕ) → SecondZero ℕ a → numberBy a ≡ 14 → placeBy a ≡ p → a ≡ refused (refusalAt 14 p)
+whole : (a : Answer ℕ) (p : ℕ) → SecondBy10 ℕ a → numberBy a ≡ 14 → placeBy a ≡ p → a ≡ refused (refusalAt 14 p)
 whole (accepted n) p z e f = absurd (omega arith)
 whole (refused t) p z e f =
     let s : t .second ≡ 0 = z t refl (λ g. omega arith) in
     ap refused (rw (← e, ← f, ← s))
+
+-- The same of a make, whose place is in numbers[0].
+whole-made : (numbers : List ℕ) (next halted : Writer) → 0 < length numbers → (a : Answer ℕ) (p : ℕ) → SecondBy10 ℕ a → numberBy a ≡ 14
+    → getD (numbersLeft numbers a next halted) 0 0 ≡ p → a ≡ refused (refusalAt 14 p)
+whole-made numbers next halted long (accepted n) p z e f = absurd (omega arith)
+whole-made numbers next halted long (refused t) p z e f =
+    let g : t .place ≡ p = sym (getD-set-same numbers 0 (t .place) 0 long) ∙ (rw e at f) in whole (refused t) p z e g
+
+make-place : (buffer numbers kept text tree : List ℕ) (parent : ℕ) (name : List ℕ) → 0 < length numbers
+    → WriterBelongs (length buffer) (given buffer numbers kept text tree) text tree → given buffer numbers kept text tree .live ≡ true
+    → parent ≤ given buffer numbers kept text tree .nodes → (p : ℕ)
+    → ((numberBy (makeReturned buffer numbers kept text tree parent name) ≡ 14) × (getD (numbersMade buffer numbers kept text tree parent name) 0 0 ≡ p))
+    ↔ Breaks (IsSubkey written) name p
+unfolding numbersMade
+make-place buffer numbers kept text tree parent name long b live there p =
+    let w = given buffer numbers kept text tree in
+    let m = break-places .make (length buffer) w text tree parent name b live there p in (
+      λ (e, f).
+          m .0
+          (whole-made numbers (madeWriter w text name) (stopped w) long (makeReturned buffer numbers kept text tree parent name) p
+          (break-places .writing-second buffer w text tree .make parent name) e f),
+      λ h.
+          let q = m .1 h in
+          (ap numberBy q, ap (λ (a : Answer ℕ). getD (numbersLeft numbers a (madeWriter w text name) (stopped w)) 0 0) q ∙ getD-set-same numbers 0 p 0 long),
+    )
 
 lookup-place : (image : List ℕ) (r : Reader) (strings entries path : List ℕ) → ReaderBelongs image r strings entries → (p : ℕ)
     → ((numberBy (lookupAnswer image r strings entries path) ≡ 14) × (placeBy (lookupAnswer image r strings entries path) ≡ p))
@@ -76,7 +107,7 @@ module _ (image form strings entries output : List ℕ) (long : 13 ≤ length ou
   by-10 (accepted r) e = absurd (omega arith)
   by-10 (refused t) e = ap refused (rw (← e))
 
-  by-others : (a : Answer Reader) → SecondZero Reader a → (codeOfAnswer a .number ≡ 10 → ⊥) → codeOfAnswer a .second ≡ 0
+  by-others : (a : Answer Reader) → SecondBy10 Reader a → (codeOfAnswer a .number ≡ 10 → ⊥) → codeOfAnswer a .second ≡ 0
   by-others (accepted r) z other = refl
   by-others (refused t) z other = z t refl other
 
@@ -96,6 +127,7 @@ places-in-c =
       lookup = lookup-place;
       lookup-other = λ image r strings entries path.
           other-place image r strings entries path _ (λ t. demand1 .reading image r strings entries .lookup path .refuses t .0);
+      make = make-place;
       opening = opening-10;
       opening-other = opening-others;
     }

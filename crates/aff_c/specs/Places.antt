@@ -1,18 +1,23 @@
--- The places that C programs get (request C-18): `place` of `aff_lookup`, and record[12] of `aff_open_image`.
+-- The places that C programs get (request C-18): `place` of `aff_lookup`, numbers[0] of `aff_make`, and record[0] and record[12] of `aff_open_image`.
 use mathlib.Core.Path.{_≡_}
+use mathlib.Core.Bool.{true}
 use mathlib.Core.List.{List}
 use mathlib.Core.Logic.{_↔_}
-use Prim.Native.Nat.{ℕ, _≤_}
+use Prim.Native.Nat.{ℕ, _≤_, _<_}
 use lib.ListN.{length, getD}
 use Rattle.aff_format.specs.Breaks.{Breaks}
 use Rattle.aff_format.specs.Path.{WellFormed}
 use Rattle.aff_format.specs.Rule.{AllHold}
+use Rattle.aff_format.specs.Subkey.{IsSubkey}
 use Rattle.aff_open.specs.Faults.{rulesBefore10}
 use Rattle.aff_open.specs.Rules.{FirstBadLink}
 use Rattle.aff_open.specs.Sections.{editionIn, stringsIn, nodesIn}
 use Rattle.aff_reader.specs.Belongs.{ReaderBelongs}
 use Rattle.aff_reader.specs.declared.reader.Reader.{Reader}
 use Rattle.aff_read.specs.Paths.{editionBy, lookupAnswer}
+use Rattle.aff_areas.specs.Belongs.{WriterBelongs}
+use Rattle.aff_areas.specs.Writer.{written}
+use Rattle.aff_c.specs.Writing.{given, makeReturned, numbersMade}
 use Rattle.aff_c.specs.Opening.{numberReturned, recordLeft}
 use Rattle.aff_c.specs.Reading.{numberBy, placeBy}
 
@@ -23,8 +28,15 @@ pub record PlacesInC : Type 0 where
       ↔ Breaks (WellFormed (editionBy r)) path p
   pub lookup-other : (image : List ℕ) (r : Reader) (strings entries path : List ℕ) → (numberBy (lookupAnswer image r strings entries path) ≡ 14 → ⊥)
       → placeBy (lookupAnswer image r strings entries path) ≡ 0
-  -- Into a record of 13 numbers or more, `aff_open_image` writes node k to record[0] and the second number to record[12] with 10. With any other number
-  -- record[12] is 0.
+  -- By a record of an open writer that belongs, below a node that exists, `aff_make` returns 14 and leaves p in numbers[0] exactly when p is where the name
+  -- breaks.
+  pub make : (buffer numbers kept text tree : List ℕ) (parent : ℕ) (name : List ℕ) → 0 < length numbers
+      → WriterBelongs (length buffer) (given buffer numbers kept text tree) text tree → given buffer numbers kept text tree .live ≡ true
+      → parent ≤ given buffer numbers kept text tree .nodes → (p : ℕ)
+      → ((numberBy (makeReturned buffer numbers kept text tree parent name) ≡ 14) × (getD (numbersMade buffer numbers kept text tree parent name) 0 0 ≡ p))
+      ↔ Breaks (IsSubkey written) name p
+  -- Where `aff_open_image` returns 10, into a record of 13 numbers or more, record[0] is the lowest bad node and record[12] the second number that `FirstBadLink`
+  -- says. Where it returns any other number, 0 included, record[12] is 0.
   pub opening : (image form strings entries output : List ℕ) → 13 ≤ length output → numberReturned image form strings entries output ≡ 10
       → AllHold (rulesBefore10 image form (length strings) (length entries))
       × FirstBadLink (editionIn image) (stringsIn (editionIn image) image) (nodesIn (editionIn image) image)

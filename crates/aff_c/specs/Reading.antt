@@ -21,7 +21,7 @@ use Rattle.aff_listing.specs.declared.choice.Choice.the-variants.{AllNodes, Not
 unfoldable pub editionNumberIn : ℕ → ℕ
 editionNumberIn n = cond (ltb 4294967295 n) 0 n
 
--- The record of the first 12 numbers that `aff_open_image` writes; the very first, a place, is no part of it.
+-- The record of the first 12 numbers that `aff_open_image` writes; number 0, a place, is not part of it.
 unfoldable pub readerIn : List ℕ → Reader
 readerIn l =
     record {

@@ -1,6 +1,6 @@
 // Reading for programs in C and Rust: lookup, listing order, what a node is, one element of its data, and one element of data whose place the caller
-// holds, as include/aff.h declares them. The record has 12 numbers, the first of those that `aff_open_image` writes. Each function returns 0
-// where the call is accepted, else the refusal's number, and then leaves the caller's memory as it was, but for the place that `aff_lookup` writes.
+// holds, as include/aff.h declares them. The record is the first 12 numbers that `aff_open_image` writes. Each function returns 0 where the call
+// is accepted, else the refusal's number, and then leaves the caller's memory as it was, except `place` of `aff_lookup`.
 use aff_format::Element;
 use aff_format::ElementAnswer;
 use aff_format::FoundKind;

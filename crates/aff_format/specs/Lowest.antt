@@ -16,7 +16,7 @@ abbrev pub isAt : Lowest → Bool
 isAt Nothing = false
 isAt (At k) = true
 
--- The check that reports the lowest, by what a function says of it.
+-- The check that reports the lowest: `report k` is the refusal for number k.
 abbrev pub checkLowest : (ℕ → RefusalCode) → Lowest → Check
 checkLowest report Nothing = check false (report 0)
 checkLowest report (At k) = check true (report k)

@@ -25,7 +25,8 @@ abbrev pub Settled : {A : Type 0} → List Rule → A → Answer A → Type 0
 Settled rules v (accepted w) = AllHold rules × (v ≡ w)
 Settled rules v (refused t) = FirstFails rules t
 
--- One rule for each of the `left` numbers from k on, of nodes or strings, in ascending order, reported by what a function says of it; then more rules.
+-- One rule for each of the `left` numbers from k on, of nodes or strings, in ascending order; then more rules. `report k` is the refusal for
+-- number k.
 unfoldable pub eachFrom : (ℕ → RefusalCode) → (ℕ → Type 0) → ℕ → ℕ → List Rule → List Rule
 eachFrom report holds zero k more = more
 eachFrom report holds (suc left) k more = rule (holds k) (report k) ∷ eachFrom report holds left (k + 1) more

@@ -62,7 +62,7 @@ checkGrammar g = check (not (isSound g)) (refusalAt 14 (breakPlace g))
 abbrev pub isSubkey : Edition → List ℕ → Bool
 isSubkey e l = isSound (subkeyFrom e 0 l)
 
--- The same rule, with no trace of how it is checked: a byte that may begin a subkey, and after it only bytes that may follow.
+-- The same rule as a proposition, without places: a byte that may begin a subkey, and after it only bytes that may follow.
 abbrev pub AllFollow : Edition → List ℕ → Type 0
 AllFollow e [] = Unit {0}
 AllFollow e (x ∷ l) = (mayFollow e x ≡ true) × AllFollow e l

@@ -23,7 +23,8 @@ pub enum Refusal {
     WrongSectionSum(Section),
     // An entry is cut short, of no type or one too many; 0: the count differs.
     BadTreeTable(usize),
-    // A node's parent or string does not exist, or its string is no subkey; the node, and where its string exists the place at which it breaks, else 0.
+    // A node's parent or string does not exist, or its string is no subkey; the node, and the place at which its string breaks: 0 where it does not exist
+    // or is a subkey.
     BadLink(usize, usize),
     // A node's climb does not reach the root.
     EndlessClimb(usize),

@@ -174,8 +174,8 @@ fn make_child(
     }
 }
 
-// Makes a child of a node, Void and with a name: 24, 22, 15, 14, 17, 20, 21. It answers the new node's number, and stores nothing in the
-// buffer.
+// Makes a child of a node, Void and with a name: 24, 22, 15, 14 with the place in the name, 17, 20, 21. It answers the new node's number, and stores
+// nothing in the buffer.
 pub fn make(
     buffer: &[u8],
     writer: Writer,

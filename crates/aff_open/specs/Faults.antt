@@ -60,7 +60,7 @@ treeRules e image entries =
     ∷ rule (Counted e Tree image (length entries)) (refusal 9)
     ∷ []
 
--- 10 to 13, each over all nodes before the next. 10 reports besides the node where its name breaks (request C-18).
+-- 10 to 13, each over all nodes before the next. 10 also reports where the node's name breaks (request C-18).
 abbrev pub rulesFrom11 : Edition → List ℕ → List (List ℕ) → List Entry → List Rule
 rulesFrom11 e image strings entries =
     eachFrom (refusalAt 11) (Climbs entries) (length entries) 1

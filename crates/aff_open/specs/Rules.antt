@@ -49,8 +49,8 @@ Linked e strings entries k =
     × (nodeEntry entries k .string < length strings)
     × (isSubkey e (getD strings (nodeEntry entries k .string) []) ≡ true)
 
--- The second number of 10, of node k (request C-18): the place at which its name breaks the rule for a subkey, wherever its string exists and is none,
--- whether its parent exists or not; else 0.
+-- The second number of 10, of node k (request C-18): the place at which its name breaks the rule for a subkey, wherever its string exists and is no
+-- subkey, whether its parent exists or not; else 0.
 pub data NameBreak (e : Edition) (strings : List (List ℕ)) (entries : List Entry) (k second : ℕ) : Type 0 where
   no-string : length strings ≤ nodeEntry entries k .string → second ≡ 0 → NameBreak e strings entries k second
   sound-name : nodeEntry entries k .string < length strings → IsSubkey e (getD strings (nodeEntry entries k .string) []) → second ≡ 0

@@ -513,7 +513,7 @@ pub fn lookup_of(
     }
 }
 
-// The lowest node whose path is the given one: 24, 14, 15.
+// The lowest node whose path is the given one: 24, 14 with the place in the path, 15.
 pub fn lookup(
     image: &[u8],
     reader: Reader,

@@ -32,7 +32,7 @@ pub fn refusal(refusal: Refusal) {
     decimal(refusal.place() as u64);
 }
 
-// `refused N P S`, with the second number, that only 10 has.
+// `refused N P S`; S is the second number, 0 for every number but 10.
 pub fn refusal_in_full(why: Refusal) {
     refusal(why);
     text(b" ");

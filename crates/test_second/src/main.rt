@@ -1,5 +1,6 @@
 // Prints of each image of standard input what the second reader says of it as well: the refusal with its place and its second number, or each node in
-// listing order, its line, its first elements, bit for bit, and where a malformed path breaks. tests/second_reader makes images and answers; it shares no code with the library.
+// listing order, its line, its first elements, bit for bit, and where a malformed path breaks. tests/second_reader makes images and answers; it shares no
+// code with the library.
 use aff::Choice;
 use aff::NumberAnswer;
 use aff::Reader;

@@ -1,5 +1,6 @@
 -- `links::break_in` meets its contract: the place in the image that the rule finds, less where the string begins. Assumes nothing.
 use borrow.Author.Needs.{needs}
+use native.Mathlib.Omega.{arith}
 use Rattle.aff_tables.proofs.LinkLaws.{break-sound, break-at}
 use Rattle.aff_tables.proofs.links.break_in.Statement.{statement}
 use Rattle.aff_tables.proofs.links.break_in.Tie as tie
@@ -8,7 +9,7 @@ sub-result : tie.Need-sub-result
 sub-result c =
     let s = c .before .before .before in
     let n = s .before in
-    break-at _ _ _ _ _ _ (n .before .before .pre) (n .name-end .ensures .0) (s .subkey-within .ensures) _ (c .before .place .given .1) .0
+    omega (arith, break-at _ _ _ _ _ _ (n .before .before .pre) (n .name-end .ensures .0) (s .subkey-within .ensures) _ (c .before .place .given .1) .0)
 
 returns : tie.Need-returns
 returns c =
