@@ -8,7 +8,9 @@ use Prim.Native.Nat.{ℕ, _+_, _≤_}
 use borrow.Author.Tests.{le-ltb}
 use Rattle.aff_format.specs.Answer.{refused, refusalAt, firstWrong}
 use Rattle.aff_format.specs.Breaks.{Breaks}
+use Rattle.aff_format.specs.Element.{decoded}
 use Rattle.aff_format.specs.Subkey.{subkeyFrom, checkGrammar, IsSubkey}
+use Rattle.aff_format.specs.declared.kind.Kind.{Kind}
 use Rattle.aff_format.proofs.BreaksLaws.{subkey-breaks, path-breaks, no-subkey-breaks, no-path-breaks, breaks-once}
 use Rattle.aff_format.proofs.RefusalLaws.{rows-second}
 use Rattle.aff_format.proofs.RuleLaws.{by-second}
@@ -25,7 +27,7 @@ use Rattle.aff_make.specs.Make.{namedChecks, makeAnswer}
 use Rattle.aff_write.specs.Begin.{beginAnswer}
 use Rattle.aff.specs.BreakPlaces.{SecondBy10, BreakPlaces}
 use Rattle.aff.specs.Demand1.{EachReading, EachWriting}
-use Rattle.aff.proofs.RulesLaws.{opening-by, reading-by, begin-by, writing-by}
+use Rattle.aff.proofs.RulesLaws.{opening-by, decode-by, reading-by, begin-by, writing-by}
 
 module _ (size : ℕ) (w : Writer) (text tree : List ℕ) (parent : ℕ) (name : List ℕ)
     (b : WriterBelongs size w text tree) (live : w .live ≡ true) (there : parent ≤ w .nodes) where
@@ -60,6 +62,9 @@ reading-second image r strings entries =
       listing = λ choice size. by-second _ _ (b .listing choice size) (λ _. refl, (λ _. refl, tt));
     }
 
+decode-second : (kind : Kind) (bytes : List ℕ) (index : ℕ) → SecondBy10 _ (decoded kind bytes index)
+decode-second kind bytes index = by-second _ _ (decode-by kind bytes index) (λ _. refl, tt)
+
 begin-second : (buffer form text tree : List ℕ) (allowance : ℕ) → SecondBy10 _ (beginAnswer buffer form text tree allowance)
 begin-second buffer form text tree allowance = by-second _ _ (begin-by buffer form text tree allowance) (λ _. refl, (λ _. refl, (λ _. refl, tt)))
 
@@ -85,6 +90,7 @@ break-places =
       opening = refused-10;
       opening-second = opening-second;
       reading-second = reading-second;
+      decode-second = decode-second;
       begin-second = begin-second;
       writing-second = writing-second;
       row-second = rows-second;

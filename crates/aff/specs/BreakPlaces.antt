@@ -9,11 +9,13 @@ use mathlib.Core.Logic.{_↔_}
 use Prim.Native.Nat.{ℕ, _≤_}
 use Rattle.aff_format.specs.Answer.{Answer, refused, refusalAt, refusalWith, SecondOf10}
 use Rattle.aff_format.specs.Breaks.{Breaks}
+use Rattle.aff_format.specs.Element.{decoded}
 use Rattle.aff_format.specs.Path.{pathGrammar, WellFormed}
 use Rattle.aff_format.specs.Refusal.{codeOfRefusal}
 use Rattle.aff_format.specs.Rule.{AllHold}
 use Rattle.aff_format.specs.Subkey.{subkeyFrom, IsSubkey}
 use Rattle.aff_format.specs.declared.edition.Edition.{Edition}
+use Rattle.aff_format.specs.declared.kind.Kind.{Kind}
 use Rattle.aff_format.specs.declared.refusal.Refusal.{Refusal}
 use Rattle.aff_format.specs.declared.refusal.RefusalCode.{RefusalCode}
 use Rattle.aff_format.specs.declared.subkey.Grammar.the-variants.{BreaksAt}
@@ -50,9 +52,11 @@ pub record BreakPlaces : Type 1 where
       → (openAnswer image form strings entries ≡ refused (refusalWith 10 k second))
       ↔ (AllHold (rulesBefore10 image form strings entries)
       × FirstBadLink (editionIn image) (stringsIn (editionIn image) image) (nodesIn (editionIn image) image) k second)
-  -- Every other refusal has the second number 0: of each call, for every image, record, memory and argument, and of each value of `Refusal`.
+  -- Every other refusal has the second number 0: of opening, of each reading call, of the decoding of an element of a view that is held, of begin and of each
+  -- other writing call, for every image, record, memory and argument; and of each value of `Refusal`, so of whatever else reports one.
   pub opening-second : (image form : List ℕ) (strings entries : ℕ) → SecondBy10 _ (openAnswer image form strings entries)
   pub reading-second : (image : List ℕ) (r : Reader) (strings entries : List ℕ) → EachReading SecondBy10 image r strings entries
+  pub decode-second : (kind : Kind) (bytes : List ℕ) (index : ℕ) → SecondBy10 _ (decoded kind bytes index)
   pub begin-second : (buffer form text tree : List ℕ) (allowance : ℕ) → SecondBy10 _ (beginAnswer buffer form text tree allowance)
   pub writing-second : (buffer : List ℕ) (w : Writer) (text tree : List ℕ) → EachWriting SecondBy10 buffer w text tree
   pub row-second : (r : Refusal) → SecondOf10 (codeOfRefusal r)
