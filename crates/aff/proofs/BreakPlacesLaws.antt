@@ -20,7 +20,7 @@ use Rattle.aff_open.specs.Opening.{openAnswer}
 use Rattle.aff_open.proofs.FaultLaws.{refused-10, rules-second}
 use Rattle.aff_reader.specs.declared.reader.Reader.{Reader}
 use Rattle.aff_areas.specs.Belongs.{WriterBelongs}
-use Rattle.aff_areas.specs.Writer.{written}
+use Rattle.aff_areas.specs.Writer.{writerEdition}
 use Rattle.aff_areas.specs.declared.writer.Writer.{Writer}
 use Rattle.aff_areas.proofs.BelongsLaws.{record-belongs}
 use Rattle.aff_make.specs.Make.{namedChecks, makeAnswer}
@@ -32,14 +32,14 @@ use Rattle.aff.proofs.RulesLaws.{opening-by, decode-by, reading-by, beg
 module _ (size : ℕ) (w : Writer) (text tree : List ℕ) (parent : ℕ) (name : List ℕ)
     (b : WriterBelongs size w text tree) (live : w .live ≡ true) (there : parent ≤ w .nodes) where
   -- 24, 22 and 15 find nothing wrong, so 14 is next.
-  from-14 : firstWrong (checkGrammar (subkeyFrom written 0 name) ∷ namedChecks w text tree parent name) (w .nodes + 1) ≡ makeAnswer size w text tree parent name
+  from-14 : firstWrong (checkGrammar (subkeyFrom (writerEdition w) 0 name) ∷ namedChecks w text tree parent name) (w .nodes + 1) ≡ makeAnswer size w text tree parent name
   unfolding makeAnswer
   from-14 = rw (record-belongs b, live, le-ltb (w .nodes) parent there)
 
-  make-breaks : (p : ℕ) → (makeAnswer size w text tree parent name ≡ refused (refusalAt 14 p)) ↔ Breaks (IsSubkey written) name p
+  make-breaks : (p : ℕ) → (makeAnswer size w text tree parent name ≡ refused (refusalAt 14 p)) ↔ Breaks (IsSubkey (writerEdition w)) name p
   make-breaks p =
-      let r = reports-14 (subkeyFrom written 0 name) (namedChecks w text tree parent name) (w .nodes + 1) p refl in
-      let s = subkey-breaks written name p in
+      let r = reports-14 (subkeyFrom (writerEdition w) 0 name) (namedChecks w text tree parent name) (w .nodes + 1) p refl in
+      let s = subkey-breaks (writerEdition w) name p in
       (λ h. s .0 (r .0 (from-14 ∙ h)), λ h. sym from-14 ∙ r .1 (s .1 h))
 
 -- ---- The second number, by the rules of each call.
@@ -65,8 +65,9 @@ reading-second image r strings entries =
 decode-second : (kind : Kind) (bytes : List ℕ) (index : ℕ) → SecondBy10 _ (decoded kind bytes index)
 decode-second kind bytes index = by-second _ _ (decode-by kind bytes index) (λ _. refl, tt)
 
-begin-second : (buffer form text tree : List ℕ) (allowance : ℕ) → SecondBy10 _ (beginAnswer buffer form text tree allowance)
-begin-second buffer form text tree allowance = by-second _ _ (begin-by buffer form text tree allowance) (λ _. refl, (λ _. refl, (λ _. refl, tt)))
+begin-second : (edition : ℕ) (buffer form text tree : List ℕ) (allowance : ℕ) → SecondBy10 _ (beginAnswer edition buffer form text tree allowance)
+begin-second edition buffer form text tree allowance =
+    by-second _ _ (begin-by edition buffer form text tree allowance) (λ _. refl, (λ _. refl, (λ _. refl, (λ _. refl, tt))))
 
 writing-second : (buffer : List ℕ) (w : Writer) (text tree : List ℕ) → EachWriting SecondBy10 buffer w text tree
 writing-second buffer w text tree =

@@ -14,7 +14,7 @@ use borrow.Author.Tests.{ne-eqb, lt-ltb, le-ltb, le-leb, lt-leb}
 use Rattle.aff_format.specs.Answer.{accepted, refused, refusal, refusalAt}
 use Rattle.aff_format.specs.Breaks.{Breaks}
 use Rattle.aff_format.specs.Bytes.{part}
-use Rattle.aff_format.specs.Edition.{editionNumber, orTwo}
+use Rattle.aff_format.specs.Edition.{editionNumber, editionBy}
 use Rattle.aff_format.specs.Element.{elementAt}
 use Rattle.aff_format.specs.Kind.{elementSize, isVoid}
 use Rattle.aff_format.specs.Path.{isPath, WellFormed}
@@ -23,7 +23,7 @@ use Rattle.aff_format.specs.declared.edition.Edition.{Edition}
 use Rattle.aff_format.specs.declared.entry.Entry.{Entry}
 use Rattle.aff_format.specs.declared.section.Section.the-variants.{Data}
 use Rattle.aff_format.proofs.BreaksLaws.{path-breaks, no-path-breaks}
-use Rattle.aff_format.proofs.EditionLaws.{edition-of-number}
+use Rattle.aff_format.proofs.EditionLaws.{edition-by-number}
 use Rattle.aff_format.proofs.PathLaws.{path-complete}
 use Rattle.aff_format.proofs.ClimbLaws.{reaches-within}
 use Rattle.aff_format.proofs.TreeLaws.{front-root, front-step, path-other, front-same}
@@ -40,7 +40,7 @@ use Rattle.aff_open.proofs.FaultLaws.{refused-first, first-refused}
 use Rattle.aff_open.proofs.ObeysLaws.{accepted-obeys, obeys-accepted, edition-found, strings-found, entries-found}
 use Rattle.aff_open.proofs.OpenedLaws.{OpenedShape, opened-shape, opened-belongs}
 use Rattle.aff_nodes.specs.Answers.{nameAnswer, kindAnswer, countAnswer, viewAnswer, elementAnswer}
-use Rattle.aff_read.specs.Paths.{editionBy, lookupAnswer}
+use Rattle.aff_read.specs.Paths.{lookupAnswer}
 use Rattle.aff_read.specs.Lookup.{NoneWith, OnlyWith}
 use Rattle.aff_nodes.specs.Recall.{kindAt, parentAt, nameAt, dataSpan, spanBytes, bytesAt, pathAt}
 use Rattle.aff_read.proofs.FrontLaws.{name-bytes}
@@ -50,9 +50,9 @@ use Rattle.aff_listing.proofs.KeptLaws.{preorder-kept, kept-count, every-below}
 use Rattle.aff_listing.proofs.ListedLaws.{order-count, order-only, order-length}
 use Rattle.aff_read.proofs.UniqueLaws.{lookup-only, lookup-path}
 use Rattle.aff_read.specs.Shows.{PartIs}
-use Rattle.aff_run.proofs.ShownLaws.{name-part, view-part, number-absent}
+use Rattle.aff_file.proofs.OpenedShowsLaws.{name-part, view-part, number-absent}
 use Rattle.aff.specs.Demand2.{dataNamed, Reads, itsEntry, itsName, itsParent, itsPath, ItsNode, NoNode, ReadsFile, Demand2}
-use Rattle.aff.proofs.CasesLaws.{cases-hold}
+use Rattle.aff.proofs.CasesLaws.{cases-hold, wide-cases-hold, bytes-of-names}
 use Rattle.aff_listing.specs.ListingOrder.{lists, own, preorder, kept, isListed, listingOrder, listedCount, listingAnswer}
 use Rattle.aff_listing.specs.Once.{occurrences}
 use Rattle.aff_listing.specs.declared.choice.Choice.{Choice}
@@ -75,13 +75,13 @@ module _ (image : List ℕ) (r : Reader) (strings entries : List ℕ) (b : Reade
   it : readerBelongs image r strings entries ≡ true
   it = record-belongs b
 
-  malformed : (path : List ℕ) (p : ℕ) → (lookupAnswer image r strings entries path ≡ refused (refusalAt 14 p)) ↔ Breaks (WellFormed (editionBy r)) path p
-  malformed path p = Iff·trans (lookup-malformed image r strings entries path b p) (path-breaks (editionBy r) path p)
+  malformed : (path : List ℕ) (p : ℕ) → (lookupAnswer image r strings entries path ≡ refused (refusalAt 14 p)) ↔ Breaks (WellFormed (editionBy (r .edition))) path p
+  malformed path p = Iff·trans (lookup-malformed image r strings entries path b p) (path-breaks (editionBy (r .edition)) path p)
 
-  malformed-path : (path : List ℕ) → ((p : ℕ) × (lookupAnswer image r strings entries path ≡ refused (refusalAt 14 p))) ↔ (WellFormed (editionBy r) path → ⊥)
+  malformed-path : (path : List ℕ) → ((p : ℕ) × (lookupAnswer image r strings entries path ≡ refused (refusalAt 14 p))) ↔ (WellFormed (editionBy (r .edition)) path → ⊥)
   malformed-path path = (
     λ (p, h). malformed path p .0 h .not-in,
-    λ n. let (p, at) = no-path-breaks (editionBy r) path n in (p, malformed path p .1 at),
+    λ n. let (p, at) = no-path-breaks (editionBy (r .edition)) path n in (p, malformed path p .1 at),
   )
 
   module _ (node : ℕ) (there : node ≤ r .nodes) where
@@ -144,8 +144,8 @@ module _ (image : List ℕ) (r : Reader) (strings entries : List ℕ) (b : Reade
       record {
         malformed = malformed;
         malformed-path = malformed-path;
-        lowest = λ path w. lookup-accepts image r strings entries path b (path-complete (editionBy r) path w);
-        absent = λ path w. lookup-absent image r strings entries path b (path-complete (editionBy r) path w);
+        lowest = λ path w. lookup-accepts image r strings entries path b (path-complete (editionBy (r .edition)) path w);
+        absent = λ path w. lookup-absent image r strings entries path b (path-complete (editionBy (r .edition)) path w);
         name = name-read;
         view = view-read;
         element = λ node index there. element-read node there index;
@@ -191,11 +191,11 @@ module _ (image form strings entries : List ℕ) {r : Reader} (h : openAnswer im
   nodes-count : r .nodes ≡ length (file .entries)
   nodes-count = ap (λ (x : Reader). x .nodes) (shape .reader) ∙ ap length entries-are
 
-  edition-is : editionBy r ≡ file .edition
-  edition-is = ap editionBy (shape .reader) ∙ ap orTwo (edition-of-number (editionIn image)) ∙ edition-found file
+  edition-is : editionBy (r .edition) ≡ file .edition
+  edition-is = ap (λ (x : Reader). editionBy (x .edition)) (shape .reader) ∙ edition-by-number (editionIn image) ∙ edition-found file
 
-  formed : {path : List ℕ} → WellFormed (file .edition) path → isPath (editionBy r) path ≡ true
-  formed {path} w = path-complete (editionBy r) path (rw edition-is w)
+  formed : {path : List ℕ} → WellFormed (file .edition) path → isPath (editionBy (r .edition)) path ≡ true
+  formed {path} w = path-complete (editionBy (r .edition)) path (rw edition-is w)
 
   -- What the areas show of a node.
   entry-is : (node : ℕ) → node ≤ r .nodes → recordedEntry image es node ≡ itsEntry file node
@@ -325,4 +325,6 @@ demand2 =
       opened-reads = reads-file;
       reads = reads;
       cases = cases-hold;
+      wide-cases = wide-cases-hold;
+      name-bytes = bytes-of-names;
     }

@@ -9,7 +9,12 @@ use lib.ListN.{length, getD, set, take}
 use lib.Seq.{take-length, getD-set-same}
 use borrow.Author.Tests.{le-ltb}
 use Rattle.aff_format.specs.Answer.{Answer, accepted, refused, refusal}
-use Rattle.aff_format.specs.Edition.{signatureText, isKnown}
+use Rattle.aff_format.specs.Edition.{signatureText, headerSize, leastHeader, isKnown}
+use Rattle.aff_format.specs.declared.edition.Edition.{Edition}
+use Rattle.aff_format.specs.declared.edition.FoundEdition.{FoundEdition}
+use Rattle.aff_format.specs.declared.edition.FoundEdition.the-variants.{Known, Unknown}
+use Rattle.aff_format.proofs.EditionLaws.{first-byte, header-least}
+use Rattle.aff_open.proofs.SectionLaws.{text-known}
 use Rattle.aff_format.specs.Bytes.{sameBytes}
 use Rattle.aff_format.specs.Limits.{imageLimit, stringLimit, nodeLimit}
 use Rattle.aff_format.specs.Tree.{Tree}
@@ -18,34 +23,43 @@ use Rattle.aff_open.specs.Sections.{textEdition}
 use Rattle.aff_reader.specs.declared.reader.Reader.{Reader}
 use Rattle.aff_open.proofs.FaultLaws.{lengths-asks}
 use Rattle.aff_areas.specs.Stores.{Store, applyStores}
-use Rattle.aff_areas.specs.Writer.{dataPlace}
+use Rattle.aff_areas.specs.Writer.{writerEdition}
 use Rattle.aff_areas.proofs.StoreLaws.{apply-append, apply-length}
 use Rattle.aff_run.specs.TreeSizes.{nonVoidCount, sizeOf}
 use Rattle.aff_run.specs.Run.{State, storesOf, Run, runBegin, runStart, runStores, runState, runTree, runClosed}
 use Rattle.aff_read.specs.Shows.{Shows}
 use Rattle.aff_run.proofs.BeginInvariantLaws.{begin-invariant, begin-form, begin-stores}
 use Rattle.aff_run.proofs.BeginRefusedLaws.{none-run, none-closed}
-use Rattle.aff_run.proofs.ClosedLaws.{closed}
+use Rattle.aff_run.proofs.ClosedLaws.{closed, closed-shows, closed-counts}
 use Rattle.aff_run.proofs.CutLaws.{cut-run-stores, cut-run-buffer, cut-begin, cut-run-answers-before, cut-begin-out, cut-run-answer-out}
 use Rattle.aff_run.proofs.InvariantLaws.{Invariant}
 use Rattle.aff_run.proofs.PlaceLaws.{FromPlace, after-first, shaped-take, run-shape}
 use Rattle.aff_run.proofs.RunLaws.{run-holds}
-use Rattle.aff_run.proofs.ShownLaws.{closed-shows, closed-counts}
 use Rattle.aff_run.proofs.StepLaws.{run-buffer}
 use Rattle.aff.specs.Demand3.{bufferAt, Killed, Demand3, Demand3Cut, DataCounted}
 
 -- ---- A buffer with a zero at place 0.
 
-unknown-text : (image : List ℕ) → 1 ≤ length image → getD image 0 0 ≡ 0 → isKnown (textEdition image) ≡ false
-unfolding textEdition sameBytes signatureText
-unknown-text [] l z = absurd (omega arith)
-unknown-text (x ∷ image) l z = rw z
+-- It begins with the text of no edition: each text begins with a byte that is not zero.
+no-text : (image : List ℕ) (e : Edition) → 1 ≤ length image → getD image 0 0 ≡ 0 → take 20 image ≡ signatureText e → ⊥
+no-text [] e l z h = omega arith
+no-text (x ∷ image) e l z h =
+    let (rest, is) = first-byte e in
+    let q : getD (take 20 (x ∷ image)) 0 0 ≡ 76 = ap (λ (t : List ℕ). getD t 0 0) (h ∙ is) in
+    omega (arith, q, z)
 
-pub zero-refused : (image form : List ℕ) → length form ≡ 12 → 144 ≤ length image → length image ≤ imageLimit → getD image 0 0 ≡ 0
+unknown-text : (image : List ℕ) → 1 ≤ length image → getD image 0 0 ≡ 0 → isKnown (textEdition image) ≡ false
+unknown-text image l z = go (textEdition image) refl
+  where
+    go : (f : FoundEdition) → textEdition image ≡ f → isKnown f ≡ false
+    go (Known e) h = absurd (no-text image e l z (text-known e image h))
+    go Unknown h = refl
+
+pub zero-refused : (image form : List ℕ) → length form ≡ 12 → leastHeader ≤ length image → length image ≤ imageLimit → getD image 0 0 ≡ 0
     → openAnswer image form stringLimit nodeLimit ≡ refused (refusal 3)
 unfolding openChecks upToTables
 zero-refused image form f lo hi z =
-    rw (lengths-asks image form stringLimit nodeLimit .1 (f, refl, refl, hi), le-ltb (length image) 144 lo, unknown-text image (omega arith) z)
+    rw (lengths-asks image form stringLimit nodeLimit .1 (f, refl, refl, hi), le-ltb (length image) leastHeader lo, unknown-text image (omega arith) z)
 
 -- ---- A begin that is refused.
 
@@ -81,12 +95,12 @@ module _ (run : Run) {n : ℕ} (h : runBegin run .answer ≡ accepted n) where
   kept : Invariant (runStart run) []
   kept = begin-invariant run h
 
-  sizes : (dataPlace ≤ length (run .buffer)) × (length (run .buffer) ≤ imageLimit) × (length (run .form) ≡ 12)
+  sizes : (leastHeader ≤ length (run .buffer)) × (length (run .buffer) ≤ imageLimit) × (length (run .form) ≡ 12)
   unfolding sizeOf
   sizes =
       let l = apply-length (run .buffer) (runBegin run .stores) in
       let f : length (run .form) ≡ 12 = ap length (sym (begin-form run h)) ∙ kept .form-length in
-      (omega (arith, kept .fits, kept .buffer-length), omega (arith, kept .buffer-length, kept .buffer-allowed), f)
+      (omega (arith, kept .fits, kept .buffer-length, header-least (writerEdition (runStart run .writer))), omega (arith, kept .buffer-length, kept .buffer-allowed), f)
 
   -- What holds of each closed buffer holds of the buffer after all stores.
   all-holds : (P : List ℕ → List ℕ → Tree → Type 0) → ((s : State) (tree : Tree) (g : Invariant s tree) → P (closed s tree g) (s .writer .form) tree)

@@ -9,6 +9,7 @@ use native.Mathlib.Omega.{arith}
 use lib.Dec.{eqb, ltb}
 use lib.ListN.{length}
 use borrow.Author.Tests.{eqb-true, eqb-false, eq-eqb, ne-eqb, ltb-false, le-ltb, not-false}
+use Rattle.aff_format.specs.Edition.{headerSize, editionBy, namesWritten, NamesWritten}
 use Rattle.aff_format.specs.Answer.{Check, check, refusal}
 use Rattle.aff_format.specs.Bytes.{sameBytes}
 use Rattle.aff_format.specs.Element.{countIn, elementAt, decoded}
@@ -38,13 +39,13 @@ use Rattle.aff_reader.proofs.BelongsLaws.{belongs-record as reader-clauses, rec
 use Rattle.aff_open.proofs.FaultLaws.{opening-settled}
 use Rattle.aff_format.proofs.RuleLaws.{AskFor, none, one, settled-by, by-checks, at-most, is-below, is-true}
 use Rattle.aff_nodes.specs.Answers.{existsChecks, nameAnswer, kindAnswer, countAnswer, viewAnswer, elementAnswer}
-use Rattle.aff_read.specs.Paths.{editionBy, found, lookupChecks, pathAnswer, lookupAnswer}
+use Rattle.aff_read.specs.Paths.{found, lookupChecks, pathAnswer, lookupAnswer}
 use Rattle.aff_read.specs.Lookup.{LowestWith}
 use Rattle.aff_nodes.specs.Recall.{countAt, pathAt}
 use Rattle.aff_read.proofs.LookupLaws.{lookup-accepts}
+use Rattle.aff_format.proofs.EditionLaws.{names-written, written-named}
 use Rattle.aff_areas.specs.Areas.{slotEntry, nameOf}
 use Rattle.aff_areas.specs.Belongs.{writerBelongs, WriterBelongs, writerChecks}
-use Rattle.aff_areas.specs.Writer.{dataPlace}
 use Rattle.aff_areas.specs.declared.writer.Writer.{Writer}
 use Rattle.aff_areas.proofs.BelongsLaws.{belongs-record as writer-clauses, record-belongs as writer-belongs}
 use Rattle.aff_areas.proofs.StoreLaws.{length-storesFrom}
@@ -104,7 +105,7 @@ module _ (image : List ℕ) (r : Reader) (strings entries : List ℕ) where
       (lookupRules image r strings entries path)
   lookup-asks path =
       one reader-asks
-      (λ _. one (λ h. path-sound (editionBy r) path (not-false (isPath (editionBy r) path) h), λ w. ap not (path-complete (editionBy r) path w))
+      (λ _. one (λ h. path-sound (editionBy (r .edition)) path (not-false (isPath (editionBy (r .edition)) path) h), λ w. ap not (path-complete (editionBy (r .edition)) path w))
       (λ _. one (found-asks path) (λ _. none)))
 
   lookup-by : (path : List ℕ)
@@ -116,8 +117,8 @@ module _ (image : List ℕ) (r : Reader) (strings entries : List ℕ) where
         accepts = λ n. (
           λ h.
               let hold = by .accepts n .0 h .0 in
-              (hold, lookup-accepts image r strings entries path (hold .0) (path-complete (editionBy r) path (hold .1 .0)) n .0 h),
-          λ (hold, low). lookup-accepts image r strings entries path (hold .0) (path-complete (editionBy r) path (hold .1 .0)) n .1 low,
+              (hold, lookup-accepts image r strings entries path (hold .0) (path-complete (editionBy (r .edition)) path (hold .1 .0)) n .0 h),
+          λ (hold, low). lookup-accepts image r strings entries path (hold .0) (path-complete (editionBy (r .edition)) path (hold .1 .0)) n .1 low,
         );
         refuses = by .refuses;
       }
@@ -138,7 +139,7 @@ module _ (image : List ℕ) (r : Reader) (strings entries : List ℕ) where
 
 -- ---- Writing.
 
-module _ (buffer form text tree : List ℕ) (allowance : ℕ) where
+module _ (edition : ℕ) (buffer form text tree : List ℕ) (allowance : ℕ) where
   lengths-asks : (beginLengthsWrong buffer form text tree ≡ false)
       ↔ ((length form ≡ 12) × (length text ≡ textArea) × (length tree ≡ treeArea) × (length buffer ≤ imageLimit))
   unfolding beginLengthsWrong
@@ -147,10 +148,15 @@ module _ (buffer form text tree : List ℕ) (allowance : ℕ) where
     λ (f, x, t, r). rw (eq-eqb (length form) 12 f, eq-eqb (length text) textArea x, eq-eqb (length tree) treeArea t, le-ltb imageLimit (length buffer) r),
   )
 
-  begin-asks : AskFor (beginChecks buffer form text tree allowance) (beginRules buffer form text tree allowance)
-  begin-asks = one lengths-asks (λ _. one (at-most (length buffer) dataPlace) (λ _. one (at-most allowance 1) (λ _. none)))
+  written-asks : (not (namesWritten edition) ≡ false) ↔ NamesWritten edition
+  written-asks = (λ h. names-written edition (not-false (namesWritten edition) h), λ w. ap not (written-named edition w))
 
-  pub begin-by : By (beginRules buffer form text tree allowance) (Is 1) (beginAnswer buffer form text tree allowance)
+  begin-asks : AskFor (beginChecks edition buffer form text tree allowance) (beginRules edition buffer form text tree allowance)
+  begin-asks =
+      one lengths-asks
+      (λ _. one written-asks (λ _. one (at-most (length buffer) (headerSize (editionBy edition))) (λ _. one (at-most allowance 1) (λ _. none))))
+
+  pub begin-by : By (beginRules edition buffer form text tree allowance) (Is 1) (beginAnswer edition buffer form text tree allowance)
   unfolding beginAnswer
   begin-by = by-checks 1 begin-asks
 

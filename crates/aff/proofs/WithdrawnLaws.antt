@@ -39,9 +39,9 @@ reading-not : (image : List ℕ) (r : Reader) (strings entries : List ℕ) → E
 reading-not image r strings entries =
     each-reading Not8 image r strings entries (λ A more a l. judged-not-8 more a l (readerBelongs image r strings entries))
 
-begin-not : (buffer form text tree : List ℕ) (allowance : ℕ) → NotBy 8 (beginAnswer buffer form text tree allowance)
+begin-not : (edition : ℕ) (buffer form text tree : List ℕ) (allowance : ℕ) → NotBy 8 (beginAnswer edition buffer form text tree allowance)
 unfolding beginAnswer
-begin-not buffer form text tree allowance = others-not 8 (beginChecks buffer form text tree allowance) 1 refl
+begin-not edition buffer form text tree allowance = others-not 8 (beginChecks edition buffer form text tree allowance) 1 refl
 
 writing-not : (buffer : List ℕ) (w : Writer) (text tree : List ℕ) → EachWriting Not8 buffer w text tree
 writing-not buffer w text tree =
@@ -60,7 +60,7 @@ answers-not s (c ∷ cs) = (answer-not s c, answers-not (afterCall s c) cs)
 
 run-not : (run : Run) → NotBy 8 (runBegin run .answer)
 unfolding beginStep
-run-not run = begin-not (run .buffer) (run .form) (run .text) (run .tree) (run .allowance)
+run-not run = begin-not (run .edition) (run .buffer) (run .form) (run .text) (run .tree) (run .allowance)
 
 pub withdrawn : Withdrawn
 withdrawn =

@@ -11,69 +11,77 @@ use lib.Seq.{drop-length, take-length}
 use borrow.Author.Tests.{eq-eqb, le-ltb}
 use Rattle.aff_format.specs.Answer.{Answer, accepted, refused, refusal}
 use Rattle.aff_format.specs.Bytes.{part, sameBytes}
-use Rattle.aff_format.specs.Edition.{numberForm, signatureText}
+use Rattle.aff_format.specs.Edition.{editionNumber, signatureText, isWritten, headerSize, numberForm, editionBy}
 use Rattle.aff_format.specs.Entry.{entryBytes}
 use Rattle.aff_format.specs.Limits.{imageLimit, textArea, treeArea}
 use Rattle.aff_format.specs.Lowest.{lowestFrom}
 use Rattle.aff_format.specs.Number.{beBytes}
 use Rattle.aff_format.specs.Strings.{isIn, textOf}
-use Rattle.aff_format.specs.Subkey.{narrowFirst, narrowNext, restOfSubkey, subkeyFrom}
+use Rattle.aff_format.specs.Subkey.{narrowFirst, narrowNext, wide, restOfSubkey, subkeyFrom}
 use Rattle.aff_format.specs.Tree.{Tree}
 use Rattle.aff_format.specs.declared.entry.Entry.{Entry}
-use Rattle.aff_format.specs.declared.edition.Edition.the-variants.{Two}
+use Rattle.aff_format.specs.declared.edition.Edition.{Edition}
+use Rattle.aff_format.specs.declared.edition.Edition.the-variants.{One, Two, Three}
+use Rattle.aff_format.proofs.ClimbLaws.{absurd-bool}
+use Rattle.aff_format.proofs.EditionLaws.{edition-by-number, written-named, length-numberForm}
 use Rattle.aff_format.specs.declared.kind.Kind.the-variants.{Void, Int}
 use Rattle.aff_tables.specs.Tables.{treeBytes}
 use Rattle.aff_areas.specs.Areas.{dataNodes}
-use Rattle.aff_areas.specs.Header.{sectionHeader, headerFront, withSum}
+use Rattle.aff_header.specs.Header.{sectionNumbers, sectionHeader, headerFront, withSum}
+use Rattle.aff_file.specs.File.{FileContents, headerOf, fileHeader, fileOf}
 use Rattle.aff_areas.specs.Stores.{Store, applyStores, storesReported}
-use Rattle.aff_areas.specs.Writer.{dataPlace}
+use Rattle.aff_areas.specs.Writer.{writerEdition, dataPlace}
 use Rattle.aff_areas.proofs.StoreLaws.{apply-length}
 use Rattle.aff_write.specs.Begin.{beginLengthsWrong, beginAnswer}
-use Rattle.aff_run.specs.TreeSizes.{withChild, addName, namesFrom, namesOf, dataSize, entriesSize, sizeOf}
+use Rattle.aff_run.specs.TreeSizes.{withChild, addName, namesFrom, namesOf, dataSize, entriesSize, nonVoidCount, sizeOf}
 use Rattle.aff_run.specs.AnswersFromTree.{hasChild, tooLarge, closeNeeds, callAnswer, stops, AnswersFromTree}
 use Rattle.aff_run.specs.Run.{Call, make, put, close, State, step, afterCall, storesOf, beginStep, isAccepted, applyCall, treeAfter, closedBy, Run, runBegin, runStart, runAnswers, runStores, runTree, runClosed}
 use Rattle.aff_read.specs.Shows.{Shows}
-use Rattle.aff_run.proofs.BeginInvariantLaws.{begin-invariant, begin-form, begin-stores}
-use Rattle.aff_run.proofs.ClosedLaws.{closed, front, header-is, closed-is, closed-buffer}
+use Rattle.aff_run.proofs.BeginInvariantLaws.{begin-invariant, begin-edition, begin-form, begin-stores}
+use Rattle.aff_run.proofs.ClosedLaws.{contents, rest, closed, closed-is, closed-buffer}
 use Rattle.aff_run.proofs.CutLaws.{make-stores, put-reports, close-reports}
 use Rattle.aff_run.proofs.AnswersFromTreeLaws.{run-from-tree}
 use Rattle.aff_run.proofs.InvariantLaws.{Each, Invariant, entry-in}
 use Rattle.aff_run.proofs.MakeInvariantLaws.{made-invariant}
 use Rattle.aff_run.proofs.PutInvariantLaws.{put-invariant}
-use Rattle.aff_run.proofs.RunLaws.{step-form, needed-made}
+use Rattle.aff_run.proofs.RunLaws.{step-form, step-edition, needed-made}
 use Rattle.aff_run.proofs.StepLaws.{buffer-after, run-buffer}
 use Rattle.aff.specs.Demand3.{bufferAt}
 use Rattle.aff.specs.Worked.{workedForm, nameA, nameN, minusSeventy, workedCalls, workedIn, workedTree, workedFile, WorkedRun, Worked, voidTree, OneShorter}
 use Rattle.aff.proofs.Demand3Laws.{demand3}
-use Rattle.aff.proofs.WorkedSums.{symbols-digest, entries-digest, data-digest, workedFront, header-digest}
+use Rattle.aff.proofs.WorkedSums.{symbols-digest, entries-digest, data-digest, workedFront, header-digest-2, header-digest-3}
 
 -- ---- The answers of calls, from the tree alone.
 
-abbrev expected : ℕ → Bool → Tree → List Call → List (Answer ℕ)
-expected size asleep tree [] = []
-expected size asleep tree (c ∷ cs) =
-    let a = cond asleep (refused (refusal 22)) (callAnswer size tree c) in
-    a ∷ expected size (asleep || stops c a) (applyCall tree c (isAccepted a)) cs
+abbrev expected : Edition → ℕ → Bool → Tree → List Call → List (Answer ℕ)
+expected e size asleep tree [] = []
+expected e size asleep tree (c ∷ cs) =
+    let a = cond asleep (refused (refusal 22)) (callAnswer e size tree c) in
+    a ∷ expected e size (asleep || stops c a) (applyCall tree c (isAccepted a)) cs
 
-answers-expected : (cs : List Call) (size : ℕ) (asleep : Bool) (tree : Tree) (answers : List (Answer ℕ)) → length answers ≡ length cs → AnswersFromTree size asleep tree cs answers
-    → answers ≡ expected size asleep tree cs
-answers-expected [] size asleep tree [] n h = refl
-answers-expected [] size asleep tree (a ∷ answers) n h = absurd (omega arith)
-answers-expected (c ∷ cs) size asleep tree [] n h = absurd h
-answers-expected (c ∷ cs) size asleep tree (a ∷ answers) n h =
+answers-expected : (cs : List Call) (e : Edition) (size : ℕ) (asleep : Bool) (tree : Tree) (answers : List (Answer ℕ)) → length answers ≡ length cs → AnswersFromTree e size asleep tree cs answers
+    → answers ≡ expected e size asleep tree cs
+answers-expected [] e size asleep tree [] n h = refl
+answers-expected [] e size asleep tree (a ∷ answers) n h = absurd (omega arith)
+answers-expected (c ∷ cs) e size asleep tree [] n h = absurd h
+answers-expected (c ∷ cs) e size asleep tree (a ∷ answers) n h =
     ap₂ (λ (x : Answer ℕ) (xs : List (Answer ℕ)). x ∷ xs) (h .0)
-    (answers-expected cs size (asleep || stops c a) (applyCall tree c (isAccepted a)) answers (omega arith) (h .1)
-    ∙ ap (λ (x : Answer ℕ). expected size (asleep || stops c x) (applyCall tree c (isAccepted x)) cs) (h .0))
+    (answers-expected cs e size (asleep || stops c a) (applyCall tree c (isAccepted a)) answers (omega arith) (h .1)
+    ∙ ap (λ (x : Answer ℕ). expected e size (asleep || stops c x) (applyCall tree c (isAccepted x)) cs) (h .0))
 
-expected-214 : (puts closes : ℕ) → 4 ≤ puts → 210 ≤ closes
-    → expected 214 false [] (workedCalls puts closes) ≡ accepted 1 ∷ accepted 2 ∷ accepted 4 ∷ accepted 210 ∷ []
-unfolding hasChild tooLarge closeNeeds sizeOf dataSize entriesSize addName namesFrom isIn textOf sameBytes lowestFrom narrowFirst narrowNext restOfSubkey subkeyFrom
-expected-214 puts closes p c = rw (le-ltb puts 4 p, le-ltb closes 210 c)
+expected-214 : (e : Edition) → isWritten e ≡ true → (puts closes : ℕ) → 4 ≤ puts → 210 ≤ closes
+    → expected e 214 false [] (workedCalls puts closes) ≡ accepted 1 ∷ accepted 2 ∷ accepted 4 ∷ accepted 210 ∷ []
+unfolding hasChild tooLarge closeNeeds sizeOf dataSize entriesSize addName namesFrom isIn textOf sameBytes lowestFrom narrowFirst narrowNext wide restOfSubkey subkeyFrom
+expected-214 One w puts closes p c = absurd-bool w
+expected-214 Two w puts closes p c = rw (le-ltb puts 4 p, le-ltb closes 210 c)
+expected-214 Three w puts closes p c = rw (le-ltb puts 4 p, le-ltb closes 210 c)
 
-expected-213 : (puts closes : ℕ) → 198 ≤ closes
-    → expected 213 false [] (workedCalls puts closes) ≡ accepted 1 ∷ accepted 2 ∷ refused (refusal 21) ∷ accepted 198 ∷ []
-unfolding hasChild tooLarge closeNeeds sizeOf dataSize entriesSize addName namesFrom isIn textOf sameBytes lowestFrom narrowFirst narrowNext restOfSubkey subkeyFrom
-expected-213 puts closes c = rw (le-ltb closes 198 c)
+expected-213 : (e : Edition) → isWritten e ≡ true → (puts closes : ℕ) → 198 ≤ closes
+    → expected e 213 false [] (workedCalls puts closes) ≡ accepted 1 ∷ accepted 2 ∷ refused (refusal 21) ∷ accepted 198 ∷ []
+unfolding hasChild tooLarge closeNeeds sizeOf dataSize entriesSize addName namesFrom isIn textOf sameBytes lowestFrom narrowFirst narrowNext wide restOfSubkey subkeyFrom
+expected-213 One w puts closes c = absurd-bool w
+expected-213 Two w puts closes c = rw (le-ltb closes 198 c)
+expected-213 Three w puts closes c = rw (le-ltb closes 198 c)
 
 -- ---- The finished file, from what holds before the close.
 
@@ -106,93 +114,96 @@ string-n zero l e = let z : _≡_ {A = ℕ} 97 110 = ap (λ (x : List ℕ). getD
 string-n (suc zero) l e = refl
 string-n (suc (suc i)) l e = absurd (omega arith)
 
-entries-are : (buffer : List ℕ) (es : List Entry) → Each (nameA ∷ nameN ∷ []) buffer 4 1 es workedTree
-    → (es ≡ entryA ∷ entryN ∷ []) × (part 168 4 buffer ≡ minusSeventy)
-entries-are buffer [] h = absurd h
-entries-are buffer (e ∷ []) h = absurd (h .1)
-entries-are buffer (e ∷ f ∷ []) h =
-    let a = h .0 in
-    let n = h .1 .0 in
-    let o : f .offset ≡ 168 = omega (arith, n .begins refl, n .ends refl) in
-    let p : e ≡ entryA = λ i. record { kind = a .kind-is i; parent = a .parent-is i; string = string-a (e .string) (a .string-exists) (a .name-is) i; count = a .count-is i; offset = a .void-offset refl i } in
-    let q : f ≡ entryN = λ i. record { kind = n .kind-is i; parent = n .parent-is i; string = string-n (f .string) (n .string-exists) (n .name-is) i; count = n .count-is i; offset = o i } in
-    (ap₂ (λ (x y : Entry). x ∷ y ∷ []) p q, ap (λ (k : ℕ). part k 4 buffer) (sym o) ∙ n .there refl)
-entries-are buffer (e ∷ f ∷ x ∷ es) h = absurd (h .1 .1)
-
--- The header, from its parts.
-abbrev frontOf : List ℕ → ℕ → List ℕ → List ℕ → List ℕ → List ℕ
-frontOf form records symbols entries stored =
-    headerFront Two form
-    (sectionHeader Two (dataPlace + 4) 2 symbols)
-    (sectionHeader Two (dataPlace + 4 + length symbols) 2 entries)
-    (sectionHeader Two dataPlace records stored)
-
-abbrev fileOf : List ℕ → List ℕ → List ℕ → List ℕ → List ℕ → List ℕ
-fileOf top symbols entries stored rest = withSum top ++ (stored ++ (symbols ++ (entries ++ rest)))
-
-abbrev symbolBytes : List ℕ
-symbolBytes = 97 ∷ 0 ∷ 110 ∷ 0 ∷ []
-
-abbrev entryList : List ℕ
-entryList = treeBytes (entryA ∷ entryN ∷ [])
-
-entry-length : length entryList ≡ 38
+-- Their bytes in a file.
+entry-length : length (treeBytes (entryA ∷ entryN ∷ [])) ≡ 38
 unfolding treeBytes entryBytes beBytes
 entry-length = refl
 
-worked-front : frontOf workedForm 1 symbolBytes entryList minusSeventy ≡ workedFront
-unfolding headerFront sectionHeader signatureText numberForm treeBytes entryBytes beBytes workedFront
-worked-front = rw (symbols-digest, entries-digest, data-digest)
+-- Data begin at 168 in each written edition.
+data-at : (e : Edition) → isWritten e ≡ true → headerSize e ≡ 168
+data-at One w = absurd-bool w
+data-at Two w = refl
+data-at Three w = refl
 
-worked-is : fileOf workedFront symbolBytes entryList minusSeventy [] ≡ workedFile
-unfolding withSum treeBytes entryBytes beBytes workedFront workedFile
-worked-is = rw header-digest
+entries-are : (ed : Edition) → isWritten ed ≡ true → (buffer : List ℕ) (es : List Entry) → Each ed (nameA ∷ nameN ∷ []) buffer 4 1 es workedTree
+    → (es ≡ entryA ∷ entryN ∷ []) × (part (headerSize ed) 4 buffer ≡ minusSeventy)
+entries-are ed w buffer [] h = absurd h
+entries-are ed w buffer (e ∷ []) h = absurd (h .1)
+entries-are ed w buffer (e ∷ f ∷ []) h =
+    let a = h .0 in
+    let n = h .1 .0 in
+    let z = data-at ed w in
+    let o : f .offset ≡ 168 = omega (arith, z, n .begins refl, n .ends refl) in
+    let p : e ≡ entryA = λ i. record { kind = a .kind-is i; parent = a .parent-is i; string = string-a (e .string) (a .string-exists) (a .name-is) i; count = a .count-is i; offset = a .void-offset refl i } in
+    let q : f ≡ entryN = λ i. record { kind = n .kind-is i; parent = n .parent-is i; string = string-n (f .string) (n .string-exists) (n .name-is) i; count = n .count-is i; offset = o i } in
+    (ap₂ (λ (x y : Entry). x ∷ y ∷ []) p q, ap (λ (k : ℕ). part k 4 buffer) (z ∙ sym o) ∙ n .there refl)
+entries-are ed w buffer (e ∷ f ∷ x ∷ es) h = absurd (h .1 .1)
 
-module _ (s : State) (g : Invariant s workedTree) (f : s .writer .form ≡ workedForm) (n : length (s .buffer) ≡ 214) where
-  each-here : Each (nameA ∷ nameN ∷ []) (s .buffer) 4 1 (g .entries) workedTree
-  each-here = rw (worked-names, worked-size) at (g .each)
+-- What is in the file.
+abbrev workedContents : FileContents
+workedContents = record { stored = minusSeventy; records = 1; names = nameA ∷ nameN ∷ []; entries = entryA ∷ entryN ∷ [] }
 
-  found : (g .entries ≡ entryA ∷ entryN ∷ []) × (part 168 4 (s .buffer) ≡ minusSeventy)
-  found = entries-are (s .buffer) (g .entries) each-here
+-- Its header before the sum, and the file, by computation.
+front-2 : headerFront Two (workedForm Two) (headerOf Two workedContents) ≡ workedFront Two
+unfolding headerFront sectionHeader sectionNumbers signatureText numberForm textOf treeBytes entryBytes beBytes workedFront
+front-2 = rw (symbols-digest, entries-digest, data-digest)
 
-  records : dataNodes (s .tree) 2 ≡ 1
-  unfolding dataNodes
-  records = rw (entry-in s workedTree g 1 (omega arith), entry-in s workedTree g 2 (omega arith), found .0)
+front-3 : headerFront Three (workedForm Three) (headerOf Three workedContents) ≡ workedFront Three
+unfolding headerFront sectionHeader sectionNumbers signatureText numberForm textOf treeBytes entryBytes beBytes workedFront
+front-3 = rw (symbols-digest, entries-digest, data-digest)
 
-  front-here : front s workedTree g ≡ workedFront
-  unfolding front
-  front-here = rw (worked-text, worked-size, worked-names, found .0, found .1, records, f) worked-front
+file-is : (e : Edition) → isWritten e ≡ true → fileOf e workedContents (workedForm e) ++ [] ≡ workedFile e
+unfolding fileOf fileHeader withSum textOf treeBytes entryBytes beBytes workedFront workedFile
+file-is One w = absurd-bool w
+file-is Two w = rw (front-2, header-digest-2)
+file-is Three w = rw (front-3, header-digest-3)
 
-  rest-here : (k : ℕ) → k ≡ 214 → drop k (s .buffer) ≡ []
-  rest-here k e = ap (λ (j : ℕ). drop j (s .buffer)) (e ∙ sym n) ∙ drop-length (s .buffer)
+module _ (e : Edition) (w : isWritten e ≡ true) (s : State) (g : Invariant s workedTree) (is : writerEdition (s .writer) ≡ e) (f : s .writer .form ≡ workedForm e)
+    (n : length (s .buffer) ≡ 214) where
+  each-here : Each e (nameA ∷ nameN ∷ []) (s .buffer) 4 1 (g .entries) workedTree
+  each-here = rw (worked-names, worked-size, is) at (g .each)
 
-  file-here : closed s workedTree g ≡ workedFile
+  found : (g .entries ≡ entryA ∷ entryN ∷ []) × (part (headerSize e) 4 (s .buffer) ≡ minusSeventy)
+  found = entries-are e w (s .buffer) (g .entries) each-here
+
+  contents-are : contents s workedTree g ≡ workedContents
+  unfolding contents nonVoidCount
+  contents-are =
+      let size : part (dataPlace (s .writer)) (dataSize workedTree) (s .buffer) ≡ minusSeventy =
+      ap (λ (d : Edition). part (headerSize d) (dataSize workedTree) (s .buffer)) is ∙ ap (λ (k : ℕ). part (headerSize e) k (s .buffer)) worked-size ∙ found .1 in
+      λ i. record { stored = size i; records = 1; names = worked-names i; entries = found .0 i }
+
+  rest-here : rest s workedTree g ≡ []
+  unfolding rest
+  rest-here =
+      let size : dataPlace (s .writer) + dataSize workedTree + length (textOf (namesOf workedTree)) + length (treeBytes (g .entries)) ≡ length (s .buffer) =
+      rw (worked-text, worked-size, found .0) (omega (arith, entry-length, ap headerSize is, data-at e w, n)) in
+      ap (λ (k : ℕ). drop k (s .buffer)) size ∙ drop-length (s .buffer)
+
+  file-here : closed s workedTree g ≡ workedFile e
   file-here =
-      let symbols = textOf (namesOf workedTree) in
-      let entries = treeBytes (g .entries) in
-      let stored = part dataPlace (dataSize workedTree) (s .buffer) in
-      let rest = drop (dataPlace + dataSize workedTree + length symbols + length entries) (s .buffer) in
-      let h : closed s workedTree g ≡ fileOf (front s workedTree g) symbols entries stored rest =
-      closed-is s workedTree g ∙ ap (λ (x : List ℕ). x ++ (stored ++ (symbols ++ (entries ++ rest)))) (header-is s workedTree g) in
-      let size : dataPlace + dataSize workedTree + length symbols + length entries ≡ 214 = rw (worked-text, worked-size, found .0) (omega (arith, entry-length)) in
-      h ∙ rw (front-here, rest-here (dataPlace + dataSize workedTree + length symbols + length entries) size, worked-text, worked-size, found .0, found .1) worked-is
+      closed-is s workedTree g
+      ∙ (λ i. fileOf (is i) (contents-are i) (f i) ++ rest-here i)
+      ∙ file-is e w
 
 -- ---- Runs with any areas of their lengths and any allowances that suffice.
 
-module _ (buffer text tree : List ℕ) (begins puts closes : ℕ) (x : length text ≡ textArea) (t : length tree ≡ treeArea) (b : 1 ≤ begins) where
+module _ (e : Edition) (w : isWritten e ≡ true) (buffer text tree : List ℕ) (begins puts closes : ℕ) (x : length text ≡ textArea) (t : length tree ≡ treeArea) (b : 1 ≤ begins) where
   abbrev run : Run
-  run = workedIn buffer text tree begins puts closes
+  run = workedIn e buffer text tree begins puts closes
 
   begin-accepted : 168 ≤ length buffer → length buffer ≤ imageLimit → runBegin run .answer ≡ accepted 1
-  unfolding beginStep beginAnswer beginLengthsWrong numberForm
+  unfolding beginStep beginAnswer beginLengthsWrong
   begin-accepted lo hi =
-      rw (eq-eqb (length text) textArea x, eq-eqb (length tree) treeArea t, le-ltb imageLimit (length buffer) hi, le-ltb (length buffer) 168 lo, le-ltb begins 1 b)
+      let place : headerSize (editionBy (editionNumber e)) ≡ 168 = ap headerSize (edition-by-number e) ∙ data-at e w in
+      rw (length-numberForm e, written-named (editionNumber e) (e, refl, w), place, eq-eqb (length text) textArea x, eq-eqb (length tree) treeArea t, le-ltb imageLimit (length buffer) hi, le-ltb (length buffer) 168 lo, le-ltb begins 1 b)
 
   -- The answers are those expected in a buffer of that size.
-  answers-are : (size : ℕ) → length buffer ≡ size → 168 ≤ size → size ≤ imageLimit → runAnswers run ≡ expected size false [] (run .calls)
+  answers-are : (size : ℕ) → length buffer ≡ size → 168 ≤ size → size ≤ imageLimit → runAnswers run ≡ expected e size false [] (run .calls)
   answers-are size r lo hi =
-      answers-expected (run .calls) (length buffer) false [] (runAnswers run) refl (run-from-tree run (begin-accepted (omega arith) (omega arith)))
-      ∙ ap (λ (n : ℕ). expected n false [] (run .calls)) r
+      answers-expected (run .calls) e (length buffer) false [] (runAnswers run) refl (subst (λ (d : Edition). AnswersFromTree d (length buffer) false [] (run .calls) (runAnswers run)) (edition-by-number e)
+      (run-from-tree run (begin-accepted (omega arith) (omega arith))))
+      ∙ ap (λ (n : ℕ). expected e n false [] (run .calls)) r
 
 -- Demand 3 of a run with a close accepted: the buffer after all its stores shows the tree described.
 run-shows : (run : Run) (shown : Tree) → runTree run ≡ shown → runClosed run ≡ true → Shows (applyStores (run .buffer) (runStores run)) (run .form) shown
@@ -204,9 +215,9 @@ run-shows run shown e c =
 -- ---- A buffer of 213 bytes: the answers from the tree, the rest by demand 3.
 
 pub worked-213 : OneShorter
-worked-213 buffer text tree begins puts closes r x t b c =
-    let shorter = workedIn buffer text tree begins puts closes in
-    let answers = answers-are buffer text tree begins puts closes x t b 213 r (omega arith) (omega arith) ∙ expected-213 puts closes c in
+worked-213 e w buffer text tree begins puts closes r x t b c =
+    let shorter = workedIn e buffer text tree begins puts closes in
+    let answers = answers-are e w buffer text tree begins puts closes x t b 213 r (omega arith) (omega arith) ∙ expected-213 e w puts closes c in
     let nodes = ap (treeAfter [] (shorter .calls)) answers in
     record { answers = answers; nodes = nodes; shows = run-shows shorter voidTree nodes (ap (closedBy (shorter .calls)) answers) }
 
@@ -215,17 +226,17 @@ worked-213 buffer text tree begins puts closes r x t b c =
 five-lengths : (b m n p c : List Store) → length b ≡ 1 → m ≡ [] → n ≡ [] → length p ≡ 4 → length c ≡ 210 → length (b ++ (m ++ (n ++ (p ++ (c ++ []))))) ≡ 215
 five-lengths b m n p c lb em en lp lc = rw (em, en, append-nil, length-append, length-append p c, lb, lp, lc)
 
-module _ (buffer text tree : List ℕ) (begins puts closes : ℕ) (r : length buffer ≡ 214) (x : length text ≡ textArea) (t : length tree ≡ treeArea)
+module _ (e : Edition) (w : isWritten e ≡ true) (buffer text tree : List ℕ) (begins puts closes : ℕ) (r : length buffer ≡ 214) (x : length text ≡ textArea) (t : length tree ≡ treeArea)
     (b : 1 ≤ begins) (p : 4 ≤ puts) (c : 210 ≤ closes) where
   abbrev it : Run
-  it = workedIn buffer text tree begins puts closes
+  it = workedIn e buffer text tree begins puts closes
 
   worked-begins : runBegin it .answer ≡ accepted 1
-  worked-begins = begin-accepted buffer text tree begins puts closes x t b (omega arith) (omega arith)
+  worked-begins = begin-accepted e w buffer text tree begins puts closes x t b (omega arith) (omega arith)
 
   -- Every call is accepted.
   worked-answers : runAnswers it ≡ accepted 1 ∷ accepted 2 ∷ accepted 4 ∷ accepted 210 ∷ []
-  worked-answers = answers-are buffer text tree begins puts closes x t b 214 r (omega arith) (omega arith) ∙ expected-214 puts closes p c
+  worked-answers = answers-are e w buffer text tree begins puts closes x t b 214 r (omega arith) (omega arith) ∙ expected-214 e w puts closes p c
 
   answer-at : (k : ℕ) → getD (runAnswers it) k (accepted 0) ≡ getD (accepted 1 ∷ accepted 2 ∷ accepted 4 ∷ accepted 210 ∷ []) k (accepted 0)
   answer-at k = ap (λ (l : List (Answer ℕ)). getD l k (accepted 0)) worked-answers
@@ -250,8 +261,14 @@ module _ (buffer text tree : List ℕ) (begins puts closes : ℕ) (r : length bu
       let g₂ = made-invariant s₁ (withChild [] 0 nameA) g₁ 1 nameN (answer-at 1) in
       put-invariant s₂ (withChild (withChild [] 0 nameA) 1 nameN) g₂ 2 3 minusSeventy puts (answer-at 2)
 
-  form-kept : s₃ .writer .form ≡ workedForm
+  form-kept : s₃ .writer .form ≡ workedForm e
   form-kept = step-form s₂ (put 2 3 minusSeventy puts) ∙ step-form s₁ (make 1 nameN) ∙ step-form s₀ (make 0 nameA) ∙ begin-form it worked-begins
+
+  edition-kept : writerEdition (s₃ .writer) ≡ e
+  edition-kept =
+      ap editionBy
+      (step-edition s₂ (put 2 3 minusSeventy puts) ∙ step-edition s₁ (make 1 nameN) ∙ step-edition s₀ (make 0 nameA) ∙ begin-edition it worked-begins)
+      ∙ edition-by-number e
 
   buffer-kept : length (s₃ .buffer) ≡ 214
   buffer-kept =
@@ -267,22 +284,22 @@ module _ (buffer text tree : List ℕ) (begins puts closes : ℕ) (r : length bu
       (put-reports s₂ 2 3 minusSeventy puts ∙ ap storesReported (answer-at 2)) (close-reports s₃ closes ∙ ap storesReported (answer-at 3))
 
   -- The buffer is then the worked file.
-  worked-buffer : applyStores buffer (runStores it) ≡ workedFile
+  worked-buffer : applyStores buffer (runStores it) ≡ workedFile e
   worked-buffer =
       sym (run-buffer it)
       ∙ ap (applyStores (s₃ .buffer)) (needed-made s₃ (close closes) (answer-at 3))
       ∙ sym (closed-buffer s₃ workedTree kept)
-      ∙ file-here s₃ kept form-kept buffer-kept
+      ∙ file-here e w s₃ kept edition-kept form-kept buffer-kept
 
   -- The calls describe the two nodes, and the file shows them, by demand 3.
   worked-tree : runTree it ≡ workedTree
   worked-tree = ap (treeAfter [] (it .calls)) worked-answers
 
-  worked-shows : Shows workedFile workedForm workedTree
+  worked-shows : Shows (workedFile e) (workedForm e) workedTree
   worked-shows =
-      subst (λ (i : List ℕ). Shows i workedForm workedTree) worked-buffer (run-shows it workedTree worked-tree (ap (closedBy (it .calls)) worked-answers))
+      subst (λ (i : List ℕ). Shows i (workedForm e) workedTree) worked-buffer (run-shows it workedTree worked-tree (ap (closedBy (it .calls)) worked-answers))
 
-  all-worked : WorkedRun it
+  all-worked : WorkedRun e it
   all-worked = record { begins = worked-begins; answers = worked-answers; stores = worked-stores; file = worked-buffer; nodes = worked-tree; shows = worked-shows }
 
 pub worked : Worked

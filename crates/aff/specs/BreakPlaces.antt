@@ -24,7 +24,7 @@ use Rattle.aff_open.specs.Opening.{openAnswer}
 use Rattle.aff_open.specs.Rules.{FirstBadLink}
 use Rattle.aff_open.specs.Sections.{editionIn, stringsIn, nodesIn}
 use Rattle.aff_areas.specs.Belongs.{WriterBelongs}
-use Rattle.aff_areas.specs.Writer.{written}
+use Rattle.aff_areas.specs.Writer.{writerEdition}
 use Rattle.aff_areas.specs.declared.writer.Writer.{Writer}
 use Rattle.aff_make.specs.Make.{makeAnswer}
 use Rattle.aff_reader.specs.declared.reader.Reader.{Reader}
@@ -45,7 +45,7 @@ pub record BreakPlaces : Type 1 where
   pub one-place : (In : List ℕ → Type 0) (l : List ℕ) (p q : ℕ) → Breaks In l p → Breaks In l q → p ≡ q
   -- Make, by a record of a live writer that belongs, below a node that exists: 14 with p exactly when p is where the name breaks.
   pub make : (size : ℕ) (w : Writer) (text tree : List ℕ) (parent : ℕ) (name : List ℕ) → WriterBelongs size w text tree → w .live ≡ true → parent ≤ w .nodes
-      → (p : ℕ) → (makeAnswer size w text tree parent name ≡ refused (refusalAt 14 p)) ↔ Breaks (IsSubkey written) name p
+      → (p : ℕ) → (makeAnswer size w text tree parent name ≡ refused (refusalAt 14 p)) ↔ Breaks (IsSubkey (writerEdition w)) name p
   -- Opening: 10 with node k and a second number exactly when all rules before hold, k is the lowest node whose parent or string does not exist or whose string is
   -- no subkey, and the number is the one that `NameBreak` says.
   pub opening : (image form : List ℕ) (strings entries k second : ℕ)
@@ -57,6 +57,6 @@ pub record BreakPlaces : Type 1 where
   pub opening-second : (image form : List ℕ) (strings entries : ℕ) → SecondBy10 _ (openAnswer image form strings entries)
   pub reading-second : (image : List ℕ) (r : Reader) (strings entries : List ℕ) → EachReading SecondBy10 image r strings entries
   pub decode-second : (kind : Kind) (bytes : List ℕ) (index : ℕ) → SecondBy10 _ (decoded kind bytes index)
-  pub begin-second : (buffer form text tree : List ℕ) (allowance : ℕ) → SecondBy10 _ (beginAnswer buffer form text tree allowance)
+  pub begin-second : (edition : ℕ) (buffer form text tree : List ℕ) (allowance : ℕ) → SecondBy10 _ (beginAnswer edition buffer form text tree allowance)
   pub writing-second : (buffer : List ℕ) (w : Writer) (text tree : List ℕ) → EachWriting SecondBy10 buffer w text tree
   pub row-second : (r : Refusal) → SecondOf10 (codeOfRefusal r)

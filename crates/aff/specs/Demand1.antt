@@ -11,8 +11,10 @@ use mathlib.Core.Logic.{_↔_}
 use Prim.Native.Nat.{ℕ}
 use lib.ListN.{length}
 use Rattle.aff_format.specs.Answer.{Answer, accepted, refused, refusal}
+use Rattle.aff_format.specs.Edition.{editionBy}
 use Rattle.aff_format.specs.Element.{elementAt, decoded}
 use Rattle.aff_format.specs.Tree.{Tree}
+use Rattle.aff_format.specs.declared.edition.Edition.{Edition}
 use Rattle.aff_format.specs.declared.kind.Kind.{Kind}
 use Rattle.aff_format.specs.declared.refusal.RefusalCode.{RefusalCode}
 use Rattle.aff_reader.specs.Belongs.{ReaderBelongs}
@@ -91,8 +93,8 @@ pub record Demand1 : Type 0 where
   pub reading : (image : List ℕ) (r : Reader) (strings entries : List ℕ) → ReadingByRules image r strings entries
   pub decode : (kind : Kind) (bytes : List ℕ) (index : ℕ)
       → By (decodeRules kind bytes index) (Is (elementAt kind bytes index)) (decoded kind bytes index)
-  pub begin : (buffer form text tree : List ℕ) (allowance : ℕ)
-      → By (beginRules buffer form text tree allowance) (Is 1) (beginAnswer buffer form text tree allowance)
+  pub begin : (edition : ℕ) (buffer form text tree : List ℕ) (allowance : ℕ)
+      → By (beginRules edition buffer form text tree allowance) (Is 1) (beginAnswer edition buffer form text tree allowance)
   pub writing : (buffer : List ℕ) (w : Writer) (text tree : List ℕ) → WritingByRules buffer w text tree
   -- What each call leaves in the caller's memory, by its answer.
   pub opening-leaves : (image form strings entries : List ℕ) → OpeningLeaves image form strings entries
@@ -112,22 +114,22 @@ pub record Demand1 : Type 0 where
   pub refused-writes : (run : Run) {t : RefusalCode} → runBegin run .answer ≡ refused t → (t .number ≡ 23 → ⊥)
       → (other text tree : List ℕ) → EachWriting Is24 other (runBegin run .writer) text tree
   -- A run: a begin and then any calls with any arguments. After an accepted begin `AnswersFromTree` gives each answer: 22 exactly after an accepted close
-  -- or a 23, and else what the tree described so far decides, with its sizes, the buffer's length and the allowance and nothing else: 15 no such
+  -- or a 23, and else what the edition and the tree described so far decide, with its sizes, the buffer's length and the allowance and nothing else: 15 no such
   -- number, 14, 17 it has that child, 18, 19, 20, 21 by its sizes, 23 by the stores needed, or accepted.
-  pub run : (run : Run) {n : ℕ} → runBegin run .answer ≡ accepted n → AnswersFromTree (length (run .buffer)) false [] (run .calls) (runAnswers run)
+  pub run : (run : Run) {n : ℕ} → runBegin run .answer ≡ accepted n → AnswersFromTree (editionBy (run .edition)) (length (run .buffer)) false [] (run .calls) (runAnswers run)
   -- After a begin refused by 23 the writer is stopped: every answer is 22.
   pub spent-run : (run : Run) {t : RefusalCode} → runBegin run .answer ≡ refused t → t .number ≡ 23
-      → AnswersFromTree (length (run .buffer)) true [] (run .calls) (runAnswers run)
+      → AnswersFromTree (editionBy (run .edition)) (length (run .buffer)) true [] (run .calls) (runAnswers run)
   -- After a begin refused otherwise every answer is 24, and nothing is stored.
   pub refused-run : (run : Run) {t : RefusalCode} → runBegin run .answer ≡ refused t → (t .number ≡ 23 → ⊥)
       → AllWrongRecord (runAnswers run) × (runStores run ≡ [])
   -- What `AnswersFromTree` says of 24 and 22.
-  pub run-numbers : (size : ℕ) (stopped : Bool) (tree : Tree) (calls : List Call) (answers : List (Answer ℕ))
-      → AnswersFromTree size stopped tree calls answers → Numbered stopped calls answers
+  pub run-numbers : (e : Edition) (size : ℕ) (stopped : Bool) (tree : Tree) (calls : List Call) (answers : List (Answer ℕ))
+      → AnswersFromTree e size stopped tree calls answers → Numbered stopped calls answers
   -- No answer reports more stores than its call needs, and none are reported but where a call is accepted or answers 23. (By definition the stores of
   -- `beginStep` and `step` are the first of those needed, as many as the answer reports. That an accepted call reports all of them and a 23 the allowance is
   -- in `begin`, `writing` and `AnswersFromTree`; that the buffer then holds these and no others is in `begin-leaves` and `writing-leaves`.)
   pub begin-reports : (run : Run) → length (runBegin run .stores) ≡ storesReported (runBegin run .answer)
   pub reports : (s : State) (c : Call) → length (step s c .stores) ≡ callStores c (step s c .answer)
   -- The areas of a run: the text area holds the strings so far, each with its zero, the tree area each node's entry; zeros after them.
-  pub areas : (run : Run) {n : ℕ} → runBegin run .answer ≡ accepted n → AreasHold (runTree run) (runState run)
+  pub areas : (run : Run) {n : ℕ} → runBegin run .answer ≡ accepted n → AreasHold (run .edition) (runTree run) (runState run)

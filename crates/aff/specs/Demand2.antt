@@ -13,7 +13,7 @@ use lib.ListN.{length, getD, take}
 use Rattle.aff_format.specs.Answer.{accepted, refused, refusal, refusalAt}
 use Rattle.aff_format.specs.Breaks.{Breaks}
 use Rattle.aff_format.specs.Bytes.{Octets, part}
-use Rattle.aff_format.specs.Edition.{editionNumber}
+use Rattle.aff_format.specs.Edition.{editionBy, editionNumber}
 use Rattle.aff_format.specs.Element.{elementAt}
 use Rattle.aff_format.specs.Kind.{elementSize, isVoid}
 use Rattle.aff_format.specs.Limits.{stringLimit, nodeLimit}
@@ -32,12 +32,12 @@ use Rattle.aff_format.specs.Recorded.{recordedEntry}
 use Rattle.aff_open.specs.Sections.{sectionRecords}
 use Rattle.aff_reader.specs.declared.reader.Reader.{Reader}
 use Rattle.aff_nodes.specs.Answers.{nameAnswer, kindAnswer, countAnswer, viewAnswer, elementAnswer}
-use Rattle.aff_read.specs.Paths.{editionBy, lookupAnswer}
+use Rattle.aff_read.specs.Paths.{lookupAnswer}
 use Rattle.aff_read.specs.Lookup.{LowestWith, NoneWith}
 use Rattle.aff_listing.specs.Once.{occurrences}
 use Rattle.aff_nodes.specs.Recall.{nameAt, pathAt}
 use Rattle.aff_read.specs.Shows.{PartIs, Absent}
-use Rattle.aff.specs.Cases.{EachHolds, caseTable}
+use Rattle.aff.specs.Cases.{EachHolds, caseTable, wideTable, NameBytes}
 use Rattle.aff_listing.specs.ListingOrder.{lists, preorder, kept, keptBelow, listingOrder, listingAnswer}
 use Rattle.aff_listing.specs.declared.choice.Choice.{Choice}
 use Rattle.aff_listing.specs.declared.choice.Choice.the-variants.{AllNodes, NotVoid}
@@ -83,10 +83,10 @@ module _ (image : List ℕ) (r : Reader) (strings entries : List ℕ) where
   pub record Reads : Type 0 where
     -- Lookup answers 14 with place p exactly when p is where the path breaks; a path breaks exactly when it is not well-formed. For a well-formed one it
     -- answers n exactly when n is the lowest node with that path, and 15 exactly when no node has it.
-    pub malformed : (path : List ℕ) (p : ℕ) → (here lookupAnswer path ≡ refused (refusalAt 14 p)) ↔ Breaks (WellFormed (editionBy r)) path p
-    pub malformed-path : (path : List ℕ) → ((p : ℕ) × (here lookupAnswer path ≡ refused (refusalAt 14 p))) ↔ (WellFormed (editionBy r) path → ⊥)
-    pub lowest : (path : List ℕ) → WellFormed (editionBy r) path → (n : ℕ) → (here lookupAnswer path ≡ accepted n) ↔ here LowestWith path n
-    pub absent : (path : List ℕ) → WellFormed (editionBy r) path → (here lookupAnswer path ≡ refused (refusal 15)) ↔ here NoneWith path
+    pub malformed : (path : List ℕ) (p : ℕ) → (here lookupAnswer path ≡ refused (refusalAt 14 p)) ↔ Breaks (WellFormed (editionBy (r .edition))) path p
+    pub malformed-path : (path : List ℕ) → ((p : ℕ) × (here lookupAnswer path ≡ refused (refusalAt 14 p))) ↔ (WellFormed (editionBy (r .edition)) path → ⊥)
+    pub lowest : (path : List ℕ) → WellFormed (editionBy (r .edition)) path → (n : ℕ) → (here lookupAnswer path ≡ accepted n) ↔ here LowestWith path n
+    pub absent : (path : List ℕ) → WellFormed (editionBy (r .edition)) path → (here lookupAnswer path ≡ refused (refusal 15)) ↔ here NoneWith path
     -- A node's name is the string of its entry's number, empty for the root; its view is the bytes that its entry names.
     pub name : (node : ℕ) → node ≤ r .nodes → PartIs image (here nameAnswer node) (here nameAt node)
     pub view : (node : ℕ) → node ≤ r .nodes → PartIs image (here viewAnswer node) (dataNamed image (shown node))
@@ -162,3 +162,6 @@ pub record Demand2 : Type 0 where
   pub reads : (image : List ℕ) (r : Reader) (strings entries : List ℕ) → ReaderBelongs image r strings entries → Reads image r strings entries
   -- Document 01's table of cases, P1 to P10.
   pub cases : EachHolds caseTable
+  -- The same for edition 3, and which bytes a name may have in each edition.
+  pub wide-cases : EachHolds wideTable
+  pub name-bytes : NameBytes

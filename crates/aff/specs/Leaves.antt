@@ -74,15 +74,15 @@ pub record BeginLeaves (run : Run) : Type 0 where
   pub by-acceptance : (n : ℕ) → runBegin run .answer ≡ accepted n
       → runStart run
       ≡ record {
-        writer = freshWriter (length (run .buffer)) (run .form);
+        writer = freshWriter (run .edition) (length (run .buffer)) (run .form);
         text = replicate (length (run .text)) 0;
         tree = replicate (length (run .tree)) 0;
         buffer = set (run .buffer) 0 0;
       }
   -- Refused by 23: that record, but stopped; areas and buffer as they were, since no store was made.
   pub by-23 : (t : RefusalCode) → runBegin run .answer ≡ refused t → t .number ≡ 23
-      → runStart run ≡ record { writer = stopped (freshWriter (length (run .buffer)) (run .form)); text = run .text; tree = run .tree; buffer = run .buffer }
-  -- Refused by 1 or 21: the all-zero record; areas and buffer as they were.
+      → runStart run ≡ record { writer = stopped (freshWriter (run .edition) (length (run .buffer)) (run .form)); text = run .text; tree = run .tree; buffer = run .buffer }
+  -- Refused by 1, 3 or 21: the all-zero record; areas and buffer as they were.
   pub by-others : (t : RefusalCode) → runBegin run .answer ≡ refused t → (t .number ≡ 23 → ⊥)
       → runStart run ≡ record { writer = noWriter; text = run .text; tree = run .tree; buffer = run .buffer }
 

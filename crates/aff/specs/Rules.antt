@@ -6,6 +6,7 @@ use mathlib.Core.Bool.{true}
 use mathlib.Core.List.{List, [], _∷_}
 use Prim.Native.Nat.{ℕ, _+_, _%_, _≤_, _<_}
 use lib.ListN.{length}
+use Rattle.aff_format.specs.Edition.{headerSize, editionBy, NamesWritten}
 use Rattle.aff_format.specs.Answer.{refusal, refusalAt}
 use Rattle.aff_format.specs.Element.{countIn, elementAt}
 use Rattle.aff_format.specs.Kind.{kindCode, elementSize, entrySize}
@@ -19,12 +20,12 @@ use Rattle.aff_reader.specs.Belongs.{ReaderBelongs}
 use Rattle.aff_format.specs.Rule.{Rule, rule, By, Is}
 use Rattle.aff_reader.specs.declared.reader.Reader.{Reader}
 use Rattle.aff_nodes.specs.Answers.{nameAnswer, kindAnswer, countAnswer, viewAnswer, elementAnswer}
-use Rattle.aff_read.specs.Paths.{editionBy, pathAnswer, lookupAnswer}
+use Rattle.aff_read.specs.Paths.{pathAnswer, lookupAnswer}
 use Rattle.aff_read.specs.Lookup.{LowestWith}
 use Rattle.aff_nodes.specs.Recall.{kindAt, countAt, nameSpan, dataSpan, bytesAt, pathAt}
 use Rattle.aff_areas.specs.Areas.{slotEntry, nameOf, finishedSize}
 use Rattle.aff_areas.specs.Belongs.{WriterBelongs}
-use Rattle.aff_areas.specs.Writer.{written, dataPlace}
+use Rattle.aff_areas.specs.Writer.{writerEdition}
 use Rattle.aff_areas.specs.declared.writer.Writer.{Writer}
 use Rattle.aff_write.specs.Close.{closeStores, closeAnswer}
 use Rattle.aff_make.specs.Make.{addedStrings, addedText, makeAnswer}
@@ -59,7 +60,7 @@ module _ (image : List ℕ) (r : Reader) (strings entries : List ℕ) where
   abbrev pub lookupRules : List ℕ → List Rule
   lookupRules path =
       rule (here ReaderBelongs) (refusal 24)
-      ∷ rule (WellFormed (editionBy r) path) (refusalAt 14 (breakPlace (pathGrammar (editionBy r) path)))
+      ∷ rule (WellFormed (editionBy (r .edition)) path) (refusalAt 14 (breakPlace (pathGrammar (editionBy (r .edition)) path)))
       ∷ rule ((node : ℕ) × (node ≤ r .nodes) × (here pathAt node ≡ path)) (refusal 15)
       ∷ []
 
@@ -87,12 +88,13 @@ module _ (image : List ℕ) (r : Reader) (strings entries : List ℕ) where
 
 -- ---- Writing.
 
--- Begin: 1, form and areas have their lengths, and the buffer is not too long; 21, the buffer is at least a header's 168 bytes; 23, the allowance takes
--- the one store.
-abbrev pub beginRules : List ℕ → List ℕ → List ℕ → List ℕ → ℕ → List Rule
-beginRules buffer form text tree allowance =
+-- Begin: 1, form and areas have their lengths, and the buffer is not too long; 3, the number names an edition that is written (request C-15); 21, the buffer
+-- has at least the bytes of that edition's header; 23, the allowance takes the one store.
+abbrev pub beginRules : ℕ → List ℕ → List ℕ → List ℕ → List ℕ → ℕ → List Rule
+beginRules edition buffer form text tree allowance =
     rule ((length form ≡ 12) × (length text ≡ textArea) × (length tree ≡ treeArea) × (length buffer ≤ imageLimit)) (refusal 1)
-    ∷ rule (dataPlace ≤ length buffer) (refusal 21)
+    ∷ rule (NamesWritten edition) (refusal 3)
+    ∷ rule (headerSize (editionBy edition) ≤ length buffer) (refusal 21)
     ∷ rule (1 ≤ allowance) (refusalAt 23 allowance)
     ∷ []
 
@@ -113,13 +115,13 @@ module _ (buffer : List ℕ) (w : Writer) (text tree : List ℕ) where
   abbrev pub Few : List ℕ → Type 0
   Few name = (w .nodes + 1 ≤ nodeLimit) × (w .strings + addedStrings w text name ≤ stringLimit) × (w .text + addedText w text name ≤ textArea)
 
-  -- Make: 24, 22; 15, the parent exists; 14, the name is a subkey (reported with the place at which it breaks); 17; 20; 21, the finished size, with a Void
+  -- Make: 24, 22; 15, the parent exists; 14, the name is a subkey of the recorded edition (reported with the place at which it breaks); 17; 20; 21, the finished size, with a Void
   -- entry and the text added, fits the buffer.
   abbrev pub makeRules : ℕ → List ℕ → List Rule
   makeRules parent name =
       writerRules
       (rule (parent ≤ w .nodes) (refusal 15)
-      ∷ rule (isSubkey written name ≡ true) (refusalAt 14 (breakPlace (subkeyFrom written 0 name)))
+      ∷ rule (isSubkey (writerEdition w) name ≡ true) (refusalAt 14 (breakPlace (subkeyFrom (writerEdition w) 0 name)))
       ∷ rule (NoSuchChild parent name) (refusal 17)
       ∷ rule (Few name) (refusal 20)
       ∷ rule (finishedSize w tree + entrySize Void + addedText w text name ≤ length buffer) (refusal 21)

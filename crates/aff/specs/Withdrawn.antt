@@ -31,7 +31,7 @@ pub record Withdrawn : Type 0 where
   pub reading : (image : List ℕ) (r : Reader) (strings entries : List ℕ) → EachReading Not8 image r strings entries
   pub decode : (kind : Kind) (bytes : List ℕ) (index : ℕ) → NotBy 8 (decoded kind bytes index)
   -- Begin, and each other writing call.
-  pub begin : (buffer form text tree : List ℕ) (allowance : ℕ) → NotBy 8 (beginAnswer buffer form text tree allowance)
+  pub begin : (edition : ℕ) (buffer form text tree : List ℕ) (allowance : ℕ) → NotBy 8 (beginAnswer edition buffer form text tree allowance)
   pub writing : (buffer : List ℕ) (w : Writer) (text tree : List ℕ) → EachWriting Not8 buffer w text tree
   -- A run: a begin and then any calls.
   pub run : (run : Run) → NotBy 8 (runBegin run .answer) × NoneBy 8 (runAnswers run)

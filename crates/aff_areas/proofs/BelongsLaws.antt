@@ -28,7 +28,9 @@ use Rattle.aff_format.proofs.LowestLaws.{none-holds, holds-none, none-at}
 use Rattle.aff_format.proofs.StringsLaws.{strings-zeros}
 use Rattle.aff_format.proofs.TestLaws.{both, all-seven, or-false}
 use Rattle.aff_format.specs.Entry.{orNone}
+use Rattle.aff_format.proofs.EditionLaws.{names-written, written-named}
 use Rattle.aff_format.proofs.EntryLaws.{data-asks}
+use Rattle.aff_format.specs.Edition.{namesWritten}
 use Rattle.aff_areas.specs.Areas.{usedText, namesIn, foundSlot, slotEntry, entrySizes, finishedSize}
 use Rattle.aff_areas.specs.Belongs.{writerBelongs, WriterBelongs, writerSizesBelong, textBelongs, slotLost, writerNodeLost, writerNodesBelong, writerChecks}
 use Rattle.aff_areas.specs.Writer.{dataPlace, noWriter}
@@ -38,17 +40,21 @@ use Rattle.aff_areas.proofs.AreaLaws.{slot-found}
 -- ---- The test in the order of the passes.
 
 module _ (size : ℕ) (writer : Writer) (text tree : List ℕ) where
+  pub edition-decides : namesWritten (writer .edition) ≡ false → writerBelongs size writer text tree ≡ false
+  unfolding writerBelongs
+  edition-decides h = rw h
+
   pub sizes-decide : writerSizesBelong size writer text tree ≡ false → writerBelongs size writer text tree ≡ false
   unfolding writerBelongs
-  sizes-decide h = rw h
+  sizes-decide h = rw (h, and-false)
 
   pub text-decides : textBelongs writer text ≡ false → writerBelongs size writer text tree ≡ false
   unfolding writerBelongs
-  text-decides h = rw (h, and-false)
+  text-decides h = simp (h, and-false)
 
-  pub nodes-decide : writerSizesBelong size writer text tree ≡ true → textBelongs writer text ≡ true → writerBelongs size writer text tree ≡ writerNodesBelong writer tree
+  pub nodes-decide : namesWritten (writer .edition) ≡ true → writerSizesBelong size writer text tree ≡ true → textBelongs writer text ≡ true → writerBelongs size writer text tree ≡ writerNodesBelong writer tree
   unfolding writerBelongs
-  nodes-decide h g = rw (h, g)
+  nodes-decide e h g = rw (e, h, g)
 
   pub count-decides : size ≡ writer .length → writer .length ≤ imageLimit → length text ≡ textArea → length tree ≡ treeArea
       → writer .strings ≤ stringLimit → writer .text ≤ textArea → writerSizesBelong size writer text tree ≡ leb (writer .nodes) nodeLimit
@@ -83,67 +89,69 @@ unfolding textBelongs
 zeros-decide writer text h = rw (h, strings-zeros (usedText writer text) h)
 
 module _ (writer : Writer) (tree : List ℕ) where
-  pub lost-decides : {k : ℕ} → lowestFrom (writerNodeLost (writer .strings) (writer .«data») tree) (writer .nodes) 1 ≡ At k → writerNodesBelong writer tree ≡ false
+  pub lost-decides : {k from : ℕ} → from ≡ dataPlace writer → lowestFrom (writerNodeLost (writer .strings) from (writer .«data») tree) (writer .nodes) 1 ≡ At k → writerNodesBelong writer tree ≡ false
   unfolding writerNodesBelong
-  lost-decides h = rw h
+  lost-decides p h = rw (← p, h)
 
-  pub size-decides : lowestFrom (writerNodeLost (writer .strings) (writer .«data») tree) (writer .nodes) 1 ≡ Nothing
+  pub size-decides : {from : ℕ} → from ≡ dataPlace writer → lowestFrom (writerNodeLost (writer .strings) from (writer .«data») tree) (writer .nodes) 1 ≡ Nothing
       → writerNodesBelong writer tree ≡ leb (finishedSize writer tree) (writer .length)
   unfolding writerNodesBelong
-  size-decides h = rw h
+  size-decides p h = rw (← p, h)
 
   -- The finished size does not fit where header and data do not.
-  pub data-decide : writer .length < dataPlace + writer .«data» → writerNodesBelong writer tree ≡ false
+  pub data-decide : writer .length < dataPlace writer + writer .«data» → writerNodesBelong writer tree ≡ false
   unfolding writerNodesBelong finishedSize
   data-decide h =
-      rw (lt-leb (dataPlace + writer .«data» + writer .text + entrySizes tree (writer .nodes)) (writer .length) (omega arith), and-false)
+      rw (lt-leb (dataPlace writer + writer .«data» + writer .text + entrySizes tree (writer .nodes)) (writer .length) (omega arith), and-false)
 
 -- ---- Nodes.
 
 -- What an entry has that is not lost, and back.
-pub record Kept (strings size k : ℕ) (e : Entry) : Type 0 where
+pub record Kept (strings from size k : ℕ) (e : Entry) : Type 0 where
   pub parent : e .parent < k
   pub string : e .string < strings
-  pub inside : isVoid (e .kind) ≡ false → (dataPlace ≤ e .offset) × (e .offset + e .count * elementSize (e .kind) ≤ dataPlace + size)
+  pub inside : isVoid (e .kind) ≡ false → (from ≤ e .offset) × (e .offset + e .count * elementSize (e .kind) ≤ from + size)
 
-pub kept-slot : (strings size k : ℕ) (e : Entry) (f : FoundEntry) → f ≡ Whole e → Kept strings size k e → slotLost strings size k f ≡ false
-kept-slot strings size k e f q w =
-    rw (q, lt-leb k (e .parent) (w .parent), lt-leb strings (e .string) (w .string)) (data-asks dataPlace size e .1 (w .inside))
+pub kept-slot : (strings from size k : ℕ) (e : Entry) (f : FoundEntry) → f ≡ Whole e → Kept strings from size k e → slotLost strings from size k f ≡ false
+kept-slot strings from size k e f q w =
+    rw (q, lt-leb k (e .parent) (w .parent), lt-leb strings (e .string) (w .string)) (data-asks from size e .1 (w .inside))
 
-pub slot-kept : (strings size k : ℕ) (f : FoundEntry) → slotLost strings size k f ≡ false
-    → (f ≡ Whole (orNone f)) × Kept strings size k (orNone f)
-slot-kept strings size k Broken h = absurd (true≢false h)
-slot-kept strings size k (Whole e) h =
+pub slot-kept : (strings from size k : ℕ) (f : FoundEntry) → slotLost strings from size k f ≡ false
+    → (f ≡ Whole (orNone f)) × Kept strings from size k (orNone f)
+slot-kept strings from size k Broken h = absurd (true≢false h)
+slot-kept strings from size k (Whole e) h =
     let (p, r) = or-false _ _ h in
     let (s, d) = or-false _ _ r in
-    (refl, record { parent = leb-false _ _ p; string = leb-false _ _ s; inside = data-asks dataPlace size e .0 d })
+    (refl, record { parent = leb-false _ _ p; string = leb-false _ _ s; inside = data-asks from size e .0 d })
 
 -- A node by the content of its slot.
-pub node-judged : (strings size : ℕ) (tree : List ℕ) (k : ℕ) {f : FoundEntry} {r b : Bool} → f ≡ foundSlot tree k → r ≡ slotLost strings size k f → r ≡ b
-    → writerNodeLost strings size tree k ≡ b
+pub node-judged : (strings from size : ℕ) (tree : List ℕ) (k : ℕ) {f : FoundEntry} {r b : Bool} → f ≡ foundSlot tree k → r ≡ slotLost strings from size k f → r ≡ b
+    → writerNodeLost strings from size tree k ≡ b
 unfolding writerNodeLost
-node-judged strings size tree k found t h = rw (← found) (sym t ∙ h)
+node-judged strings from size tree k found t h = rw (← found) (sym t ∙ h)
 
 -- Where the lowest that is lost is none, each entry is whole and has no fault.
-pub nodes-kept : (strings size nodes : ℕ) (tree : List ℕ) → lowestFrom (writerNodeLost strings size tree) nodes 1 ≡ Nothing → (k : ℕ) → 0 < k → k ≤ nodes
-    → (foundSlot tree k ≡ Whole (slotEntry tree k)) × Kept strings size k (slotEntry tree k)
+pub nodes-kept : (strings from size nodes : ℕ) (tree : List ℕ) → lowestFrom (writerNodeLost strings from size tree) nodes 1 ≡ Nothing → (k : ℕ) → 0 < k → k ≤ nodes
+    → (foundSlot tree k ≡ Whole (slotEntry tree k)) × Kept strings from size k (slotEntry tree k)
 unfolding writerNodeLost
-nodes-kept strings size nodes tree none k l h =
+nodes-kept strings from size nodes tree none k l h =
     rw (slot-found tree k l)
-    (slot-kept strings size k (foundSlot tree k) (none-holds (writerNodeLost strings size tree) nodes 1 none k (omega arith) (omega arith)))
+    (slot-kept strings from size k (foundSlot tree k) (none-holds (writerNodeLost strings from size tree) nodes 1 none k (omega arith) (omega arith)))
 
 -- ---- The test and the clauses.
 
 pub belongs-record : {size : ℕ} {writer : Writer} {text tree : List ℕ} → writerBelongs size writer text tree ≡ true → WriterBelongs size writer text tree
 unfolding writerBelongs textBelongs writerNodesBelong
 belongs-record {size} {writer} {text} {tree} h =
-    let p = both (writerSizesBelong size writer text tree) (textBelongs writer text && writerNodesBelong writer tree) h in
+    let w = both (namesWritten (writer .edition)) (writerSizesBelong size writer text tree && (textBelongs writer text && writerNodesBelong writer tree)) h in
+    let p = both (writerSizesBelong size writer text tree) (textBelongs writer text && writerNodesBelong writer tree) (w .1) in
     let q = both (textBelongs writer text) (writerNodesBelong writer tree) (p .1) in
     let t = both (endsInZero (usedText writer text)) (eqb (length (namesIn writer text)) (writer .strings)) (q .0) in
-    let n = both (noneFrom (writerNodeLost (writer .strings) (writer .«data») tree) (writer .nodes) 1) (leb (finishedSize writer tree) (writer .length)) (q .1) in
+    let n = both (noneFrom (writerNodeLost (writer .strings) (dataPlace writer) (writer .«data») tree) (writer .nodes) 1) (leb (finishedSize writer tree) (writer .length)) (q .1) in
     let s = sizes-hold size writer text tree (p .0) in
-    let node = nodes-kept (writer .strings) (writer .«data») (writer .nodes) tree (none-at _ (not-true _ (n .0))) in
+    let node = nodes-kept (writer .strings) (dataPlace writer) (writer .«data») (writer .nodes) tree (none-at _ (not-true _ (n .0))) in
     record {
+      edition-written = names-written (writer .edition) (w .0);
       length-recorded = s .0;
       length-allowed = s .1;
       text-area = s .2;
@@ -171,13 +179,13 @@ module _ {size : ℕ} {writer : Writer} {text tree : List ℕ} (b : WriterBelong
   unfolding textBelongs
   text-true = rw (b .text-ends) (eq-eqb _ _ (b .text-strings))
 
-  nodes-none : lowestFrom (writerNodeLost (writer .strings) (writer .«data») tree) (writer .nodes) 1 ≡ Nothing
+  nodes-none : lowestFrom (writerNodeLost (writer .strings) (dataPlace writer) (writer .«data») tree) (writer .nodes) 1 ≡ Nothing
   unfolding writerNodeLost
   nodes-none =
       holds-none _ (writer .nodes) 1
       (λ k l m.
       let h : k ≤ writer .nodes = omega arith in
-      kept-slot (writer .strings) (writer .«data») k (slotEntry tree k) (foundSlot tree k) (b .slot-whole k l h)
+      kept-slot (writer .strings) (dataPlace writer) (writer .«data») k (slotEntry tree k) (foundSlot tree k) (b .slot-whole k l h)
       (record {
         parent = b .parent-lower k l h;
         string = b .string-exists k l h;
@@ -186,14 +194,14 @@ module _ {size : ℕ} {writer : Writer} {text tree : List ℕ} (b : WriterBelong
 
   pub record-belongs : writerBelongs size writer text tree ≡ true
   record-belongs =
-      nodes-decide size writer text tree sizes-true text-true
-      ∙ size-decides writer tree nodes-none
+      nodes-decide size writer text tree (written-named (writer .edition) (b .edition-written)) sizes-true text-true
+      ∙ size-decides writer tree refl nodes-none
       ∙ le-leb (finishedSize writer tree) (writer .length) (b .size-fits)
 
--- The all-zero record never belongs: a header does not fit its length 0.
+-- The all-zero record never belongs: its edition, 0, does not exist.
 pub none-belongs : (size : ℕ) (text tree : List ℕ) → writerBelongs size noWriter text tree ≡ false
 unfolding writerBelongs
-none-belongs size text tree = rw (data-decide noWriter tree (omega arith)) (simp and-false)
+none-belongs size text tree = refl
 
 -- ---- What `judge` says decides every call that judges first.
 

@@ -3,4 +3,3 @@ pub mod AreaLaws
 pub mod BelongsLaws
 pub mod StoreLaws
 pub mod NameLaws
-pub mod HeaderLaws

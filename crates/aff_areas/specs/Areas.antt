@@ -52,4 +52,4 @@ dataNodes tree (suc n) = dataNodes tree n + cond (isVoid (slotEntry tree (n + 1)
 
 -- Finished size: the header, data bytes, string bytes with their zeros, 13 for each Void node, 25 for each other.
 unfoldable pub finishedSize : Writer → List ℕ → ℕ
-finishedSize writer tree = dataPlace + writer .«data» + writer .text + entrySizes tree (writer .nodes)
+finishedSize writer tree = dataPlace writer + writer .«data» + writer .text + entrySizes tree (writer .nodes)

@@ -6,6 +6,7 @@ use Prim.Native.Nat.{ℕ, _+_, _*_, _≤_, _<_}
 use lib.Dec.{eqb, leb}
 use lib.ListN.{length}
 use Rattle.aff_format.specs.Answer.{Check, check, refusal}
+use Rattle.aff_format.specs.Edition.{namesWritten, NamesWritten}
 use Rattle.aff_format.specs.Kind.{elementSize, isVoid}
 use Rattle.aff_format.specs.Limits.{imageLimit, stringLimit, nodeLimit, textArea, treeArea}
 use Rattle.aff_format.specs.Strings.{endsInZero}
@@ -34,25 +35,28 @@ unfoldable pub textBelongs : Writer → List ℕ → Bool
 textBelongs writer text = endsInZero (usedText writer text) && eqb (length (namesIn writer text)) (writer .strings)
 
 -- The entry of node k: its type does not exist, its parent is not lower, its string does not exist, or its data fall outside what was put.
-abbrev pub slotLost : ℕ → ℕ → ℕ → FoundEntry → Bool
-slotLost strings size k Broken = true
-slotLost strings size k (Whole e) = leb k (e .parent) || (noString strings e || outside dataPlace size e)
+abbrev pub slotLost : ℕ → ℕ → ℕ → ℕ → FoundEntry → Bool
+slotLost strings from size k Broken = true
+slotLost strings from size k (Whole e) = leb k (e .parent) || (noString strings e || outside from size e)
 
-unfoldable pub writerNodeLost : ℕ → ℕ → List ℕ → ℕ → Bool
-writerNodeLost strings size tree k = slotLost strings size k (foundSlot tree k)
+unfoldable pub writerNodeLost : ℕ → ℕ → ℕ → List ℕ → ℕ → Bool
+writerNodeLost strings from size tree k = slotLost strings from size k (foundSlot tree k)
 
 -- The nodes, and the finished size, which has to fit.
 unfoldable pub writerNodesBelong : Writer → List ℕ → Bool
 writerNodesBelong writer tree =
-    noneFrom (writerNodeLost (writer .strings) (writer .«data») tree) (writer .nodes) 1 && leb (finishedSize writer tree) (writer .length)
+    noneFrom (writerNodeLost (writer .strings) (dataPlace writer) (writer .«data») tree) (writer .nodes) 1 && leb (finishedSize writer tree) (writer .length)
 
 -- For a buffer of so many bytes.
 unfoldable pub writerBelongs : ℕ → Writer → List ℕ → List ℕ → Bool
-writerBelongs size writer text tree = writerSizesBelong size writer text tree && (textBelongs writer text && writerNodesBelong writer tree)
+writerBelongs size writer text tree =
+    namesWritten (writer .edition) && (writerSizesBelong size writer text tree && (textBelongs writer text && writerNodesBelong writer tree))
 
 -- ---- As document 01's clauses: the test is true exactly when this holds (`belongs-record`, `record-belongs`).
 
 pub record WriterBelongs (size : ℕ) (writer : Writer) (text tree : List ℕ) : Type 0 where
+  -- Its edition exists and is written (request C-15).
+  pub edition-written : NamesWritten (writer .edition)
   -- Both sides: the buffer's length, the areas' sizes, the counts.
   pub length-recorded : size ≡ writer .length
   pub length-allowed : writer .length ≤ imageLimit
@@ -68,9 +72,9 @@ pub record WriterBelongs (size : ℕ) (writer : Writer) (text tree : List ℕ) :
   pub slot-whole : (k : ℕ) → 0 < k → k ≤ writer .nodes → foundSlot tree k ≡ Whole (slotEntry tree k)
   pub parent-lower : (k : ℕ) → 0 < k → k ≤ writer .nodes → slotEntry tree k .parent < k
   pub string-exists : (k : ℕ) → 0 < k → k ≤ writer .nodes → slotEntry tree k .string < writer .strings
-  pub data-begins : (k : ℕ) → 0 < k → k ≤ writer .nodes → isVoid (slotEntry tree k .kind) ≡ false → dataPlace ≤ slotEntry tree k .offset
+  pub data-begins : (k : ℕ) → 0 < k → k ≤ writer .nodes → isVoid (slotEntry tree k .kind) ≡ false → dataPlace writer ≤ slotEntry tree k .offset
   pub data-ends : (k : ℕ) → 0 < k → k ≤ writer .nodes → isVoid (slotEntry tree k .kind) ≡ false
-      → slotEntry tree k .offset + slotEntry tree k .count * elementSize (slotEntry tree k .kind) ≤ dataPlace + writer .«data»
+      → slotEntry tree k .offset + slotEntry tree k .count * elementSize (slotEntry tree k .kind) ≤ dataPlace writer + writer .«data»
   -- The finished size fits.
   pub size-fits : finishedSize writer tree ≤ writer .length
 

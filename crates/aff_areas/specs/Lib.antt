@@ -3,5 +3,4 @@ pub mod Writer
 pub mod Stores
 pub mod Areas
 pub mod Belongs
-pub mod Header
 pub mod passes

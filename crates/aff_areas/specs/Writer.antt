@@ -5,32 +5,32 @@ use Prim.Native.Nat.{ℕ}
 use lib.Dec.{eqb}
 use lib.ListN.{replicate}
 use Rattle.aff_format.specs.Answer.{Answer, accepted, refused}
-use Rattle.aff_format.specs.Edition.{headerSize}
+use Rattle.aff_format.specs.Edition.{headerSize, editionBy}
 use Rattle.aff_format.specs.declared.edition.Edition.{Edition}
-use Rattle.aff_format.specs.declared.edition.Edition.the-variants.{Two}
 use Rattle.aff_areas.specs.declared.writer.Writer.{Writer}
 
--- The edition that is written.
-abbrev pub written : Edition
-written = Two
+-- The edition of the file. A record that belongs names one that is written.
+abbrev pub writerEdition : Writer → Edition
+writerEdition w = editionBy (w .edition)
 
--- Where the data of a file begin: after its header. A buffer has at least the header's bytes.
-abbrev pub dataPlace : ℕ
-dataPlace = headerSize written
+-- Where the data of the file begin: after its header.
+abbrev pub dataPlace : Writer → ℕ
+dataPlace w = headerSize (writerEdition w)
 
--- The all-zero record: what a begin refused by 1 or 21 leaves.
+-- The all-zero record: what a begin refused by 1, 3 or 21 leaves.
 abbrev pub noWriter : Writer
-noWriter = record { length = 0; form = replicate 12 0; strings = 0; text = 0; nodes = 0; «data» = 0; live = false }
+noWriter = record { length = 0; edition = 0; form = replicate 12 0; strings = 0; text = 0; nodes = 0; «data» = 0; live = false }
 
 -- The record of an accepted begin.
-abbrev pub freshWriter : ℕ → List ℕ → Writer
-freshWriter size form = record { length = size; form = form; strings = 0; text = 0; nodes = 0; «data» = 0; live = true }
+abbrev pub freshWriter : ℕ → ℕ → List ℕ → Writer
+freshWriter edition size form = record { length = size; edition = edition; form = form; strings = 0; text = 0; nodes = 0; «data» = 0; live = true }
 
 -- The record, but closed or stopped.
 abbrev pub stopped : Writer → Writer
 stopped w =
     record {
       length = w .length;
+      edition = w .edition;
       form = w .form;
       strings = w .strings;
       text = w .text;

@@ -22,7 +22,7 @@ pub fn found_slot(tree: &[u8], node: usize) -> FoundEntry
     requires { ⌜ (0 < node) × (node ≤ nodeLimit) ⌝ }
     ensures { λ r. ⌜ r ≡ foundSlot (now (tree .entry)) node ⌝ }
 {
-    entry::entry_at(tree, 25 * (node - 1))
+    entry::entry_at(tree, Edition::DATA_ENTRY * (node - 1))
 }
 
 // The entry of a node; the root has none of its own.
@@ -65,7 +65,7 @@ pub fn finished_size(writer: Writer, tree: &[u8]) -> usize
     requires { ⌜ (writer .«data» ≤ imageLimit) × (writer .text ≤ textArea) × (writer .nodes ≤ nodeLimit) ⌝ }
     ensures { λ r. ⌜ r ≡ finishedSize writer (now (tree .entry)) ⌝ }
 {
-    Edition::Two.header_size() + writer.data + writer.text + entry_sizes(tree, writer.nodes)
+    writer.data_place() + writer.data + writer.text + entry_sizes(tree, writer.nodes)
 }
 
 // 1 for a node that is not Void, else 0.
@@ -98,7 +98,7 @@ fn put_entry(tree: &[u8], node: usize, at: usize, out: &mut [u8]) -> usize
     ensures size { λ r. ⌜ r ≡ at + entrySize (slotEntry (now (tree .entry)) node .kind) ⌝ }
     ensures area { λ _. ⌜ now (out .exit) ≡ spliced at (take (entrySize (slotEntry (now (tree .entry)) node .kind)) (drop (slotAt node) (now (tree .entry)))) (now (out .entry)) ⌝ }
 {
-    let from = 25 * (node - 1);
+    let from = Edition::DATA_ENTRY * (node - 1);
     let end = from + entry_size(tree, node);
     bytes::put(out, at, &tree[from..end]);
     at + (end - from)
@@ -126,7 +126,7 @@ pub fn put_slot(tree: &mut [u8], node: usize, entry: Entry)
     ensures { λ _. ⌜ now (tree .exit) ≡ spliced (slotAt node) (slotBytes entry) (now (tree .entry)) ⌝ }
 {
     let slot = entry.slot();
-    bytes::put(tree, 25 * (node - 1), &slot);
+    bytes::put(tree, Edition::DATA_ENTRY * (node - 1), &slot);
 }
 
 // Stores a name and its zero in the text area.

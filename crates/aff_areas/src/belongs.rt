@@ -18,7 +18,6 @@ ghost use Rattle.aff_format.specs.Strings.{endsInZero};
 ghost use Rattle.aff_format.specs.passes.Counts.{zerosIn};
 ghost use Rattle.aff_format.specs.Verdict.{answerOfVerdict};
 ghost use Rattle.aff_areas.specs.Belongs.{writerSizesBelong, textBelongs, slotLost, writerNodeLost, writerNodesBelong, writerBelongs as belongsOf, writerChecks};
-ghost use Rattle.aff_areas.specs.Writer.{dataPlace};
 
 // The buffer's length, the areas' sizes and the counts.
 fn sizes(buffer: &[u8], writer: Writer, text: &[u8], tree: &[u8]) -> bool
@@ -82,10 +81,10 @@ fn text_belongs(writer: Writer, text: &[u8]) -> bool
     zeros(&text[..used]) == writer.strings
 }
 
-// Whether an entry is not one that node k may have, where there are so many strings and so many bytes of data.
-fn slot_lost(found: FoundEntry, strings: usize, size: usize, k: usize) -> bool
-    requires { ⌜ dataPlace + size < 2147483648 ⌝ }
-    ensures { λ r. ⌜ r ≡ slotLost strings size k found ⌝ }
+// Whether an entry is not one that node k may have, where there are so many strings, and so many bytes of data from a place on.
+fn slot_lost(found: FoundEntry, strings: usize, from: usize, size: usize, k: usize) -> bool
+    requires { ⌜ from + size < 2147483648 ⌝ }
+    ensures { λ r. ⌜ r ≡ slotLost strings from size k found ⌝ }
 {
     match found {
         FoundEntry::Broken => true,
@@ -96,20 +95,20 @@ fn slot_lost(found: FoundEntry, strings: usize, size: usize, k: usize) -> bool
             if strings <= entry.string as usize {
                 return true;
             }
-            data::is_outside(entry, Edition::Two.header_size(), size)
+            data::is_outside(entry, from, size)
         }
     }
 }
 
 // The lowest node whose entry is not one that it may have. One entry read a node.
-fn lost_node(tree: &[u8], nodes: usize, strings: usize, size: usize) -> Lowest
-    requires { ⌜ (nodes ≤ nodeLimit) × (dataPlace + size < 2147483648) ⌝ }
-    ensures { λ r. ⌜ r ≡ lowestFrom (writerNodeLost strings size (now (tree .entry))) nodes 1 ⌝ }
+fn lost_node(tree: &[u8], nodes: usize, strings: usize, from: usize, size: usize) -> Lowest
+    requires { ⌜ (nodes ≤ nodeLimit) × (from + size < 2147483648) ⌝ }
+    ensures { λ r. ⌜ r ≡ lowestFrom (writerNodeLost strings from size (now (tree .entry))) nodes 1 ⌝ }
 {
     let mut k: usize = 0;
     while k < nodes {
         k += 1;
-        if slot_lost(areas::found_slot(tree, k), strings, size, k) {
+        if slot_lost(areas::found_slot(tree, k), strings, from, size, k) {
             return Lowest::At(k);
         }
     }
@@ -121,14 +120,14 @@ fn nodes_belong(writer: Writer, tree: &[u8]) -> bool
     requires { ⌜ (writer .length ≤ imageLimit) × (writer .text ≤ textArea) × (writer .nodes ≤ nodeLimit) ⌝ }
     ensures { λ r. ⌜ r ≡ writerNodesBelong writer (now (tree .entry)) ⌝ }
 {
-    let header = Edition::Two.header_size();
+    let header = writer.data_place();
     if writer.length < header {
         return false;
     }
     if writer.length - header < writer.data {
         return false;
     }
-    match lost_node(tree, writer.nodes, writer.strings, writer.data) {
+    match lost_node(tree, writer.nodes, writer.strings, header, writer.data) {
         Lowest::At(_) => false,
         Lowest::Nothing => { areas::finished_size(writer, tree) <= writer.length }
     }
@@ -138,6 +137,9 @@ fn nodes_belong(writer: Writer, tree: &[u8]) -> bool
 pub fn belongs(buffer: &[u8], writer: Writer, text: &[u8], tree: &[u8]) -> bool
     ensures { λ r. ⌜ r ≡ belongsOf (length (now (buffer .entry))) writer (now (text .entry)) (now (tree .entry)) ⌝ }
 {
+    if !Edition::names_written(writer.edition) {
+        return false;
+    }
     if !sizes(buffer, writer, text, tree) {
         return false;
     }

@@ -5,7 +5,6 @@ pub mod store; // stores under an allowance
 pub mod areas; // strings and nodes so far
 pub mod belongs; // whether a record belongs to buffer and areas
 pub mod names; // the strings that are a name
-pub mod header; // the header of a written file
 
 pub use writer::Writer;
 pub use writer::Writing;

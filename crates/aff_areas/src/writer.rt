@@ -1,18 +1,21 @@
 // The record of a file that is being written.
+use aff_format::Edition;
 use aff_format::NumberAnswer;
 use aff_format::Refusal;
 use aff_format::bytes;
 ghost use mathlib.Core.Path.{_≡_};
-ghost use Prim.Native.Nat.{_+_, _<_, _^_};
+ghost use Prim.Native.Nat.{_+_, _≤_, _<_, _^_};
 ghost use lib.ListN.{length};
+ghost use Rattle.aff_format.specs.Edition.{leastHeader, mostHeader};
 ghost use Rattle.aff_format.specs.Limits.{nodeLimit};
 ghost use Rattle.aff_format.specs.declared.verdict.NumberAnswer.the-variants as answered;
-ghost use Rattle.aff_areas.specs.Writer.{noWriter, freshWriter, stopped};
+ghost use Rattle.aff_areas.specs.Writer.{dataPlace, noWriter, freshWriter, stopped};
 
-// What begin, make and put leave for the next call: the buffer's length, the 12 bytes of form, how many strings and how many bytes of text,
+// What begin, make and put leave for the next call: the buffer's length, the number of the edition, the 12 bytes of form, how many strings and how many bytes of text,
 // how many nodes, how many bytes of data, and whether the file is neither closed nor stopped.
 pub struct Writer {
     pub length: usize,
+    pub edition: u32,
     pub form: [u8; 12],
     pub strings: usize,
     pub text: usize,
@@ -28,12 +31,13 @@ pub struct Writing {
 }
 
 impl Writer {
-    // The all-zero record: what a begin refused by 1 or 21 leaves.
+    // The all-zero record: what a begin refused by 1, 3 or 21 leaves.
     pub fn none() -> Writer
         ensures { λ r. ⌜ r ≡ noWriter ⌝ }
     {
         Writer {
             length: 0,
+            edition: 0,
             form: [0; 12],
             strings: 0,
             text: 0,
@@ -44,13 +48,14 @@ impl Writer {
     }
 
     // The record of an accepted begin.
-    pub fn fresh(size: usize, form: &[u8]) -> Writer
+    pub fn fresh(edition: u32, size: usize, form: &[u8]) -> Writer
         requires { ⌜ length (now form) ≡ 12 ⌝ }
-        ensures { λ r. ⌜ r ≡ freshWriter size (now (form .entry)) ⌝ }
+        ensures { λ r. ⌜ r ≡ freshWriter edition size (now (form .entry)) ⌝ }
     {
         let bytes = form_of(form);
         Writer {
             length: size,
+            edition,
             form: bytes,
             strings: 0,
             text: 0,
@@ -60,6 +65,14 @@ impl Writer {
         }
     }
 
+    // Where the data of the file begin: after the header of its edition.
+    pub fn data_place(self) -> usize
+        ensures { λ r. ⌜ (r ≡ dataPlace self) × (leastHeader ≤ r) × (r ≤ mostHeader) ⌝ }
+    {
+        let edition = Edition::by_number(self.edition);
+        edition.header_size()
+    }
+
     // The record, but closed or stopped.
     pub fn stopped(self) -> Writer
         ensures { λ r. ⌜ r ≡ stopped self ⌝ }
@@ -67,6 +80,7 @@ impl Writer {
         let form = self.form;
         Writer {
             length: self.length,
+            edition: self.edition,
             form,
             strings: self.strings,
             text: self.text,
@@ -79,11 +93,12 @@ impl Writer {
     // The record with one node more, and so many strings and so many bytes of text.
     pub fn with_child(self, strings: usize, text: usize) -> Writer
         requires { ⌜ (self .nodes < nodeLimit) × (self .strings + strings < 2 ^ 63) × (self .text + text < 2 ^ 63) ⌝ }
-        ensures { λ r. ⌜ r ≡ record { length = self .length; form = self .form; strings = self .strings + strings; text = self .text + text; nodes = self .nodes + 1; «data» = self .«data»; live = self .live } ⌝ }
+        ensures { λ r. ⌜ r ≡ record { length = self .length; edition = self .edition; form = self .form; strings = self .strings + strings; text = self .text + text; nodes = self .nodes + 1; «data» = self .«data»; live = self .live } ⌝ }
     {
         let form = self.form;
         Writer {
             length: self.length,
+            edition: self.edition,
             form,
             strings: self.strings + strings,
             text: self.text + text,
@@ -96,11 +111,12 @@ impl Writer {
     // The record with so many bytes of data more.
     pub fn with_data(self, size: usize) -> Writer
         requires { ⌜ self .«data» + size < 2147483648 ⌝ }
-        ensures { λ r. ⌜ r ≡ record { length = self .length; form = self .form; strings = self .strings; text = self .text; nodes = self .nodes; «data» = self .«data» + size; live = self .live } ⌝ }
+        ensures { λ r. ⌜ r ≡ record { length = self .length; edition = self .edition; form = self .form; strings = self .strings; text = self .text; nodes = self .nodes; «data» = self .«data» + size; live = self .live } ⌝ }
     {
         let form = self.form;
         Writer {
             length: self.length,
+            edition: self.edition,
             form,
             strings: self.strings,
             text: self.text,

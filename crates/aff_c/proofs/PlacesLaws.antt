@@ -8,6 +8,7 @@ use native.Mathlib.Omega.{arith}
 use lib.ListN.{length, getD}
 use lib.Seq.{getD-set-same}
 use borrow.Author.Tests.{le-leb}
+use Rattle.aff_format.specs.Edition.{editionBy}
 use Rattle.aff_format.specs.Answer.{Answer, accepted, refused, refusalAt, refusalWith}
 use Rattle.aff_format.specs.Breaks.{Breaks}
 use Rattle.aff_format.specs.Path.{WellFormed}
@@ -19,7 +20,7 @@ use Rattle.aff_open.specs.Rules.{FirstBadLink}
 use Rattle.aff_open.specs.Sections.{editionIn, stringsIn, nodesIn}
 use Rattle.aff_reader.specs.Belongs.{ReaderBelongs}
 use Rattle.aff_reader.specs.declared.reader.Reader.{Reader}
-use Rattle.aff_read.specs.Paths.{editionBy, lookupAnswer}
+use Rattle.aff_read.specs.Paths.{lookupAnswer}
 use Rattle.aff.specs.BreakPlaces.{SecondBy10}
 use Rattle.aff.specs.Rules.{lookupRules}
 use Rattle.aff.proofs.BreakPlacesLaws.{break-places}
@@ -69,7 +70,7 @@ make-place buffer numbers kept text tree parent name long b live there p =
 
 lookup-place : (image : List ℕ) (r : Reader) (strings entries path : List ℕ) → ReaderBelongs image r strings entries → (p : ℕ)
     → ((numberBy (lookupAnswer image r strings entries path) ≡ 14) × (placeBy (lookupAnswer image r strings entries path) ≡ p))
-    ↔ Breaks (WellFormed (editionBy r)) path p
+    ↔ Breaks (WellFormed (editionBy (r .edition))) path p
 lookup-place image r strings entries path b p =
     let m = demand2 .reads image r strings entries b .malformed path p in (
       λ (e, f). m .0 (whole (lookupAnswer image r strings entries path) p (break-places .reading-second image r strings entries .lookup path) e f),

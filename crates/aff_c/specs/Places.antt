@@ -5,6 +5,7 @@ use mathlib.Core.List.{List}
 use mathlib.Core.Logic.{_↔_}
 use Prim.Native.Nat.{ℕ, _≤_, _<_}
 use lib.ListN.{length, getD}
+use Rattle.aff_format.specs.Edition.{editionBy}
 use Rattle.aff_format.specs.Breaks.{Breaks}
 use Rattle.aff_format.specs.Path.{WellFormed}
 use Rattle.aff_format.specs.Rule.{AllHold}
@@ -14,7 +15,7 @@ use Rattle.aff_open.specs.Rules.{FirstBadLink}
 use Rattle.aff_open.specs.Sections.{editionIn, stringsIn, nodesIn}
 use Rattle.aff_reader.specs.Belongs.{ReaderBelongs}
 use Rattle.aff_reader.specs.declared.reader.Reader.{Reader}
-use Rattle.aff_read.specs.Paths.{editionBy, lookupAnswer}
+use Rattle.aff_read.specs.Paths.{lookupAnswer}
 use Rattle.aff_areas.specs.Belongs.{WriterBelongs}
 use Rattle.aff_areas.specs.Writer.{written}
 use Rattle.aff_c.specs.Writing.{given, makeReturned, numbersMade}
@@ -25,7 +26,7 @@ pub record PlacesInC : Type 0 where
   -- By a record that belongs, `aff_lookup` returns 14 and writes place p exactly when p is where the path breaks. With any other number it writes 0.
   pub lookup : (image : List ℕ) (r : Reader) (strings entries path : List ℕ) → ReaderBelongs image r strings entries → (p : ℕ)
       → ((numberBy (lookupAnswer image r strings entries path) ≡ 14) × (placeBy (lookupAnswer image r strings entries path) ≡ p))
-      ↔ Breaks (WellFormed (editionBy r)) path p
+      ↔ Breaks (WellFormed (editionBy (r .edition))) path p
   pub lookup-other : (image : List ℕ) (r : Reader) (strings entries path : List ℕ) → (numberBy (lookupAnswer image r strings entries path) ≡ 14 → ⊥)
       → placeBy (lookupAnswer image r strings entries path) ≡ 0
   -- By a record of an open writer that belongs, below a node that exists, `aff_make` returns 14 and leaves p in numbers[0] exactly when p is where the name

@@ -12,12 +12,12 @@ use lib.Dec.{eqb}
 use lib.ListN.{length, take, drop}
 use lib.Seq.{take-add}
 use borrow.Author.Tests.{eqb-true}
-use Rattle.aff_format.specs.Subkey.{narrowFirst, mayBegin, mayFollow, restOfSubkey, subkeyFrom, isSound, isSubkey, AllFollow, IsSubkey}
+use Rattle.aff_format.specs.Subkey.{narrowFirst, wide, mayBegin, mayFollow, restOfSubkey, subkeyFrom, isSound, isSubkey, AllFollow, IsSubkey}
 use Rattle.aff_format.specs.Path.{ahead, betweenSlashes, orElse, partsFrom, pathGrammar, WellFormed}
 use Rattle.aff_format.specs.Breaks.{Viable, Breaks}
 use Rattle.aff_format.proofs.PathLaws.{path-exact}
 use Rattle.aff_format.specs.declared.edition.Edition.{Edition}
-use Rattle.aff_format.specs.declared.edition.Edition.the-variants.{One, Two}
+use Rattle.aff_format.specs.declared.edition.Edition.the-variants.{One, Two, Three}
 use Rattle.aff_format.specs.declared.subkey.Grammar.{Grammar}
 use Rattle.aff_format.specs.declared.subkey.Grammar.the-variants.{Sound, BreaksAt}
 
@@ -120,9 +120,10 @@ module _ (m : Machine) (judge : m .State → ℕ → List ℕ → Grammar)
 
 -- `a` may begin a subkey, and a slash may not.
 begins : (e : Edition) → (mayBegin e 97 ≡ true) × (mayBegin e 47 ≡ false)
-unfolding narrowFirst
+unfolding narrowFirst wide
 begins One = (refl, refl)
 begins Two = (refl, refl)
+begins Three = (refl, refl)
 
 -- Subkeys. The state is whether the first byte has been read.
 module _ (e : Edition) where

@@ -1,12 +1,12 @@
 -- Parts of a run of bytes, and a run written over another. Assumes nothing.
 use mathlib.Core.Path.{_≡_, refl, sym, ap, _∙_}
-use mathlib.Core.List.{List, [], _∷_, _++_, append-assoc}
+use mathlib.Core.List.{List, [], _∷_, _++_, append-assoc, append-nil}
 use Prim.Native.Nat.{ℕ, zero, suc, _+_, _-_, _≤_, _<_}
 use native.Mathlib.Nat.{add-zero, add-assoc}
 use native.Mathlib.Numerals.{add-one}
 use native.Mathlib.Omega.{arith}
-use lib.ListN.{length, getD, set, take, drop, length-append, length-drop, take-append-drop}
-use lib.Seq.{length-take-le, take-length, take-nil, take-at, drop-at, drop-drop, drop-cons, take-add, take-take, take-set-le, drop-set-add, set-split, getD-drop, take-append-le, drop-append-add}
+use lib.ListN.{length, getD, set, take, drop, length-append, length-drop, take-append-drop, drop-of-length-le}
+use lib.Seq.{length-take-le, take-length, take-nil, take-at, drop-at, drop-drop, drop-cons, take-add, take-take, take-set-le, drop-set-add, set-split, getD-drop, take-append-le, drop-append-le, drop-append-add}
 use Rattle.aff_format.specs.Bytes.{Octets, part, spliced}
 
 -- Parts.
@@ -35,6 +35,20 @@ drop-take zero n l = let e : n - 0 ≡ n = omega arith in rw e
 drop-take (suc q) zero l = let e : 0 - suc q ≡ 0 = omega arith in rw e
 drop-take (suc q) (suc n) [] = rw take-nil
 drop-take (suc q) (suc n) (x ∷ l) = let e : suc n - suc q ≡ n - q = omega arith in rw e (drop-take q n l)
+
+-- A part of a part.
+pub part-part : (at n j w : ℕ) (l : List ℕ) → j + w ≤ n → part j w (part at n l) ≡ part (at + j) w l
+part-part at n j w l h = ap (take w) (drop-take j n (drop at l)) ∙ take-take w (n - j) (drop j (drop at l)) (omega arith) ∙ rw drop-drop
+
+-- A part of the middle one of three runs.
+pub part-middle : (p x y : List ℕ) (at n : ℕ) → length p ≤ at → at + n ≤ length p + length x → part at n (p ++ (x ++ y)) ≡ part (at - length p) n x
+part-middle p x y at n lo hi =
+    let j = at - length p in
+    let e : at ≡ length p + j = omega arith in
+    let m : n ≤ length (drop j x) = simp length-drop (omega arith) in
+    ap (λ (i : ℕ). part i n (p ++ (x ++ y))) e
+    ∙ ap (take n) (drop-append-add p (x ++ y) j ∙ drop-append-le j x y (omega arith))
+    ∙ take-append-le n (drop j x) y m
 
 -- A run laid out in pieces; piece j comes after those before it.
 abbrev pub laid : List (List ℕ) → List ℕ → List ℕ
@@ -81,6 +95,11 @@ spliced-more at x y l h =
 pub spliced-next : (at next : ℕ) (x y l₀ l₁ l₂ : List ℕ)
     → at + length x ≡ next → next ≤ length l₀ → l₁ ≡ spliced at x l₀ → l₂ ≡ spliced next y l₁ → l₂ ≡ spliced at (x ++ y) l₀
 spliced-next at next x y l₀ l₁ l₂ n f h₁ h₂ = h₂ ∙ rw (h₁, ← n) (spliced-more at x y l₀ (omega arith))
+
+-- A run as long as the list replaces it.
+pub spliced-whole : (x l : List ℕ) → length x ≡ length l → spliced 0 x l ≡ x
+unfolding spliced
+spliced-whole x l h = let d : drop (0 + length x) l ≡ [] = drop-of-length-le l {i = 0 + length x} (omega arith) in rw (d, append-nil)
 
 -- A store is a run of one; a store after a run makes the run longer.
 pub set-spliced : (at v : ℕ) (l : List ℕ) → at < length l → set l at v ≡ spliced at (v ∷ []) l

@@ -3,7 +3,7 @@ use mathlib.Core.Path.{_≡_, refl, sym, ap, subst, _∙_}
 use mathlib.Core.Bool.{Bool, true, false, cond, true≢false}
 use mathlib.Core.Logic.{_↔_}
 use mathlib.Core.List.{List, [], _∷_, _++_, append-assoc, append-nil}
-use Prim.Native.Nat.{ℕ, suc, _+_, _-_, _<_, _≤_}
+use Prim.Native.Nat.{ℕ, zero, suc, _+_, _-_, _<_, _≤_}
 use native.Mathlib.Numerals.{add-one}
 use native.Mathlib.Nat.{add-zero}
 use native.Mathlib.Omega.{arith}
@@ -15,7 +15,7 @@ use Rattle.aff_format.specs.Bytes.{part, Without, EachWithout}
 use Rattle.aff_format.specs.Subkey.{subkeyFrom, isSound, isSubkey}
 use Rattle.aff_format.specs.Path.{ahead, betweenSlashes, orElse, partsFrom, afterSlash, pathGrammar, isPath, joinedPath, Subkeys, WellFormed, root, subkeys}
 use Rattle.aff_format.specs.passes.Counts.{untilSlash}
-use Rattle.aff_format.proofs.SubkeyLaws.{subkey-no-slash, sound-shift, sound-is}
+use Rattle.aff_format.proofs.SubkeyLaws.{subkey-no-zero, subkey-no-slash, sound-shift, sound-is}
 use Rattle.aff_format.specs.declared.edition.Edition.{Edition}
 use Rattle.aff_format.specs.declared.subkey.Grammar.{Grammar}
 use Rattle.aff_format.specs.declared.subkey.Grammar.the-variants.{Sound, BreaksAt}
@@ -193,6 +193,15 @@ between-joined k (j ∷ js) w =
 pub subkeys-without : (e : Edition) (ks : List (List ℕ)) → Subkeys e ks → EachWithout 47 ks
 subkeys-without e [] s = tt
 subkeys-without e (k ∷ ks) s = (subkey-no-slash e k (s .0), subkeys-without e ks (s .1))
+
+pub subkeys-no-zero : (e : Edition) (ks : List (List ℕ)) → Subkeys e ks → EachWithout 0 ks
+subkeys-no-zero e [] s = tt
+subkeys-no-zero e (k ∷ ks) s = (subkey-no-zero e k (s .0), subkeys-no-zero e ks (s .1))
+
+pub subkeys-at : (e : Edition) (ks : List (List ℕ)) → Subkeys e ks → (i : ℕ) → i < length ks → isSubkey e (getD ks i []) ≡ true
+subkeys-at e [] s i h = absurd (omega arith)
+subkeys-at e (k ∷ ks) s zero h = s .0
+subkeys-at e (k ∷ ks) s (suc i) h = subkeys-at e ks (s .1) i (omega arith)
 
 pub subkeys-more : (e : Edition) (ks : List (List ℕ)) (k : List ℕ) → Subkeys e ks → isSubkey e k ≡ true → Subkeys e (ks ++ (k ∷ []))
 subkeys-more e [] k s h = (h, tt)

@@ -5,12 +5,12 @@ use lib.Dec.{eqb}
 use Rattle.aff_format.specs.Answer.{SecondOf10}
 use Rattle.aff_format.specs.Refusal.{codeOfRefusal, numberOf}
 use Rattle.aff_format.specs.declared.refusal.Refusal.{Refusal}
-use Rattle.aff_format.specs.declared.refusal.Refusal.the-variants.{WrongLength, ShortImage, UnknownText, WrongForm, WrongHeaderSum, SectionOutside, WrongSectionSum, BadTreeTable, BadLink, EndlessClimb, RepeatedName, DataOutside, Malformed, Absent, IndexTooLarge, ChildExists, DataTaken, WrongData, TooMany, BufferTooSmall, NotOpen, AllowanceSpent, WrongRecord, TooManyStrings, WrongStringCount, RepeatedString}
+use Rattle.aff_format.specs.declared.refusal.Refusal.the-variants.{WrongLength, ShortImage, UnknownEdition, WrongForm, WrongHeaderSum, SectionOutside, WrongSectionSum, BadTreeTable, BadLink, EndlessClimb, RepeatedName, DataOutside, Malformed, Absent, IndexTooLarge, ChildExists, DataTaken, WrongData, TooMany, BufferTooSmall, NotOpen, AllowanceSpent, WrongRecord, TooManyStrings, WrongStringCount, RepeatedString}
 
 pub rows-other : (r : Refusal) → eqb (numberOf r) 8 ≡ false
 rows-other WrongLength = refl
 rows-other ShortImage = refl
-rows-other UnknownText = refl
+rows-other UnknownEdition = refl
 rows-other WrongForm = refl
 rows-other WrongHeaderSum = refl
 rows-other (SectionOutside section) = refl
@@ -39,7 +39,7 @@ rows-other (RepeatedString string) = refl
 pub rows-second : (r : Refusal) → SecondOf10 (codeOfRefusal r)
 rows-second WrongLength n = refl
 rows-second ShortImage n = refl
-rows-second UnknownText n = refl
+rows-second UnknownEdition n = refl
 rows-second WrongForm n = refl
 rows-second WrongHeaderSum n = refl
 rows-second (SectionOutside section) n = refl

@@ -10,11 +10,11 @@ use lib.ListN.{length, getD}
 use borrow.Author.Tests.{ne-eqb, eqb-false}
 use Rattle.aff_format.specs.Answer.{refused, Check, refusalAt, firstWrong}
 use Rattle.aff_format.specs.Bytes.{part, Without}
-use Rattle.aff_format.specs.Subkey.{narrowFirst, narrowNext, mayBegin, mayFollow, restOfSubkey, subkeyFrom, isSound, breakPlace, checkGrammar, isSubkey, shifted}
+use Rattle.aff_format.specs.Subkey.{narrowFirst, narrowNext, wide, mayBegin, mayFollow, restOfSubkey, subkeyFrom, isSound, breakPlace, checkGrammar, isSubkey, shifted}
 use Rattle.aff_format.proofs.AnswerLaws.{Others, others-reported}
 use Rattle.aff_format.proofs.BytesLaws.{part-cons, part-empty}
 use Rattle.aff_format.specs.declared.edition.Edition.{Edition}
-use Rattle.aff_format.specs.declared.edition.Edition.the-variants.{One, Two}
+use Rattle.aff_format.specs.declared.edition.Edition.the-variants.{One, Two, Three}
 use Rattle.aff_format.specs.declared.refusal.RefusalCode.{RefusalCode}
 use Rattle.aff_format.specs.declared.subkey.Grammar.{Grammar}
 use Rattle.aff_format.specs.declared.subkey.Grammar.the-variants.{Sound, BreaksAt}
@@ -101,14 +101,16 @@ module _ (e : Edition) (x : ℕ) where
       go false m s = absurd (true≢false (sym s))
 
 pub subkey-no-zero : (e : Edition) (l : List ℕ) → isSubkey e l ≡ true → Without 0 l
-unfolding narrowFirst narrowNext
+unfolding narrowFirst narrowNext wide
 subkey-no-zero One l = subkey-without One 0 l refl refl
 subkey-no-zero Two l = subkey-without Two 0 l refl refl
+subkey-no-zero Three l = subkey-without Three 0 l refl refl
 
 pub subkey-no-slash : (e : Edition) (l : List ℕ) → isSubkey e l ≡ true → Without 47 l
-unfolding narrowFirst narrowNext
+unfolding narrowFirst narrowNext wide
 subkey-no-slash One l = subkey-without One 47 l refl refl
 subkey-no-slash Two l = subkey-without Two 47 l refl refl
+subkey-no-slash Three l = subkey-without Three 47 l refl refl
 
 pub subkey-not-empty : (e : Edition) (l : List ℕ) → isSubkey e l ≡ true → 0 < length l
 unfolding subkeyFrom

@@ -14,6 +14,11 @@ part at n l = take n (drop at l)
 unfoldable pub spliced : ℕ → List ℕ → List ℕ → List ℕ
 spliced at x l = take at l ++ (x ++ drop (at + length x) l)
 
+-- Some runs, one after another.
+abbrev pub joined : List (List ℕ) → List ℕ
+joined [] = []
+joined (l ∷ ls) = l ++ joined ls
+
 -- Whether two runs are the same bytes.
 unfoldable pub sameBytes : List ℕ → List ℕ → Bool
 sameBytes [] [] = true

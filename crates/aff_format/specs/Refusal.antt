@@ -5,14 +5,14 @@ use Rattle.aff_format.specs.Limits.{stringLimit}
 use Rattle.aff_format.specs.Section.{sectionNumber}
 use Rattle.aff_format.specs.declared.refusal.RefusalCode.{RefusalCode}
 use Rattle.aff_format.specs.declared.refusal.Refusal.{Refusal}
-use Rattle.aff_format.specs.declared.refusal.Refusal.the-variants.{WrongLength, ShortImage, UnknownText, WrongForm, WrongHeaderSum, SectionOutside, WrongSectionSum, BadTreeTable, BadLink, EndlessClimb, RepeatedName, DataOutside, Malformed, Absent, IndexTooLarge, ChildExists, DataTaken, WrongData, TooMany, BufferTooSmall, NotOpen, AllowanceSpent, WrongRecord, TooManyStrings, WrongStringCount, RepeatedString}
+use Rattle.aff_format.specs.declared.refusal.Refusal.the-variants.{WrongLength, ShortImage, UnknownEdition, WrongForm, WrongHeaderSum, SectionOutside, WrongSectionSum, BadTreeTable, BadLink, EndlessClimb, RepeatedName, DataOutside, Malformed, Absent, IndexTooLarge, ChildExists, DataTaken, WrongData, TooMany, BufferTooSmall, NotOpen, AllowanceSpent, WrongRecord, TooManyStrings, WrongStringCount, RepeatedString}
 
 -- Columns 'No.' and 'Place told'. Every promise about a refusal goes through this table.
 -- Number 8 is withdrawn (request C-14), and no row has it.
 abbrev pub codeOfRefusal : Refusal → RefusalCode
 codeOfRefusal WrongLength = refusal 1
 codeOfRefusal ShortImage = refusal 2
-codeOfRefusal UnknownText = refusal 3
+codeOfRefusal UnknownEdition = refusal 3
 codeOfRefusal WrongForm = refusal 4
 codeOfRefusal WrongHeaderSum = refusal 5
 codeOfRefusal (SectionOutside section) = refusalAt 6 (sectionNumber section)

@@ -1,4 +1,4 @@
--- The subkey rule of an edition: document 01, 'Layout of a file'.
+-- The subkey rule of an edition: document 01, 'Layout of a file'; of edition 3, request C-15 and source document 000, section 5.
 use mathlib.Core.Path.{_≡_}
 use mathlib.Core.Bool.{Bool, true, false, cond, not, _&&_, _||_}
 use mathlib.Core.List.{List, [], _∷_}
@@ -6,7 +6,7 @@ use Prim.Native.Nat.{ℕ, _+_}
 use lib.Dec.{eqb, leb}
 use Rattle.aff_format.specs.Answer.{Check, check, refusalAt}
 use Rattle.aff_format.specs.declared.edition.Edition.{Edition}
-use Rattle.aff_format.specs.declared.edition.Edition.the-variants.{One, Two}
+use Rattle.aff_format.specs.declared.edition.Edition.the-variants.{One, Two, Three}
 use Rattle.aff_format.specs.declared.subkey.Grammar.{Grammar}
 use Rattle.aff_format.specs.declared.subkey.Grammar.the-variants.{Sound, BreaksAt}
 
@@ -26,14 +26,20 @@ narrowFirst x = isLetter x || (eqb x 95 || eqb x 58)
 unfoldable pub narrowNext : ℕ → Bool
 narrowNext x = narrowFirst x || (isDigit x || (eqb x 46 || eqb x 45))
 
+-- Any byte but `/` and the zero that ends strings.
+unfoldable pub wide : ℕ → Bool
+wide x = not (eqb x 47 || eqb x 0)
+
 -- Whether a byte may begin a subkey, and whether it may come after its first byte.
 abbrev pub mayBegin : Edition → ℕ → Bool
 mayBegin One x = narrowFirst x
 mayBegin Two x = narrowFirst x
+mayBegin Three x = wide x
 
 abbrev pub mayFollow : Edition → ℕ → Bool
 mayFollow One x = narrowNext x
 mayFollow Two x = narrowNext x
+mayFollow Three x = wide x
 
 -- The bytes after the first, from place at on: the first that breaks the rule.
 unfoldable pub restOfSubkey : Edition → ℕ → List ℕ → Grammar

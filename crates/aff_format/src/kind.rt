@@ -1,4 +1,5 @@
 // The types of a node.
+use crate::edition::Edition;
 ghost use mathlib.Core.Path.{_≡_};
 ghost use Rattle.aff_format.specs.Kind.{kindCode, kindOf, elementSize, entrySize, isVoid};
 
@@ -73,6 +74,10 @@ impl Kind {
     pub fn entry_size(self) -> usize
         ensures { λ r. ⌜ r ≡ entrySize self ⌝ }
     {
-        if self.is_void() { 13 } else { 25 }
+        if self.is_void() {
+            Edition::VOID_ENTRY
+        } else {
+            Edition::DATA_ENTRY
+        }
     }
 }

@@ -11,8 +11,8 @@ pub enum Refusal {
     WrongLength,
     // The image is shorter than its edition's header.
     ShortImage,
-    // The signature text is none of an edition.
-    UnknownText,
+    // The signature text is that of no edition, or a begin names no edition that is written.
+    UnknownEdition,
     // The other 12 signature bytes differ from those passed.
     WrongForm,
     // The header sum is wrong.
@@ -97,7 +97,7 @@ impl Refusal {
         match self {
             Refusal::WrongLength => alone(1),
             Refusal::ShortImage => alone(2),
-            Refusal::UnknownText => alone(3),
+            Refusal::UnknownEdition => alone(3),
             Refusal::WrongForm => alone(4),
             Refusal::WrongHeaderSum => alone(5),
             Refusal::SectionOutside(section) => with_place(6, section.number()),

@@ -6,7 +6,7 @@ ghost use Prim.Native.Nat.{_-_, _≤_};
 ghost use lib.Dec.{leb};
 ghost use lib.ListN.{length};
 ghost use Rattle.aff_format.specs.Bytes.{part};
-ghost use Rattle.aff_format.specs.Subkey.{isLetter, narrowFirst, narrowNext, mayBegin, mayFollow, subkeyFrom};
+ghost use Rattle.aff_format.specs.Subkey.{isLetter, narrowFirst, narrowNext, wide, mayBegin, mayFollow, subkeyFrom};
 
 // What a grammar finds: nothing wrong, or the place of the first byte that breaks it, or at which an empty subkey would begin.
 pub enum Grammar {
@@ -61,12 +61,23 @@ fn narrow_next(x: u8) -> bool
     x == b'-'
 }
 
+// Whether a byte may be in a subkey of edition 3.
+fn is_wide(x: u8) -> bool
+    ensures { λ r. ⌜ r ≡ wide x ⌝ }
+{
+    if x == b'/' {
+        return false;
+    }
+    x != 0
+}
+
 fn may_begin(edition: Edition, x: u8) -> bool
     ensures { λ r. ⌜ r ≡ mayBegin edition x ⌝ }
 {
     match edition {
         Edition::One => narrow_first(x),
         Edition::Two => narrow_first(x),
+        Edition::Three => is_wide(x),
     }
 }
 
@@ -76,6 +87,7 @@ fn may_follow(edition: Edition, x: u8) -> bool
     match edition {
         Edition::One => narrow_next(x),
         Edition::Two => narrow_next(x),
+        Edition::Three => is_wide(x),
     }
 }
 

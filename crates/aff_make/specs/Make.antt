@@ -16,7 +16,7 @@ use Rattle.aff_format.specs.declared.entry.Entry.{Entry}
 use Rattle.aff_format.specs.declared.kind.Kind.the-variants.{Void}
 use Rattle.aff_areas.specs.Areas.{namesIn, slotAt, slotEntry, nameOf, finishedSize}
 use Rattle.aff_areas.specs.Belongs.{writerChecks}
-use Rattle.aff_areas.specs.Writer.{written}
+use Rattle.aff_areas.specs.Writer.{writerEdition}
 use Rattle.aff_areas.specs.declared.writer.Writer.{Writer}
 
 module _ (writer : Writer) (text : List ℕ) where
@@ -38,6 +38,7 @@ module _ (writer : Writer) (text : List ℕ) where
   madeWriter name =
       record {
         length = writer .length;
+        edition = writer .edition;
         form = writer .form;
         strings = writer .strings + addedStrings name;
         text = writer .text + addedText name;
@@ -72,11 +73,11 @@ module _ (writer : Writer) (text tree : List ℕ) where
   abbrev pub namedChecks : ℕ → List ℕ → List Check
   namedChecks parent name = check (childExists parent name) (refusal 17) ∷ sizeChecks name
 
-  -- 15; 14, with the place in the name at which it breaks; 17, 20, 21.
+  -- 15; 14 by the rule of the edition, with the place in the name at which it breaks; 17, 20, 21.
   abbrev pub childChecks : ℕ → List ℕ → List Check
   childChecks parent name =
       check (ltb (writer .nodes) parent) (refusal 15)
-      ∷ checkGrammar (subkeyFrom written 0 name)
+      ∷ checkGrammar (subkeyFrom (writerEdition writer) 0 name)
       ∷ namedChecks parent name
 
   -- The tree area that an accepted make leaves.

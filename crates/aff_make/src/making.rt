@@ -168,7 +168,7 @@ fn make_child(
     if writer.nodes < parent {
         return writer::refused(Refusal::Absent, writer);
     }
-    match subkey::subkey(Edition::Two, name) {
+    match subkey::subkey(Edition::by_number(writer.edition), name) {
         Grammar::BreaksAt(place) => writer::refused(Refusal::Malformed(place), writer),
         Grammar::Sound => make_named(writer, text, tree, parent, name),
     }

@@ -9,48 +9,33 @@ use lib.ListN.{length, take}
 use borrow.Author.Tests.{ltb-false, lt-ltb}
 use Rattle.aff_format.specs.Answer.{accepted, firstWrong}
 use Rattle.aff_format.specs.Bytes.{sameBytes}
-use Rattle.aff_format.specs.Edition.{headerSize, sectionHeaderAt, sectionSumAt, signatureText, isKnown, orTwo}
+use Rattle.aff_format.specs.Edition.{editions, headerSize, sectionHeaderAt, sectionSumAt, signatureText, isKnown, orTwo}
 use Rattle.aff_format.specs.declared.section.Section.{Section}
 use Rattle.aff_format.specs.declared.section.Section.the-variants.{Symbol, Tree, Data}
 use Rattle.aff_format.specs.declared.edition.Edition.{Edition}
-use Rattle.aff_format.specs.declared.edition.Edition.the-variants.{One, Two}
 use Rattle.aff_format.specs.declared.edition.FoundEdition.{FoundEdition}
 use Rattle.aff_format.specs.declared.edition.FoundEdition.the-variants.{Known, Unknown}
 use Rattle.aff_format.proofs.AnswerLaws.{passed}
-use Rattle.aff_format.proofs.EditionLaws.{section-header-most, section-sum-last}
+use Rattle.aff_format.proofs.EditionLaws.{section-header-most, section-sum-last, section-header-sizes, found-passes, edition-of-text}
 use Rattle.aff_format.proofs.SameLaws.{same-eq}
 use Rattle.aff_open.specs.Sections.{textEdition, editionIn, sectionOffset, sectionSize, endsPast, sumWrong}
 use Rattle.aff_open.specs.Opening.{headerChecks, insideChecks, sectionChecks}
 
 -- The text of an edition: the image begins with it, and with no other's.
-known-one : (a b : Bool) → cond a (Known One) (cond b (Known Two) Unknown) ≡ Known One → a ≡ true
-known-one true b h = refl
-known-one false true h = cc
-known-one false false h = cc
-
-known-two : (a b : Bool) → cond a (Known One) (cond b (Known Two) Unknown) ≡ Known Two → b ≡ true
-known-two a true h = refl
-known-two true false h = cc
-known-two false false h = cc
-
 pub text-known : (e : Edition) (image : List ℕ) → textEdition image ≡ Known e → take 20 image ≡ signatureText e
 unfolding textEdition
-text-known One image h = same-eq _ _ (known-one _ (sameBytes (take 20 image) (signatureText Two)) h)
-text-known Two image h = same-eq _ _ (known-two (sameBytes (take 20 image) (signatureText One)) _ h)
+text-known e image h = same-eq _ _ (found-passes (λ d. sameBytes (take 20 image) (signatureText d)) editions h)
 
 pub known-text : (e : Edition) (image : List ℕ) → take 20 image ≡ signatureText e → textEdition image ≡ Known e
 unfolding textEdition sameBytes signatureText
-known-text One image h = rw h
-known-text Two image h = rw h
+known-text e image h = rw h (edition-of-text e)
 
 -- The fields of a section header, and its sum, lie inside an image that has a whole header.
 pub fields-inside : (e : Edition) (s : Section) (image : List ℕ) → headerSize e ≤ length image → sectionHeaderAt e s + 24 ≤ length image
-fields-inside One s image h = omega (arith, section-header-most One s)
-fields-inside Two s image h = omega (arith, section-header-most Two s)
+fields-inside e s image h = omega (arith, section-header-most e s, section-header-sizes e)
 
 pub sum-inside : (e : Edition) (s : Section) (image : List ℕ) → headerSize e ≤ length image → sectionSumAt e s + 16 ≤ length image
-sum-inside One s image h = omega (arith, section-header-most One s, section-sum-last One s)
-sum-inside Two s image h = omega (arith, section-header-most Two s, section-sum-last Two s)
+sum-inside e s image h = omega (arith, section-header-most e s, section-sum-last e s)
 
 -- Whether `size` from `from` on end past `length`, decided without their sum.
 pub begins-past : (from size length : ℕ) → length < from → ltb length (from + size) ≡ true

@@ -8,7 +8,7 @@ use lib.ListN.{length, take}
 use Rattle.md5.specs.Md5.{md5}
 use Rattle.aff_format.specs.Answer.{refusal, refusalAt}
 use Rattle.aff_format.specs.Bytes.{part}
-use Rattle.aff_format.specs.Edition.{headerSize, headerSumAt, signatureText}
+use Rattle.aff_format.specs.Edition.{signatureText, headerSumAt, headerSize, leastHeader}
 use Rattle.aff_format.specs.Limits.{imageLimit, stringLimit, nodeLimit}
 use Rattle.aff_format.specs.Rule.{Rule, rule, eachFrom}
 use Rattle.aff_format.specs.declared.section.Section.the-variants.{Symbol, Tree, Data}
@@ -22,7 +22,7 @@ use Rattle.aff_open.specs.Sections.{editionIn, stringsIn, nodesIn, bytes
 abbrev pub textRules : List ℕ → List ℕ → ℕ → ℕ → List Rule
 textRules image form strings entries =
     rule ((length form ≡ 12) × (strings ≡ stringLimit) × (entries ≡ nodeLimit) × (length image ≤ imageLimit)) (refusal 1)
-    ∷ rule (144 ≤ length image) (refusal 2)
+    ∷ rule (leastHeader ≤ length image) (refusal 2)
     ∷ rule ((e : Edition) × (take 20 image ≡ signatureText e)) (refusal 3)
     ∷ []
 

@@ -6,7 +6,7 @@ use lib.Dec.{eqb, ltb}
 use lib.ListN.{length, getD, replicate}
 use Rattle.aff_format.specs.Answer.{Answer, accepted, refused, Check, check, refusal, refusalAt, firstWrong}
 use Rattle.aff_format.specs.Bytes.{part, sameBytes, laidOver}
-use Rattle.aff_format.specs.Edition.{headerSize, editionNumber, isKnown}
+use Rattle.aff_format.specs.Edition.{editionNumber, headerSize, leastHeader, isKnown}
 use Rattle.aff_format.specs.Limits.{imageLimit, stringLimit, nodeLimit}
 use Rattle.aff_format.specs.Refusal.{codeOfRefusal}
 use Rattle.aff_format.specs.Strings.{placesOf}
@@ -43,7 +43,7 @@ formChecks e image form =
 -- 2, text 3, edition 2's length 2, 4, 5.
 abbrev pub headerChecks : List ℕ → List ℕ → List Check
 headerChecks image form =
-    check (ltb (length image) 144) (refusal 2)
+    check (ltb (length image) leastHeader) (refusal 2)
     ∷ check (not (isKnown (textEdition image))) (refusal 3)
     ∷ formChecks (editionIn image) image form
 

@@ -6,13 +6,11 @@ use lib.Dec.{ltb}
 use lib.ListN.{length, take}
 use Rattle.md5.specs.Md5.{md5}
 use Rattle.aff_format.specs.Bytes.{part, sameBytes}
-use Rattle.aff_format.specs.Edition.{sectionHeaderAt, sectionSumAt, headerSumAt, hasCounts, signatureText, numberForm, orTwo}
+use Rattle.aff_format.specs.Edition.{editions, signatureText, hasCounts, sectionHeaderAt, sectionSumAt, headerSumAt, numberForm, firstEdition, orTwo}
 use Rattle.aff_format.specs.Number.{beOf}
 use Rattle.aff_format.specs.declared.section.Section.{Section}
 use Rattle.aff_format.specs.declared.edition.Edition.{Edition}
-use Rattle.aff_format.specs.declared.edition.Edition.the-variants.{One, Two}
 use Rattle.aff_format.specs.declared.edition.FoundEdition.{FoundEdition}
-use Rattle.aff_format.specs.declared.edition.FoundEdition.the-variants.{Known, Unknown}
 use Rattle.aff_format.specs.Strings.{stringsOf}
 use Rattle.aff_format.specs.Limits.{nodeLimit}
 use Rattle.aff_format.specs.declared.section.Section.the-variants.{Symbol, Tree}
@@ -21,9 +19,7 @@ use Rattle.aff_tables.specs.Tables.{bytesAfterEntries, entriesIn}
 
 -- The edition whose text an image begins with.
 unfoldable pub textEdition : List ℕ → FoundEdition
-textEdition image =
-    cond (sameBytes (take 20 image) (signatureText One)) (Known One)
-    (cond (sameBytes (take 20 image) (signatureText Two)) (Known Two) Unknown)
+textEdition image = firstEdition (λ e. sameBytes (take 20 image) (signatureText e)) editions
 
 abbrev pub editionIn : List ℕ → Edition
 editionIn image = orTwo (textEdition image)

@@ -10,7 +10,7 @@ ghost use lib.ListN.{length, take};
 ghost use Rattle.md5.specs.Md5.{md5 as md5Of};
 ghost use Rattle.aff_format.specs.Answer.{firstWrong};
 ghost use Rattle.aff_format.specs.Bytes.{part, sameBytes};
-ghost use Rattle.aff_format.specs.Edition.{headerSize, signatureText};
+ghost use Rattle.aff_format.specs.Edition.{signatureText, headerSize, leastHeader};
 ghost use Rattle.aff_open.specs.Sections.{textEdition, editionIn, formFor, headerSumWrong};
 ghost use Rattle.aff_open.specs.Opening.{headerChecks, formChecks};
 ghost use Rattle.aff_open.specs.passes.Opening.{answerOfHeader};
@@ -42,10 +42,13 @@ pub fn text_edition(image: &[u8]) -> FoundEdition
     if has_text(image, Edition::Two) {
         return FoundEdition::Known(Edition::Two);
     }
+    if has_text(image, Edition::Three) {
+        return FoundEdition::Known(Edition::Three);
+    }
     FoundEdition::Unknown
 }
 
-// The 12 bytes that our programs expect after the text of an image: edition 1's where the text is edition 1's, else edition 2's.
+// The 12 bytes that our programs expect after the text of an image: those of the edition that the text names, else edition 2's.
 pub fn form_for(image: &[u8]) -> [u8; 12]
     ensures { λ r. ⌜ r ≡ formFor (now (image .entry)) ⌝ }
 {
@@ -74,13 +77,13 @@ fn header_sum_wrong(image: &[u8], edition: Edition) -> bool
 
 // After the text: 2, 4, 5.
 fn header_of(image: &[u8], form: &[u8], edition: Edition) -> HeaderResult
-    requires { ⌜ 144 ≤ length (now image) ⌝ }
+    requires { ⌜ leastHeader ≤ length (now image) ⌝ }
     ensures { λ r. ⌜ answerOfHeader r ≡ firstWrong (formChecks edition (now (image .entry)) (now (form .entry))) edition ⌝ }
 {
     if image.len() < edition.header_size() {
         return HeaderResult::Refused(Refusal::ShortImage);
     }
-    if !bytes::same(&image[20..32], form) {
+    if !bytes::same(&image[20..Edition::SIGNATURE], form) {
         return HeaderResult::Refused(Refusal::WrongForm);
     }
     if header_sum_wrong(image, edition) {
@@ -93,11 +96,11 @@ fn header_of(image: &[u8], form: &[u8], edition: Edition) -> HeaderResult
 pub fn header(image: &[u8], form: &[u8]) -> HeaderResult
     ensures { λ r. ⌜ answerOfHeader r ≡ firstWrong (headerChecks (now (image .entry)) (now (form .entry))) (editionIn (now (image .entry))) ⌝ }
 {
-    if image.len() < 144 {
+    if image.len() < Edition::LEAST_HEADER {
         return HeaderResult::Refused(Refusal::ShortImage);
     }
     match text_edition(image) {
         FoundEdition::Known(edition) => header_of(image, form, edition),
-        FoundEdition::Unknown => HeaderResult::Refused(Refusal::UnknownText),
+        FoundEdition::Unknown => HeaderResult::Refused(Refusal::UnknownEdition),
     }
 }

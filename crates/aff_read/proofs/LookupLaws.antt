@@ -8,6 +8,7 @@ use native.Mathlib.Nat.{le-antisymm}
 use native.Mathlib.Omega.{arith}
 use lib.Dec.{ltb}
 use borrow.Author.Tests.{ltb-true, ltb-false}
+use Rattle.aff_format.specs.Edition.{editionBy}
 use Rattle.aff_format.specs.Answer.{Answer, accepted, refused, check, refusal, refusalAt}
 use Rattle.aff_format.specs.Bytes.{sameBytes}
 use Rattle.aff_format.specs.Lowest.{isAt}
@@ -22,7 +23,7 @@ use Rattle.aff_format.proofs.SubkeyLaws.{sound-is, reports-14}
 use Rattle.aff_reader.specs.Belongs.{ReaderBelongs, readerBelongs}
 use Rattle.aff_reader.specs.declared.reader.Reader.{Reader}
 use Rattle.aff_reader.proofs.BelongsLaws.{record-belongs}
-use Rattle.aff_read.specs.Paths.{lowestOr0, found, editionBy, lookupAnswer, lookupOfAnswer}
+use Rattle.aff_read.specs.Paths.{lowestOr0, found, lookupAnswer, lookupOfAnswer}
 use Rattle.aff_read.specs.Lookup.{LowestWith, NoneWith}
 use Rattle.aff_nodes.specs.Recall.{pathAt}
 
@@ -42,11 +43,11 @@ module _ (image : List ℕ) (reader : Reader) (strings entries path : List ℕ) 
   unfolding lookupAnswer lookupOfAnswer
   lookup-belongs h = rw h
 
-  pub lookup-breaks : (p : ℕ) → pathGrammar (editionBy reader) path ≡ BreaksAt p → refused (refusalAt 14 p) ≡ answerOf
+  pub lookup-breaks : (p : ℕ) → pathGrammar (editionBy (reader .edition)) path ≡ BreaksAt p → refused (refusalAt 14 p) ≡ answerOf
   unfolding lookupOfAnswer
   lookup-breaks p h = rw h
 
-  module _ (sound : pathGrammar (editionBy reader) path ≡ Sound) where
+  module _ (sound : pathGrammar (editionBy (reader .edition)) path ≡ Sound) where
     pub lookup-none : found image reader strings entries path ≡ Nothing → refused (refusal 15) ≡ answerOf
     unfolding lookupOfAnswer
     lookup-none h = rw (sound, h)
@@ -82,7 +83,7 @@ module _ (image : List ℕ) (reader : Reader) (strings entries path : List ℕ) 
   unfolding found
   found-none h = λ k m. same-ne _ _ (none-holds hasPath (reader .nodes + 1) 0 h k (omega arith) (omega arith))
 
-  module _ (b : ReaderBelongs image reader strings entries) (p : isPath (editionBy reader) path ≡ true) where
+  module _ (b : ReaderBelongs image reader strings entries) (p : isPath (editionBy (reader .edition)) path ≡ true) where
     -- What is answered, by what is found.
     data Looked : Type 0 where
       at : (n : ℕ) → accepted n ≡ lookupAnswer image reader strings entries path → LowestWith image reader strings entries path n → Looked
@@ -91,8 +92,8 @@ module _ (image : List ℕ) (reader : Reader) (strings entries path : List ℕ) 
     belonging : lookupOfAnswer image reader strings entries path ≡ lookupAnswer image reader strings entries path
     belonging = lookup-belongs image reader strings entries path (record-belongs b)
 
-    sound : pathGrammar (editionBy reader) path ≡ Sound
-    sound = sound-is (pathGrammar (editionBy reader) path) p
+    sound : pathGrammar (editionBy (reader .edition)) path ≡ Sound
+    sound = sound-is (pathGrammar (editionBy (reader .edition)) path) p
 
     looked : Looked
     looked = go (found image reader strings entries path) refl
@@ -119,9 +120,9 @@ module _ (image : List ℕ) (reader : Reader) (strings entries path : List ℕ) 
 
   -- 14 with place p exactly where the path breaks at p.
   pub lookup-malformed : ReaderBelongs image reader strings entries → (p : ℕ)
-      → (lookupAnswer image reader strings entries path ≡ refused (refusalAt 14 p)) ↔ (pathGrammar (editionBy reader) path ≡ BreaksAt p)
+      → (lookupAnswer image reader strings entries path ≡ refused (refusalAt 14 p)) ↔ (pathGrammar (editionBy (reader .edition)) path ≡ BreaksAt p)
   unfolding lookupOfAnswer
   lookup-malformed b p =
       let q = lookup-belongs image reader strings entries path (record-belongs b) in
-      let r = reports-14 (pathGrammar (editionBy reader) path) (check (not (isAt (found image reader strings entries path))) (refusal 15) ∷ []) (lowestOr0 (found image reader strings entries path)) p refl in
+      let r = reports-14 (pathGrammar (editionBy (reader .edition)) path) (check (not (isAt (found image reader strings entries path))) (refusal 15) ∷ []) (lowestOr0 (found image reader strings entries path)) p refl in
       (λ h. r .0 (q ∙ h), λ h. sym q ∙ r .1 h)

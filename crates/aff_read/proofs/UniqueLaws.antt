@@ -14,17 +14,17 @@ use Rattle.aff_format.specs.Path.{isPath}
 use Rattle.aff_format.specs.Subkey.{isSubkey}
 use Rattle.aff_format.specs.declared.edition.Edition.{Edition}
 use Rattle.aff_format.specs.declared.entry.Entry.{Entry}
-use Rattle.aff_format.proofs.EditionLaws.{edition-of-number}
+use Rattle.aff_format.proofs.EditionLaws.{edition-by-number}
 use Rattle.aff_format.proofs.TreeLaws.{path-formed, path-unique}
 use Rattle.aff_reader.specs.Belongs.{ReaderBelongs}
 use Rattle.aff_open.specs.Opening.{openAnswer, stringsAfter, entriesAfter, stringIn, entryIn}
 use Rattle.aff_open.specs.Sections.{editionIn, stringsIn, nodesIn}
-use Rattle.aff_format.specs.Edition.{orTwo}
+use Rattle.aff_format.specs.Edition.{editionBy}
 use Rattle.aff_reader.specs.declared.reader.Reader.{Reader}
 use Rattle.aff_reader.proofs.BelongsLaws.{belongs-record}
 use Rattle.aff_open.proofs.ObeysLaws.{NodesHold, accepted-nodes}
 use Rattle.aff_open.proofs.OpenedLaws.{OpenedShape, opened-shape, opened-belongs}
-use Rattle.aff_read.specs.Paths.{editionBy, lookupAnswer}
+use Rattle.aff_read.specs.Paths.{lookupAnswer}
 use Rattle.aff_read.specs.Lookup.{OnlyWith}
 use Rattle.aff_nodes.specs.Recall.{parentAt, nameAt, pathAt}
 use Rattle.aff_read.proofs.LookupLaws.{lookup-accepts}
@@ -75,7 +75,7 @@ module _ (image form strings entries : List ℕ) {r : Reader} (h : openAnswer im
   unique-path = path-unique e (parentAt image es) (nameAt image r ss es) (r .nodes) (shown .parent-exists) (shown .climb-ends) subkey siblings
 
   -- A lookup returns n exactly where n is the one node with the path.
-  pub lookup-only : (path : List ℕ) → isPath (editionBy r) path ≡ true → (n : ℕ)
+  pub lookup-only : (path : List ℕ) → isPath (editionBy (r .edition)) path ≡ true → (n : ℕ)
       → (lookupAnswer image r ss es path ≡ accepted n) ↔ OnlyWith image r ss es path n
   lookup-only path p n =
       let lowest = lookup-accepts image r ss es path shown p n in (
@@ -90,8 +90,8 @@ module _ (image form strings entries : List ℕ) {r : Reader} (h : openAnswer im
             }),
       )
 
-  edition-is : editionBy r ≡ e
-  edition-is = ap editionBy (shape .reader) ∙ ap orTwo (edition-of-number e)
+  edition-is : editionBy (r .edition) ≡ e
+  edition-is = ap (λ (x : Reader). editionBy (x .edition)) (shape .reader) ∙ edition-by-number e
 
   -- Each node's path is a path, and its lookup returns the node.
   pub lookup-path : (n : ℕ) → n ≤ r .nodes → lookupAnswer image r ss es (pathAt image r ss es n) ≡ accepted n

@@ -6,11 +6,10 @@ use lib.Dec.{ltb}
 use lib.ListN.{length, drop, take}
 use Rattle.aff_format.specs.Answer.{Answer, accepted, refused, Check, check, refusal, firstWrong}
 use Rattle.aff_format.specs.Bytes.{sameBytes}
-use Rattle.aff_format.specs.Edition.{editionOf, orTwo}
+use Rattle.aff_format.specs.Edition.{editionBy}
 use Rattle.aff_format.specs.Lowest.{lowestFrom, isAt}
 use Rattle.aff_format.specs.Path.{pathGrammar}
 use Rattle.aff_format.specs.Subkey.{checkGrammar}
-use Rattle.aff_format.specs.declared.edition.Edition.{Edition}
 use Rattle.aff_format.specs.declared.lowest.Lowest.{Lowest}
 use Rattle.aff_format.specs.declared.lowest.Lowest.the-variants.{Nothing, At}
 use Rattle.aff_reader.specs.Belongs.{readerBelongs}
@@ -30,10 +29,6 @@ abbrev pub lowestOr0 : Lowest → ℕ
 lowestOr0 Nothing = 0
 lowestOr0 (At k) = k
 
--- The edition of a record that belongs.
-abbrev pub editionBy : Reader → Edition
-editionBy reader = orTwo (editionOf (reader .edition))
-
 module _ (image : List ℕ) (reader : Reader) (strings entries : List ℕ) where
   -- Path: 24, 15, 21.
   unfoldable pub pathAnswer : ℕ → ℕ → Answer ℕ
@@ -47,7 +42,7 @@ module _ (image : List ℕ) (reader : Reader) (strings entries : List ℕ) where
 
   -- 14, with the place in the path at which it breaks; 15.
   abbrev pub lookupChecks : List ℕ → List Check
-  lookupChecks path = checkGrammar (pathGrammar (editionBy reader) path) ∷ check (not (isAt (found path))) (refusal 15) ∷ []
+  lookupChecks path = checkGrammar (pathGrammar (editionBy (reader .edition)) path) ∷ check (not (isAt (found path))) (refusal 15) ∷ []
 
   -- Lookup: 24, 14, 15.
   unfoldable pub lookupAnswer : List ℕ → Answer ℕ

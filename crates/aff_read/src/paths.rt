@@ -1,6 +1,5 @@
 // The path of a node, and lookup by path. A path is its parent's front, a slash and its own name; the root's front is empty.
 use aff_format::Edition;
-use aff_format::FoundEdition;
 use aff_format::Grammar;
 use aff_format::Lowest;
 use aff_format::NumberAnswer;
@@ -16,7 +15,6 @@ ghost use mathlib.Core.List.{[], _∷_};
 ghost use Prim.Native.Nat.{_+_, _-_, _^_, _≤_, _<_};
 ghost use lib.ListN.{length, getD, drop};
 ghost use Rattle.aff_format.specs.Bytes.{sameBytes};
-ghost use Rattle.aff_format.specs.Edition.{editionOf, orTwo};
 ghost use Rattle.aff_format.specs.Limits.{nodeLimit};
 ghost use Rattle.aff_reader.specs.Belongs.{ReaderBelongs};
 ghost use Rattle.aff_format.specs.Recorded.{recordedEntry, nameFrom};
@@ -480,16 +478,6 @@ pub fn lowest_match(
     Lowest::Nothing
 }
 
-// The edition of a number; edition 2 where there is none.
-fn edition_of(number: u32) -> Edition
-    ensures { λ r. ⌜ r ≡ orTwo (editionOf number) ⌝ }
-{
-    match Edition::from_number(number) {
-        FoundEdition::Known(edition) => edition,
-        FoundEdition::Unknown => Edition::Two,
-    }
-}
-
 // The lowest node whose path is the given one, for a record that belongs: 14, with the place at which the path breaks, 15.
 pub fn lookup_of(
     image: &[u8],
@@ -501,7 +489,7 @@ pub fn lookup_of(
     requires { ⌜ ReaderBelongs (now image) reader (now strings) (now entries) ⌝ }
     ensures { λ r. ⌜ answerOfNumber r ≡ lookupOfAnswer (now (image .entry)) reader (now (strings .entry)) (now (entries .entry)) (now (path .entry)) ⌝ }
 {
-    match aff_format::path::grammar(edition_of(reader.edition), path) {
+    match aff_format::path::grammar(Edition::by_number(reader.edition), path) {
         Grammar::BreaksAt(place) => {
             return NumberAnswer::Refused(Refusal::Malformed(place));
         }

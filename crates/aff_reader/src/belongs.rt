@@ -3,7 +3,6 @@ use crate::reader::Reader;
 use crate::reader::Span;
 use aff_format::Edition;
 use aff_format::Entry;
-use aff_format::FoundEdition;
 use aff_format::FoundEntry;
 use aff_format::Lowest;
 use aff_format::data;
@@ -13,7 +12,6 @@ use aff_tables::climb;
 ghost use mathlib.Core.Path.{_≡_};
 ghost use Prim.Native.Nat.{_+_, _≤_, _<_};
 ghost use lib.ListN.{length};
-ghost use Rattle.aff_format.specs.Edition.{editionOf, isKnown};
 ghost use Rattle.aff_format.specs.Limits.{imageLimit, nodeLimit};
 ghost use Rattle.aff_format.specs.Lowest.{lowestFrom};
 ghost use Rattle.aff_format.specs.declared.entry.FoundEntry.the-variants.{Whole};
@@ -21,15 +19,6 @@ ghost use Rattle.aff_format.specs.declared.lowest.Lowest.the-variants.{Nothing}
 ghost use Rattle.aff_reader.specs.Belongs.{readerBelongs as belongsOf, sizesBelong, spanInside, stringLost, entryLost, nodeLost};
 ghost use Rattle.aff_reader.specs.passes.Belongs.{sectionsInside, nodesBelong, tablesBelong, ParentsCopied};
 ghost use Rattle.aff_format.specs.Recorded.{recordedEntry};
-
-fn is_edition(number: u32) -> bool
-    ensures { λ r. ⌜ r ≡ isKnown (editionOf number) ⌝ }
-{
-    match Edition::from_number(number) {
-        FoundEdition::Known(_) => true,
-        FoundEdition::Unknown => false,
-    }
-}
 
 // The image's length, the areas' sizes, the counts and the edition.
 fn sizes(image: &[u8], reader: Reader, strings: &[u32], entries: &[u32]) -> bool
@@ -53,7 +42,7 @@ fn sizes(image: &[u8], reader: Reader, strings: &[u32], entries: &[u32]) -> bool
     if limits::NODE_LIMIT < reader.nodes {
         return false;
     }
-    is_edition(reader.edition)
+    Edition::exists(reader.edition)
 }
 
 // Whether a section lies inside the image. Offset and size are not added: the sum could wrap.

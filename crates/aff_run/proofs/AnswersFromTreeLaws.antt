@@ -9,6 +9,9 @@ use lib.Dec.{eqb, ltb}
 use lib.ListN.{length, take, drop, length-append, length-drop}
 use lib.Seq.{length-take-le}
 use borrow.Author.Tests.{eqb-false, ltb-false, not-false}
+use Rattle.aff_format.specs.Edition.{headerSize, editionBy, namesWritten, NamesWritten}
+use Rattle.aff_format.specs.declared.edition.Edition.{Edition}
+use Rattle.aff_format.proofs.EditionLaws.{names-written}
 use Rattle.aff_format.specs.Answer.{accepted, refused, Check, check, refusal, unless, firstWrong}
 use Rattle.aff_format.specs.Bytes.{sameBytes}
 use Rattle.aff_format.specs.Kind.{kindOf, isVoid}
@@ -23,7 +26,7 @@ use Rattle.aff_format.proofs.TestLaws.{or-false}
 use Rattle.aff_areas.specs.Areas.{usedText, entriesOut, finishedSize}
 use Rattle.aff_areas.specs.Belongs.{writerBelongs, writerSizesBelong, textBelongs, writerNodesBelong}
 use Rattle.aff_areas.specs.Stores.{applyStores, storesFrom}
-use Rattle.aff_areas.specs.Writer.{dataPlace, freshWriter, stopped}
+use Rattle.aff_areas.specs.Writer.{writerEdition, freshWriter, stopped}
 use Rattle.aff_areas.specs.declared.writer.Writer.{Writer}
 use Rattle.aff_areas.proofs.BelongsLaws.{record-belongs, none-belongs}
 use Rattle.aff_areas.proofs.StoreLaws.{length-storesFrom, apply-length}
@@ -41,8 +44,8 @@ use Rattle.aff_run.proofs.MakeInvariantLaws.{child, size-child, length-
 use Rattle.aff_run.proofs.PutInvariantLaws.{data-right, size-after}
 use Rattle.aff_run.proofs.ClosedLaws.{length-header}
 use Rattle.aff_run.proofs.StepLaws.{belongsIn, ownChecks, ownValue, answer-judged, judged-awake, asleep-step, asleep-next}
-use Rattle.aff_run.proofs.RunLaws.{Sleeps, sleeps-asleep, Outcome, goesOn, ends, outcome}
-use Rattle.aff_run.proofs.BeginInvariantLaws.{lengths-right, empty-invariant, begin-invariant}
+use Rattle.aff_run.proofs.RunLaws.{step-edition, Sleeps, sleeps-asleep, Outcome, goesOn, ends, outcome}
+use Rattle.aff_run.proofs.BeginInvariantLaws.{begin-edition, lengths-right, empty-invariant, begin-invariant}
 
 -- ---- Checks that agree.
 
@@ -102,13 +105,13 @@ module _ (s : State) (tree : Tree) (g : Invariant s tree) where
       rw (names-snoc tree (child parent name), length-snoc tree (child parent name)) (three-over (ap (λ (n : ℕ). n + 1) (g .nodes-count)) (strings-now s tree g name) (text-now s tree g name))
 
   child-size : (parent : ℕ) (name : List ℕ)
-      → ltb (s .writer .length) (finishedSize (s .writer) (s .tree) + 13 + addedText (s .writer) (s .text) name) ≡ ltb (length (s .buffer)) (sizeOf (withChild tree parent name))
+      → ltb (s .writer .length) (finishedSize (s .writer) (s .tree) + 13 + addedText (s .writer) (s .text) name) ≡ ltb (length (s .buffer)) (sizeOf (writerEdition (s .writer)) (withChild tree parent name))
   child-size parent name =
-      let e : finishedSize (s .writer) (s .tree) + 13 + addedText (s .writer) (s .text) name ≡ sizeOf (withChild tree parent name) =
-      rw (size-in s tree g, names-in s tree g) (sym (size-child tree parent name)) in
+      let e : finishedSize (s .writer) (s .tree) + 13 + addedText (s .writer) (s .text) name ≡ sizeOf (writerEdition (s .writer)) (withChild tree parent name) =
+      rw (size-in s tree g, names-in s tree g) (sym (size-child (writerEdition (s .writer)) tree parent name)) in
       ap₂ ltb (sym (g .buffer-length)) e
 
-  make-agrees : (parent : ℕ) (name : List ℕ) → Agree (childChecks (s .writer) (s .text) (s .tree) parent name) (callChecks (length (s .buffer)) tree (make parent name))
+  make-agrees : (parent : ℕ) (name : List ℕ) → Agree (childChecks (s .writer) (s .text) (s .tree) parent name) (callChecks (writerEdition (s .writer)) (length (s .buffer)) tree (make parent name))
   make-agrees parent name = (
     ap (λ (n : ℕ). ltb n parent) (g .nodes-count),
     refl,
@@ -125,11 +128,11 @@ module _ (s : State) (tree : Tree) (g : Invariant s tree) where
 
   data-size : (node type : ℕ) (bytes : List ℕ) → ltb (length tree) node ≡ false → (eqb node 0 || not (isVoid (treeNode tree node .kind))) ≡ false
       → wrongData (kindOf type) (length bytes) ≡ false
-      → ltb (s .writer .length) (finishedSize (s .writer) (s .tree) + 12 + length bytes) ≡ ltb (length (s .buffer)) (sizeOf (withData tree node (dataKind (kindOf type)) bytes))
+      → ltb (s .writer .length) (finishedSize (s .writer) (s .tree) + 12 + length bytes) ≡ ltb (length (s .buffer)) (sizeOf (writerEdition (s .writer)) (withData tree node (dataKind (kindOf type)) bytes))
   data-size node type bytes there takes right =
       let a = or-false (eqb node 0) (not (isVoid (treeNode tree node .kind))) takes in
       let f = eqb-false node 0 (a .0) in
-      let e : finishedSize (s .writer) (s .tree) + 12 + length bytes ≡ sizeOf (withData tree node (dataKind (kindOf type)) bytes) =
+      let e : finishedSize (s .writer) (s .tree) + 12 + length bytes ≡ sizeOf (writerEdition (s .writer)) (withData tree node (dataKind (kindOf type)) bytes) =
       ap (λ (n : ℕ). n + 12 + length bytes) (size-in s tree g)
       ∙ sym
       (size-after s tree g node (dataKind (kindOf type)) bytes (omega (arith, f)) (ltb-false (length tree) node there) (not-false (isVoid (treeNode tree node .kind)) (a .1))
@@ -137,7 +140,7 @@ module _ (s : State) (tree : Tree) (g : Invariant s tree) where
       ap₂ ltb (sym (g .buffer-length)) e
 
   put-agrees : (node type : ℕ) (bytes : List ℕ) (allowance : ℕ)
-      → Agree (dataChecks (s .writer) (s .tree) node type bytes allowance) (callChecks (length (s .buffer)) tree (put node type bytes allowance))
+      → Agree (dataChecks (s .writer) (s .tree) node type bytes allowance) (callChecks (writerEdition (s .writer)) (length (s .buffer)) tree (put node type bytes allowance))
   put-agrees node type bytes allowance = (
     ap (λ (n : ℕ). ltb n node) (g .nodes-count),
     refl,
@@ -158,7 +161,7 @@ module _ (s : State) (tree : Tree) (g : Invariant s tree) where
 
   -- ---- Close.
 
-  close-needs : length (closeStores (s .buffer) (s .writer) (s .text) (s .tree)) ≡ closeNeeds tree
+  close-needs : length (closeStores (s .buffer) (s .writer) (s .text) (s .tree)) ≡ closeNeeds (writerEdition (s .writer)) tree
   unfolding closeStores closeNeeds
   close-needs =
       let h = length-header s tree g in
@@ -166,28 +169,28 @@ module _ (s : State) (tree : Tree) (g : Invariant s tree) where
       (closeHeader (s .buffer) (s .writer) (s .text) (s .tree)) (omega arith)
       ∙ omega (arith, ap length (used-text s tree g), ap length (entries-in s tree g), sizes-in-bytes s tree g)
 
-  close-agrees : (allowance : ℕ) → Agree (storeChecks (s .buffer) (s .writer) (s .text) (s .tree) allowance) (callChecks (length (s .buffer)) tree (close allowance))
+  close-agrees : (allowance : ℕ) → Agree (storeChecks (s .buffer) (s .writer) (s .text) (s .tree) allowance) (callChecks (writerEdition (s .writer)) (length (s .buffer)) tree (close allowance))
   close-agrees allowance = (ap (ltb allowance) close-needs, refl, λ a. tt)
 
   -- ---- Any call.
 
-  agrees : (c : Call) → Agree (ownChecks s c) (callChecks (length (s .buffer)) tree c)
+  agrees : (c : Call) → Agree (ownChecks s c) (callChecks (writerEdition (s .writer)) (length (s .buffer)) tree c)
   agrees (make parent name) = make-agrees parent name
   agrees (put node type bytes allowance) = put-agrees node type bytes allowance
   agrees (close allowance) = close-agrees allowance
 
-  value-same : (c : Call) → ownValue s c ≡ callValue (length (s .buffer)) tree c
+  value-same : (c : Call) → ownValue s c ≡ callValue (writerEdition (s .writer)) (length (s .buffer)) tree c
   value-same (make parent name) = ap (λ (n : ℕ). n + 1) (g .nodes-count)
   value-same (put node type bytes allowance) = length-storesFrom (putPlace (s .writer)) bytes
   value-same (close allowance) = close-needs
 
-  step-answer : (c : Call) → step s c .answer ≡ callAnswer (length (s .buffer)) tree c
+  step-answer : (c : Call) → step s c .answer ≡ callAnswer (writerEdition (s .writer)) (length (s .buffer)) tree c
   step-answer c =
       let own = ownChecks s c in
       answer-judged s c
       ∙ judged-awake (belongsIn s) (s .writer .live) it-belongs (g .live) own (ownValue s c)
       ∙ ap (firstWrong own) (value-same c)
-      ∙ agreed own (callChecks (length (s .buffer)) tree c) (callValue (length (s .buffer)) tree c) (agrees c)
+      ∙ agreed own (callChecks (writerEdition (s .writer)) (length (s .buffer)) tree c) (callValue (writerEdition (s .writer)) (length (s .buffer)) tree c) (agrees c)
 
 -- ---- A writer that sleeps.
 
@@ -197,12 +200,12 @@ unfolding writerBelongs writerSizesBelong textBelongs writerNodesBelong finished
 belongs-stopped size writer text tree = refl
 
 -- One that belongs answers 22, whatever the buffer and the tree.
-answers-asleep : (cs : List Call) (s : State) (size : ℕ) (tree : Tree) → s .writer .live ≡ false
-    → belongsIn s ≡ true → AnswersFromTree size true tree cs (answersOf s cs)
-answers-asleep [] s size tree h b = tt
-answers-asleep (c ∷ cs) s size tree h b = (
+answers-asleep : (cs : List Call) (s : State) (ed : Edition) (size : ℕ) (tree : Tree) → s .writer .live ≡ false
+    → belongsIn s ≡ true → AnswersFromTree ed size true tree cs (answersOf s cs)
+answers-asleep [] s ed size tree h b = tt
+answers-asleep (c ∷ cs) s ed size tree h b = (
   ap (λ (t : Step). t .answer) (asleep-step s h c) ∙ ap (λ (x : Bool). refused (cond x (refusal 22) (refusal 24))) b,
-  rw (asleep-next s h c, asleep-step s h c) (answers-asleep cs s size tree h b),
+  rw (asleep-next s h c, asleep-step s h c) (answers-asleep cs s ed size tree h b),
 )
 
 -- One that does not belong answers 24.
@@ -224,19 +227,21 @@ sleeps-belong s t z b =
 
 -- What is shown of a list of calls, from any state with the invariant.
 abbrev AnswersFrom : List Call → Type 0
-AnswersFrom cs = (s : State) (tree : Tree) → Invariant s tree → AnswersFromTree (length (s .buffer)) false tree cs (answersOf s cs)
+AnswersFrom cs = (s : State) (tree : Tree) → Invariant s tree → AnswersFromTree (writerEdition (s .writer)) (length (s .buffer)) false tree cs (answersOf s cs)
 
 module _ (s : State) (tree : Tree) (g : Invariant s tree) (c : Call) (cs : List Call) (later : AnswersFrom cs) where
   abbrev AnswersAfter : Bool → Tree → Type 0
-  AnswersAfter asleep after = AnswersFromTree (length (s .buffer)) asleep after cs (answersOf (afterCall s c) cs)
+  AnswersAfter asleep after = AnswersFromTree (writerEdition (s .writer)) (length (s .buffer)) asleep after cs (answersOf (afterCall s c) cs)
 
   by-step : Outcome s tree c → AnswersAfter (stops c (step s c .answer)) (applyCall tree c (isAccepted (step s c .answer)))
   by-step (goesOn e kept rest) =
       rw e
-      (subst (λ (r : ℕ). AnswersFromTree r false (applyCall tree c (isAccepted (step s c .answer))) cs (answersOf (afterCall s c) cs))
-      (apply-length (s .buffer) (step s c .stores)) (later (afterCall s c) _ kept))
+      (subst (λ (n : ℕ). AnswersFromTree (editionBy n) (length (s .buffer)) false (applyCall tree c (isAccepted (step s c .answer))) cs (answersOf (afterCall s c) cs))
+      (step-edition s c)
+      (subst (λ (r : ℕ). AnswersFromTree (writerEdition (afterCall s c .writer)) r false (applyCall tree c (isAccepted (step s c .answer))) cs (answersOf (afterCall s c) cs))
+      (apply-length (s .buffer) (step s c .stores)) (later (afterCall s c) _ kept)))
   by-step (ends e t z) =
-      rw (e, t) (answers-asleep cs (afterCall s c) (length (s .buffer)) tree (sleeps-asleep s c z) (sleeps-belong s (step s c) z (it-belongs s tree g)))
+      rw (e, t) (answers-asleep cs (afterCall s c) (writerEdition (s .writer)) (length (s .buffer)) tree (sleeps-asleep s c z) (sleeps-belong s (step s c) z (it-belongs s tree g)))
 
 answers-run : (cs : List Call) → AnswersFrom cs
 answers-run [] s tree g = tt
@@ -245,17 +250,19 @@ answers-run (c ∷ cs) s tree g = (step-answer s tree g c, by-step s tree g c cs
 -- ---- A whole run, by what its begin answers.
 
 -- The record that it leaves belongs: over areas that were not cleared, since it records no string and no node.
-begin-belongs : (size : ℕ) (buffer form text tree : List ℕ) → length buffer ≡ size → length form ≡ 12 → length text ≡ textArea → length tree ≡ treeArea → size ≤ imageLimit
-    → dataPlace ≤ size → writerBelongs (length buffer) (stopped (freshWriter size form)) text tree ≡ true
-begin-belongs size buffer form text tree n f x t few large =
-    belongs-stopped (length buffer) (freshWriter size form) text tree
-    ∙ it-belongs (record { writer = freshWriter size form; text = text; tree = tree; buffer = buffer }) [] (empty-invariant size buffer form text tree n f x t few large)
+begin-belongs : (edition size : ℕ) (buffer form text tree : List ℕ) → length buffer ≡ size → length form ≡ 12 → length text ≡ textArea → length tree ≡ treeArea → size ≤ imageLimit
+    → NamesWritten edition → headerSize (editionBy edition) ≤ size → writerBelongs (length buffer) (stopped (freshWriter edition size form)) text tree ≡ true
+begin-belongs edition size buffer form text tree n f x t few named large =
+    belongs-stopped (length buffer) (freshWriter edition size form) text tree
+    ∙ it-belongs (record { writer = freshWriter edition size form; text = text; tree = tree; buffer = buffer }) []
+    (empty-invariant edition size buffer form text tree n f x t few named large)
 
 module _ (run : Run) where
-  pub run-from-tree : {n : ℕ} → runBegin run .answer ≡ accepted n → AnswersFromTree (length (run .buffer)) false [] (run .calls) (runAnswers run)
+  pub run-from-tree : {n : ℕ} → runBegin run .answer ≡ accepted n → AnswersFromTree (editionBy (run .edition)) (length (run .buffer)) false [] (run .calls) (runAnswers run)
   run-from-tree h =
-      subst (λ (r : ℕ). AnswersFromTree r false [] (run .calls) (runAnswers run)) (apply-length (run .buffer) (runBegin run .stores))
-      (answers-run (run .calls) (runStart run) [] (begin-invariant run h))
+      subst (λ (n : ℕ). AnswersFromTree (editionBy n) (length (run .buffer)) false [] (run .calls) (runAnswers run)) (begin-edition run h)
+      (subst (λ (r : ℕ). AnswersFromTree (writerEdition (runStart run .writer)) r false [] (run .calls) (runAnswers run)) (apply-length (run .buffer) (runBegin run .stores))
+      (answers-run (run .calls) (runStart run) [] (begin-invariant run h)))
 
   module _ (t : RefusalCode) (h : runBegin run .answer ≡ refused t) where
     module _ (spent : eqb (t .number) 23 ≡ true) where
@@ -265,11 +272,13 @@ module _ (run : Run) where
           let clear = begin-spent run t h spent .0 in
           let a = lengths-right (run .buffer) (run .form) (run .text) (run .tree) (clear .0) in
           rw (h, spent)
-          (begin-belongs (length (run .buffer)) (applyStores (run .buffer) (take (t .place) beginStores)) (run .form) (run .text) (run .tree)
-          (apply-length (run .buffer) (take (t .place) beginStores)) (a .0) (a .1) (a .2) (a .3) (ltb-false (length (run .buffer)) dataPlace (clear .1 .0)))
+          (begin-belongs (run .edition) (length (run .buffer)) (applyStores (run .buffer) (take (t .place) beginStores)) (run .form) (run .text) (run .tree)
+          (apply-length (run .buffer) (take (t .place) beginStores)) (a .0) (a .1) (a .2) (a .3)
+          (names-written (run .edition) (not-false (namesWritten (run .edition)) (clear .1 .0)))
+          (ltb-false (length (run .buffer)) (headerSize (editionBy (run .edition))) (clear .1 .1 .0)))
 
-      pub run-spent : AnswersFromTree (length (run .buffer)) true [] (run .calls) (runAnswers run)
-      run-spent = answers-asleep (run .calls) (runStart run) (length (run .buffer)) [] (asleep run t h) spent-belongs
+      pub run-spent : AnswersFromTree (editionBy (run .edition)) (length (run .buffer)) true [] (run .calls) (runAnswers run)
+      run-spent = answers-asleep (run .calls) (runStart run) (editionBy (run .edition)) (length (run .buffer)) [] (asleep run t h) spent-belongs
 
     module _ (other : eqb (t .number) 23 ≡ false) where
       none-here : belongsIn (runStart run) ≡ false

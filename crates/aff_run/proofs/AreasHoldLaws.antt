@@ -1,6 +1,6 @@
 -- A run after an accepted begin: record and areas hold the tree described, zeros after. While the writer is live, from what holds between the calls; an
 -- accepted close and a 23 leave areas and counts, and after them nothing changes. By induction on the calls. Assumes nothing.
-use mathlib.Core.Path.{_≡_, ap, _∙_}
+use mathlib.Core.Path.{_≡_, ap, _∙_, refl, subst}
 use mathlib.Core.Bool.{true}
 use mathlib.Core.List.{List, [], _∷_, _++_}
 use Prim.Native.Nat.{ℕ, zero, suc, _-_, _*_, _≤_, _<_}
@@ -17,15 +17,16 @@ use Rattle.aff_format.specs.Tree.{Tree, treeNode}
 use Rattle.aff_format.specs.declared.entry.Entry.{Entry}
 use Rattle.aff_format.proofs.EntryLaws.{length-entryBytes, length-slotBytes}
 use Rattle.aff_tables.specs.Tables.{nodeEntry}
+use Rattle.aff_areas.specs.Writer.{writerEdition}
 use Rattle.aff_areas.specs.Areas.{slotAt}
 use Rattle.aff_run.specs.TreeSizes.{namesOf, dataSize}
 use Rattle.aff_run.specs.AreasHold.{SlotOf, AreasHold}
 use Rattle.aff_run.specs.Run.{Call, State, Step, next, step, afterCall, answersOf, stateAfter, isAccepted, applyCall, treeAfter, Run, runBegin, runStart, runState, runTree}
 use Rattle.aff_run.proofs.InvariantLaws.{Invariant, Blank, ZerosAfter, count-same, storables, stored-in, text-after, tree-after}
-use Rattle.aff_run.proofs.BeginInvariantLaws.{begin-invariant, begin-after}
+use Rattle.aff_run.proofs.BeginInvariantLaws.{begin-edition, begin-invariant, begin-after}
 use Rattle.aff_run.proofs.SlotsLaws.{slotsOf, length-slotsOf, drop-slots, node-storable}
 use Rattle.aff_run.proofs.StepLaws.{asleep-tree, asleep-after}
-use Rattle.aff_run.proofs.RunLaws.{Sleeps, sleeps-asleep, Outcome, goesOn, ends, outcome}
+use Rattle.aff_run.proofs.RunLaws.{step-edition, Sleeps, sleeps-asleep, Outcome, goesOn, ends, outcome}
 
 -- ---- A live writer.
 
@@ -44,7 +45,7 @@ module _ (s : State) (tree : Tree) (g : Invariant s tree) where
       rw (z, g .tree-is, drop-slots (g .entries) (g .tree-rest) k (omega (arith, count-same s tree g)))
       (take-at (slotBytes e) (slotsOf (drop (suc k) (g .entries)) ++ g .tree-rest) 25 (length-slotBytes e))
 
-  slot-of : (n : ℕ) → 0 < n → n ≤ length tree → SlotOf (namesOf tree) (dataSize tree) (treeNode tree n) (part (slotAt n) 25 (s .tree))
+  slot-of : (n : ℕ) → 0 < n → n ≤ length tree → SlotOf (writerEdition (s .writer)) (namesOf tree) (dataSize tree) (treeNode tree n) (part (slotAt n) 25 (s .tree))
   slot-of n lo hi =
       let t = stored-in s tree g n lo hi in
       let b = slot-is n lo hi in
@@ -77,7 +78,7 @@ module _ (s : State) (tree : Tree) (g : Invariant s tree) where
         let z : Blank (g .tree-rest) = rw (tree-after s tree g) at (b .tree-blank) in
         z ∙ ap (λ (k : ℕ). replicate k 0) n
 
-    invariant-areas : AreasHold tree s
+    invariant-areas : AreasHold (s .writer .edition) tree s
     invariant-areas =
         record {
           text = g .text-is ∙ ap (λ (l : List ℕ). textOf (namesOf tree) ++ l) text-zeros;
@@ -85,6 +86,7 @@ module _ (s : State) (tree : Tree) (g : Invariant s tree) where
           slots = slot-of;
           rest = tree-after s tree g ∙ tree-zeros;
           tree-long = g .tree-area;
+          edition-kept = refl;
           strings-count = g .strings-count;
           text-count = g .text-count;
           nodes-count = g .nodes-count;
@@ -93,8 +95,8 @@ module _ (s : State) (tree : Tree) (g : Invariant s tree) where
 
 -- ---- A call that closes or stops the writer.
 
-sleeps-held : (tree : Tree) (s : State) (t : Step) → Sleeps s t → AreasHold tree s → AreasHold tree (next t (s .buffer))
-sleeps-held tree s t z h =
+sleeps-held : (edition : ℕ) (tree : Tree) (s : State) (t : Step) → Sleeps s t → AreasHold edition tree s → AreasHold edition tree (next t (s .buffer))
+sleeps-held edition tree s t z h =
     rw (z .0, z .1, z .2)
     (record {
       text = h .text;
@@ -102,6 +104,7 @@ sleeps-held tree s t z h =
       slots = h .slots;
       rest = h .rest;
       tree-long = h .tree-long;
+      edition-kept = h .edition-kept;
       strings-count = h .strings-count;
       text-count = h .text-count;
       nodes-count = h .nodes-count;
@@ -111,21 +114,25 @@ sleeps-held tree s t z h =
 -- ---- The run.
 
 abbrev AreasFrom : List Call → Type 0
-AreasFrom cs = (s : State) (tree : Tree) → Invariant s tree → ZerosAfter s tree → AreasHold (treeAfter tree cs (answersOf s cs)) (stateAfter s cs)
+AreasFrom cs = (s : State) (tree : Tree) → Invariant s tree → ZerosAfter s tree → AreasHold (s .writer .edition) (treeAfter tree cs (answersOf s cs)) (stateAfter s cs)
 
 module _ (s : State) (tree : Tree) (g : Invariant s tree) (b : ZerosAfter s tree) (c : Call) (cs : List Call) (later : AreasFrom cs) where
   -- The same, after call c.
   by-step : Outcome s tree c
-      → AreasHold (treeAfter (applyCall tree c (isAccepted (step s c .answer))) cs (answersOf (afterCall s c) cs)) (stateAfter (afterCall s c) cs)
-  by-step (goesOn e kept rest) = later (afterCall s c) _ kept (rest b)
+      → AreasHold (s .writer .edition) (treeAfter (applyCall tree c (isAccepted (step s c .answer))) cs (answersOf (afterCall s c) cs)) (stateAfter (afterCall s c) cs)
+  by-step (goesOn e kept rest) =
+      subst (λ (n : ℕ). AreasHold n (treeAfter (applyCall tree c (isAccepted (step s c .answer))) cs (answersOf (afterCall s c) cs)) (stateAfter (afterCall s c) cs))
+      (step-edition s c) (later (afterCall s c) _ kept (rest b))
   by-step (ends e t z) =
       let asleep = sleeps-asleep s c z in
       rw (t, asleep-tree (afterCall s c) asleep tree cs, asleep-after (afterCall s c) asleep cs)
-      (sleeps-held tree s (step s c) z (invariant-areas s tree g b))
+      (sleeps-held (s .writer .edition) tree s (step s c) z (invariant-areas s tree g b))
 
 areas-from : (cs : List Call) → AreasFrom cs
 areas-from [] s tree g b = invariant-areas s tree g b
 areas-from (c ∷ cs) s tree g b = by-step s tree g b c cs (areas-from cs) (outcome s tree g c)
 
-pub run-areas : (run : Run) {n : ℕ} → runBegin run .answer ≡ accepted n → AreasHold (runTree run) (runState run)
-run-areas run h = areas-from (run .calls) (runStart run) [] (begin-invariant run h) (begin-after run h)
+pub run-areas : (run : Run) {n : ℕ} → runBegin run .answer ≡ accepted n → AreasHold (run .edition) (runTree run) (runState run)
+run-areas run h =
+    subst (λ (n : ℕ). AreasHold n (runTree run) (runState run)) (begin-edition run h)
+    (areas-from (run .calls) (runStart run) [] (begin-invariant run h) (begin-after run h))

@@ -9,12 +9,15 @@ use lib.Dec.{eqb, ltb}
 use lib.ListN.{length, take, replicate, length-replicate}
 use borrow.Author.Tests.{eqb-true, ltb-false, not-false}
 use Rattle.aff_format.specs.Answer.{accepted, Check, Clear}
+use Rattle.aff_format.specs.Edition.{headerSize, editionBy, namesWritten, NamesWritten}
 use Rattle.aff_format.specs.Limits.{imageLimit, textArea, treeArea}
 use Rattle.aff_format.specs.Strings.{textOf}
 use Rattle.aff_format.proofs.AnswerLaws.{passed, passed-value}
+use Rattle.aff_format.specs.declared.edition.Edition.{Edition}
+use Rattle.aff_format.proofs.EditionLaws.{names-written}
 use Rattle.aff_format.proofs.TestLaws.{or-false}
 use Rattle.aff_areas.specs.Stores.{applyStores, storesFrom}
-use Rattle.aff_areas.specs.Writer.{dataPlace, freshWriter}
+use Rattle.aff_areas.specs.Writer.{freshWriter}
 use Rattle.aff_areas.proofs.StoreLaws.{apply-length}
 use Rattle.aff_write.specs.Begin.{beginLengthsWrong, beginStores, beginChecks, beginAnswer}
 use Rattle.aff_run.specs.TreeSizes.{namesFrom, dataSize, entriesSize, sizeOf}
@@ -37,18 +40,18 @@ lengths-right buffer form text tree h =
     )
 
 -- The empty tree: header alone.
-no-size : sizeOf [] ≡ dataPlace
+no-size : (e : Edition) → sizeOf e [] ≡ headerSize e
 unfolding sizeOf dataSize entriesSize namesFrom textOf
-no-size = refl
+no-size e = omega arith
 
 blank-zeros : (n : ℕ) → Blank (replicate n 0)
 blank-zeros n = ap (λ (k : ℕ). replicate k 0) (sym (length-replicate n 0))
 
 -- The record of an accepted begin, over any areas of the right lengths.
-pub empty-invariant : (size : ℕ) (buffer form text tree : List ℕ) → length buffer ≡ size → length form ≡ 12 → length text ≡ textArea → length tree ≡ treeArea → size ≤ imageLimit
-    → dataPlace ≤ size → Invariant (record { writer = freshWriter size form; text = text; tree = tree; buffer = buffer }) []
+pub empty-invariant : (edition size : ℕ) (buffer form text tree : List ℕ) → length buffer ≡ size → length form ≡ 12 → length text ≡ textArea → length tree ≡ treeArea → size ≤ imageLimit
+    → NamesWritten edition → headerSize (editionBy edition) ≤ size → Invariant (record { writer = freshWriter edition size form; text = text; tree = tree; buffer = buffer }) []
 unfolding namesFrom textOf slotsOf dataSize
-empty-invariant size buffer form text tree n f x t few large =
+empty-invariant edition size buffer form text tree n f x t few named large =
     record {
       entries = [];
       text-rest = text;
@@ -57,6 +60,7 @@ empty-invariant size buffer form text tree n f x t few large =
       tree-is = refl;
       text-area = x;
       tree-area = t;
+      edition-written = named;
       buffer-length = n;
       buffer-allowed = few;
       form-length = f;
@@ -67,7 +71,7 @@ empty-invariant size buffer form text tree n f x t few large =
       nodes-few = omega arith;
       data-count = refl;
       live = refl;
-      fits = rw no-size large;
+      fits = rw (no-size (editionBy edition)) large;
       subkeys = tt;
       distinct = λ i k l m e. omega arith;
       each = tt;
@@ -76,7 +80,7 @@ empty-invariant size buffer form text tree n f x t few large =
 
 module _ (run : Run) {n : ℕ} (h : runBegin run .answer ≡ accepted n) where
   abbrev checks : List Check
-  checks = beginChecks (run .buffer) (run .form) (run .text) (run .tree) (run .allowance)
+  checks = beginChecks (run .edition) (run .buffer) (run .form) (run .text) (run .tree) (run .allowance)
 
   clear : Clear checks
   unfolding beginStep beginAnswer
@@ -92,13 +96,18 @@ module _ (run : Run) {n : ℕ} (h : runBegin run .answer ≡ accepted n) where
       let a = lengths-right (run .buffer) (run .form) (run .text) (run .tree) (clear .0) in
       let buffer = applyStores (run .buffer) (take n beginStores) in
       rw h
-      (empty-invariant (length (run .buffer)) buffer (run .form) (replicate (length (run .text)) 0) (replicate (length (run .tree)) 0)
+      (empty-invariant (run .edition) (length (run .buffer)) buffer (run .form) (replicate (length (run .text)) 0) (replicate (length (run .tree)) 0)
       (apply-length (run .buffer) (take n beginStores)) (a .0) (length-replicate (length (run .text)) 0 ∙ a .1) (length-replicate (length (run .tree)) 0 ∙ a .2)
-      (a .3) (ltb-false (length (run .buffer)) dataPlace (clear .1 .0)))
+      (a .3) (names-written (run .edition) (not-false (namesWritten (run .edition)) (clear .1 .0)))
+      (ltb-false (length (run .buffer)) (headerSize (editionBy (run .edition))) (clear .1 .1 .0)))
 
   pub begin-after : ZerosAfter (runStart run) []
   unfolding beginStep namesFrom textOf
   begin-after = rw h (record { text-blank = blank-zeros (length (run .text)); tree-blank = blank-zeros (length (run .tree)) })
+
+  pub begin-edition : runBegin run .writer .edition ≡ run .edition
+  unfolding beginStep
+  begin-edition = rw h
 
   pub begin-form : runBegin run .writer .form ≡ run .form
   unfolding beginStep

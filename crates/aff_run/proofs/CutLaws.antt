@@ -1,7 +1,7 @@
 -- A run whose allowances give out after some number of stores makes exactly that many first stores of the uncut run, and answers the same before
 -- that point. By induction on the calls: each step is the uncut one, or it makes all the stores that are left and stops the writer. Assumes nothing.
 use mathlib.Core.Path.{_≡_, refl, sym, ap, ap₂, _∙_}
-use mathlib.Core.Bool.{Bool, true, false, cond}
+use mathlib.Core.Bool.{Bool, true, false, cond, not}
 use mathlib.Core.List.{List, [], _∷_, _++_, append-nil}
 use Prim.Native.Nat.{ℕ, _+_, _-_, _≤_, _<_, min}
 use native.Mathlib.Omega.{arith}
@@ -9,6 +9,7 @@ use lib.Dec.{eqb, ltb}
 use lib.ListN.{length, take, drop, length-append}
 use lib.Seq.{take-all, take-nil, take-take, take-append-le, length-take-le}
 use borrow.Author.Tests.{ltb-true, ltb-false, lt-ltb, le-ltb}
+use Rattle.aff_format.specs.Edition.{headerSize, editionBy, namesWritten}
 use Rattle.aff_format.specs.Answer.{Answer, accepted, refused, Check, check, refusal, refusalAt, firstWrong}
 use Rattle.aff_format.specs.Kind.{kindOf}
 use Rattle.aff_format.specs.declared.refusal.RefusalCode.{RefusalCode}
@@ -16,7 +17,6 @@ use Rattle.aff_format.proofs.AnswerLaws.{refused-before, passed-before, Others,
 use Rattle.aff_areas.specs.Areas.{finishedSize}
 use Rattle.aff_areas.specs.Belongs.{writerChecks}
 use Rattle.aff_areas.specs.Stores.{Store, applyStores, storesFrom, storesReported}
-use Rattle.aff_areas.specs.Writer.{dataPlace}
 use Rattle.aff_areas.proofs.StoreLaws.{take-append, length-take-most}
 use Rattle.aff_write.specs.Begin.{beginLengthsWrong, beginStores, beginAnswer, beginWriter, beginArea}
 use Rattle.aff_write.specs.Close.{closeStores, closeAnswer}
@@ -161,7 +161,11 @@ module _ (s : State) where
 
 module _ (run : Run) where
   abbrev beginBefore : List Check
-  beginBefore = check (beginLengthsWrong (run .buffer) (run .form) (run .text) (run .tree)) (refusal 1) ∷ check (ltb (length (run .buffer)) dataPlace) (refusal 21) ∷ []
+  beginBefore =
+      check (beginLengthsWrong (run .buffer) (run .form) (run .text) (run .tree)) (refusal 1)
+      ∷ check (not (namesWritten (run .edition))) (refusal 3)
+      ∷ check (ltb (length (run .buffer)) (headerSize (editionBy (run .edition)))) (refusal 21)
+      ∷ []
 
   begin-compared : (k : ℕ) → Compared (runBegin (cut run k)) (runBegin run) k
   unfolding beginStep beginAnswer storesFrom
@@ -171,7 +175,7 @@ module _ (run : Run) where
       record {
         answer = a;
         stores = take (storesReported a) beginStores;
-        writer = beginWriter a (length (run .buffer)) (run .form);
+        writer = beginWriter a (run .edition) (length (run .buffer)) (run .form);
         text = beginArea a (run .text);
         tree = beginArea a (run .tree);
       })

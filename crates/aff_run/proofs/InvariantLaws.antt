@@ -10,6 +10,7 @@ use native.Mathlib.Omega.{arith}
 use lib.ListN.{length, getD, set, take, drop, replicate, length-append}
 use lib.Seq.{take-at, drop-at, take-suc, take-length}
 use Rattle.aff_format.specs.Bytes.{part, EachWithout}
+use Rattle.aff_format.specs.Edition.{headerSize, NamesWritten}
 use Rattle.aff_format.specs.Element.{countIn}
 use Rattle.aff_format.specs.Entry.{entryBytes, Storable, noEntry}
 use Rattle.aff_format.specs.Kind.{elementSize, isVoid}
@@ -18,6 +19,7 @@ use Rattle.aff_format.specs.Path.{Subkeys}
 use Rattle.aff_format.specs.Strings.{stringsOf, textOf}
 use Rattle.aff_format.specs.Subkey.{isSubkey}
 use Rattle.aff_format.specs.Tree.{Node, Tree, root, treeNode}
+use Rattle.aff_format.specs.declared.edition.Edition.{Edition}
 use Rattle.aff_format.specs.declared.entry.Entry.{Entry}
 use Rattle.aff_format.specs.declared.entry.FoundEntry.the-variants.{Whole}
 use Rattle.aff_format.specs.declared.kind.Kind.{Kind}
@@ -26,11 +28,11 @@ use Rattle.aff_format.proofs.ClimbLaws.{absurd-bool}
 use Rattle.aff_format.proofs.EntryLaws.{length-entryBytes}
 use Rattle.aff_format.proofs.KindLaws.{countIn-few, countIn-void}
 use Rattle.aff_format.proofs.StringsLaws.{stringsOf-textOf, endsInZero-textOf}
-use Rattle.aff_format.proofs.SubkeyLaws.{subkey-no-zero}
+use Rattle.aff_format.proofs.PathLaws.{subkeys-no-zero}
 use Rattle.aff_tables.specs.Tables.{nodeEntry, treeBytes}
 use Rattle.aff_areas.specs.Areas.{usedText, namesIn, foundSlot, slotEntry, nameOf, entrySizes, entriesOut, dataNodes, finishedSize}
 use Rattle.aff_areas.specs.Belongs.{WriterBelongs}
-use Rattle.aff_areas.specs.Writer.{written, dataPlace}
+use Rattle.aff_areas.specs.Writer.{writerEdition, dataPlace}
 use Rattle.aff_run.specs.TreeSizes.{namesOf, dataSize, entriesSize, nonVoidCount, sizeOf}
 use Rattle.aff_run.specs.Run.{State}
 use Rattle.aff_run.proofs.SlotsLaws.{slotsOf, Storables, length-slotsOf, slot-found, slot-entry, entries-out, sizes-are}
@@ -38,27 +40,27 @@ use Rattle.aff_run.proofs.SlotsLaws.{slotsOf, Storables, length-slotsOf
 -- ---- A node and its entry.
 
 -- Node i, t, is stored as entry e: over the strings so far, in a buffer that has `size` bytes of data.
-pub record Stored (names : List (List ℕ)) (buffer : List ℕ) (size i : ℕ) (e : Entry) (t : Node) : Type 0 where
+pub record Stored (ed : Edition) (names : List (List ℕ)) (buffer : List ℕ) (size i : ℕ) (e : Entry) (t : Node) : Type 0 where
   pub parent-is : e .parent ≡ t .parent
   pub parent-lower : t .parent < i
   pub string-exists : e .string < length names
   pub name-is : getD names (e .string) [] ≡ t .name
-  pub subkey : isSubkey written (t .name) ≡ true
+  pub subkey : isSubkey ed (t .name) ≡ true
   pub kind-is : e .kind ≡ t .kind
   pub count-is : e .count ≡ countIn (t .kind) (t .bytes)
   pub whole : e .count * elementSize (t .kind) ≡ length (t .bytes)
   pub short : length (t .bytes) ≤ size
   pub void-offset : isVoid (t .kind) ≡ true → e .offset ≡ 0
-  pub begins : isVoid (t .kind) ≡ false → dataPlace ≤ e .offset
-  pub ends : isVoid (t .kind) ≡ false → e .offset + length (t .bytes) ≤ dataPlace + size
+  pub begins : isVoid (t .kind) ≡ false → headerSize ed ≤ e .offset
+  pub ends : isVoid (t .kind) ≡ false → e .offset + length (t .bytes) ≤ headerSize ed + size
   pub there : isVoid (t .kind) ≡ false → part (e .offset) (length (t .bytes)) buffer ≡ t .bytes
 
 -- Each node from number i on and its entry.
-abbrev pub Each : List (List ℕ) → List ℕ → ℕ → ℕ → List Entry → Tree → Type 0
-Each names buffer size i [] [] = Unit {0}
-Each names buffer size i [] (t ∷ ts) = ⊥
-Each names buffer size i (e ∷ es) [] = ⊥
-Each names buffer size i (e ∷ es) (t ∷ ts) = Stored names buffer size i e t × Each names buffer size (suc i) es ts
+abbrev pub Each : Edition → List (List ℕ) → List ℕ → ℕ → ℕ → List Entry → Tree → Type 0
+Each ed names buffer size i [] [] = Unit {0}
+Each ed names buffer size i [] (t ∷ ts) = ⊥
+Each ed names buffer size i (e ∷ es) [] = ⊥
+Each ed names buffer size i (e ∷ es) (t ∷ ts) = Stored ed names buffer size i e t × Each ed names buffer size (suc i) es ts
 
 -- ---- What holds between the calls.
 
@@ -71,7 +73,8 @@ pub record Invariant (s : State) (tree : Tree) : Type 0 where
   pub tree-is : s .tree ≡ slotsOf entries ++ tree-rest
   pub text-area : length (s .text) ≡ textArea
   pub tree-area : length (s .tree) ≡ treeArea
-  -- The record.
+  -- The record. Its edition is a written one.
+  pub edition-written : NamesWritten (s .writer .edition)
   pub buffer-length : length (s .buffer) ≡ s .writer .length
   pub buffer-allowed : s .writer .length ≤ imageLimit
   pub form-length : length (s .writer .form) ≡ 12
@@ -82,11 +85,11 @@ pub record Invariant (s : State) (tree : Tree) : Type 0 where
   pub nodes-few : length tree ≤ nodeLimit
   pub data-count : s .writer .«data» ≡ dataSize tree
   pub live : s .writer .live ≡ true
-  pub fits : sizeOf tree ≤ s .writer .length
+  pub fits : sizeOf (writerEdition (s .writer)) tree ≤ s .writer .length
   -- The strings are subkeys and differ; each node is stored as its entry; siblings have different names.
-  pub subkeys : Subkeys written (namesOf tree)
+  pub subkeys : Subkeys (writerEdition (s .writer)) (namesOf tree)
   pub distinct : (i k : ℕ) → i < k → k < length (namesOf tree) → getD (namesOf tree) i [] ≡ getD (namesOf tree) k [] → ⊥
-  pub each : Each (namesOf tree) (s .buffer) (dataSize tree) 1 entries tree
+  pub each : Each (writerEdition (s .writer)) (namesOf tree) (s .buffer) (dataSize tree) 1 entries tree
   pub siblings : (j k : ℕ) → 0 < j → j < k → k ≤ length tree → treeNode tree j .parent ≡ treeNode tree k .parent → treeNode tree j .name ≡ treeNode tree k .name → ⊥
 
 -- All zero.
@@ -105,15 +108,15 @@ blank-drop (suc k) (x ∷ l) h = blank-drop k l (ap (drop 1) h)
 
 -- ---- Each node, by its number.
 
-module _ (names : List (List ℕ)) (buffer : List ℕ) (size : ℕ) where
-  each-length : (i : ℕ) (es : List Entry) (ts : Tree) → Each names buffer size i es ts → length es ≡ length ts
+module _ (ed : Edition) (names : List (List ℕ)) (buffer : List ℕ) (size : ℕ) where
+  each-length : (i : ℕ) (es : List Entry) (ts : Tree) → Each ed names buffer size i es ts → length es ≡ length ts
   each-length i [] [] h = refl
   each-length i [] (t ∷ ts) h = absurd h
   each-length i (e ∷ es) [] h = absurd h
   each-length i (e ∷ es) (t ∷ ts) h = ap suc (each-length (suc i) es ts (h .1))
 
-  each-get : (i : ℕ) (es : List Entry) (ts : Tree) (d : Entry) (r : Node) → Each names buffer size i es ts → (k : ℕ) → k < length ts
-      → Stored names buffer size (i + k) (getD es k d) (getD ts k r)
+  each-get : (i : ℕ) (es : List Entry) (ts : Tree) (d : Entry) (r : Node) → Each ed names buffer size i es ts → (k : ℕ) → k < length ts
+      → Stored ed names buffer size (i + k) (getD es k d) (getD ts k r)
   each-get i [] [] d r h k l = absurd (omega arith)
   each-get i [] (t ∷ ts) d r h k l = absurd h
   each-get i (e ∷ es) [] d r h k l = absurd h
@@ -121,14 +124,14 @@ module _ (names : List (List ℕ)) (buffer : List ℕ) (size : ℕ) where
   each-get i (e ∷ es) (t ∷ ts) d r h (suc k) l =
       let n : i + suc k ≡ suc i + k = omega arith in rw n (each-get (suc i) es ts d r (h .1) k (omega arith))
 
-  pub each-at : (es : List Entry) (ts : Tree) → Each names buffer size 1 es ts → (k : ℕ) → 0 < k → k ≤ length ts
-      → Stored names buffer size k (nodeEntry es k) (treeNode ts k)
+  pub each-at : (es : List Entry) (ts : Tree) → Each ed names buffer size 1 es ts → (k : ℕ) → 0 < k → k ≤ length ts
+      → Stored ed names buffer size k (nodeEntry es k) (treeNode ts k)
   each-at es ts h zero lo hi = absurd (omega arith)
   each-at es ts h (suc k) lo hi = rw (← one-add k) (each-get 1 es ts noEntry root h k (omega arith))
 
   -- The numbers of an entry fit its fields.
-  module _ (names-few : length names ≤ stringLimit) (small : dataPlace + size ≤ imageLimit) where
-    stored-storable : (i : ℕ) (e : Entry) (t : Node) → Stored names buffer size i e t → i ≤ nodeLimit → Storable e
+  module _ (names-few : length names ≤ stringLimit) (small : headerSize ed + size ≤ imageLimit) where
+    stored-storable : (i : ℕ) (e : Entry) (t : Node) → Stored ed names buffer size i e t → i ≤ nodeLimit → Storable e
     stored-storable i e t s few =
         record {
           parent-fits = omega (arith, s .parent-is, s .parent-lower);
@@ -143,14 +146,14 @@ module _ (names : List (List ℕ)) (buffer : List ℕ) (size : ℕ) where
         offset true v = omega (arith, s .void-offset v)
         offset false v = omega (arith, s .ends v)
 
-    each-storable : (i : ℕ) (es : List Entry) (ts : Tree) → Each names buffer size i es ts → i + length ts ≤ suc nodeLimit → Storables es
+    each-storable : (i : ℕ) (es : List Entry) (ts : Tree) → Each ed names buffer size i es ts → i + length ts ≤ suc nodeLimit → Storables es
     each-storable i [] [] h l = tt
     each-storable i [] (t ∷ ts) h l = absurd h
     each-storable i (e ∷ es) [] h l = absurd h
     each-storable i (e ∷ es) (t ∷ ts) h l = (stored-storable i e t (h .0) (omega arith), each-storable (suc i) es ts (h .1) (omega arith))
 
   -- The bytes of the entries.
-  each-sizes : (i : ℕ) (es : List Entry) (ts : Tree) → Each names buffer size i es ts → length (treeBytes es) ≡ entriesSize ts
+  each-sizes : (i : ℕ) (es : List Entry) (ts : Tree) → Each ed names buffer size i es ts → length (treeBytes es) ≡ entriesSize ts
   unfolding treeBytes entriesSize
   each-sizes i [] [] h = refl
   each-sizes i [] (t ∷ ts) h = absurd h
@@ -160,16 +163,16 @@ module _ (names : List (List ℕ)) (buffer : List ℕ) (size : ℕ) where
       ∙ rw (length-entryBytes e, h .0 .kind-is, each-sizes (suc i) es ts (h .1))
 
   -- One node more, and one node changed.
-  pub each-snoc : (i : ℕ) (es : List Entry) (ts : Tree) (e : Entry) (t : Node) → Each names buffer size i es ts → Stored names buffer size (i + length ts) e t
-      → Each names buffer size i (es ++ (e ∷ [])) (ts ++ (t ∷ []))
+  pub each-snoc : (i : ℕ) (es : List Entry) (ts : Tree) (e : Entry) (t : Node) → Each ed names buffer size i es ts → Stored ed names buffer size (i + length ts) e t
+      → Each ed names buffer size i (es ++ (e ∷ [])) (ts ++ (t ∷ []))
   each-snoc i [] [] e t h s = let n : i + 0 ≡ i = omega arith in (rw n at s, tt)
   each-snoc i [] (u ∷ ts) e t h s = absurd h
   each-snoc i (d ∷ es) [] e t h s = absurd h
   each-snoc i (d ∷ es) (u ∷ ts) e t h s =
       let n : i + suc (length ts) ≡ suc i + length ts = omega arith in (h .0, each-snoc (suc i) es ts e t (h .1) (rw n at s))
 
-  pub each-set : (i : ℕ) (es : List Entry) (ts : Tree) (j : ℕ) (e : Entry) (t : Node) → Each names buffer size i es ts → j < length ts
-      → Stored names buffer size (i + j) e t → Each names buffer size i (set es j e) (set ts j t)
+  pub each-set : (i : ℕ) (es : List Entry) (ts : Tree) (j : ℕ) (e : Entry) (t : Node) → Each ed names buffer size i es ts → j < length ts
+      → Stored ed names buffer size (i + j) e t → Each ed names buffer size i (set es j e) (set ts j t)
   each-set i [] [] j e t h l s = absurd (omega arith)
   each-set i [] (u ∷ ts) j e t h l s = absurd h
   each-set i (d ∷ es) [] j e t h l s = absurd h
@@ -178,10 +181,10 @@ module _ (names : List (List ℕ)) (buffer : List ℕ) (size : ℕ) where
       let n : i + suc j ≡ suc i + j = omega arith in (h .0, each-set (suc i) es ts j e t (h .1) (omega arith) (rw n at s))
 
 -- More strings and more data after those that there are.
-module _ (names names′ : List (List ℕ)) (buffer buffer′ : List ℕ) (size size′ : ℕ)
+module _ (ed : Edition) (names names′ : List (List ℕ)) (buffer buffer′ : List ℕ) (size size′ : ℕ)
     (longer : length names ≤ length names′) (names-kept : (k : ℕ) → k < length names → getD names′ k [] ≡ getD names k [])
-    (larger : size ≤ size′) (data-kept : (at n : ℕ) → at + n ≤ dataPlace + size → part at n buffer′ ≡ part at n buffer) where
-  stored-kept : (i : ℕ) (e : Entry) (t : Node) → Stored names buffer size i e t → Stored names′ buffer′ size′ i e t
+    (larger : size ≤ size′) (data-kept : (at n : ℕ) → at + n ≤ headerSize ed + size → part at n buffer′ ≡ part at n buffer) where
+  stored-kept : (i : ℕ) (e : Entry) (t : Node) → Stored ed names buffer size i e t → Stored ed names′ buffer′ size′ i e t
   stored-kept i e t s =
       record {
         parent-is = s .parent-is;
@@ -199,7 +202,7 @@ module _ (names names′ : List (List ℕ)) (buffer buffer′ : List ℕ) (size 
         there = λ v. data-kept (e .offset) (length (t .bytes)) (s .ends v) ∙ s .there v;
       }
 
-  pub each-kept : (i : ℕ) (es : List Entry) (ts : Tree) → Each names buffer size i es ts → Each names′ buffer′ size′ i es ts
+  pub each-kept : (i : ℕ) (es : List Entry) (ts : Tree) → Each ed names buffer size i es ts → Each ed names′ buffer′ size′ i es ts
   each-kept i [] [] h = tt
   each-kept i [] (t ∷ ts) h = absurd h
   each-kept i (e ∷ es) [] h = absurd h
@@ -230,13 +233,9 @@ not-void-few (t ∷ ts) = one-more (isVoid (t .kind)) (nonVoidCount ts) (length 
 
 -- ---- What the writer reads in its areas.
 
-names-clean : (names : List (List ℕ)) → Subkeys written names → EachWithout 0 names
-names-clean [] h = tt
-names-clean (x ∷ names) h = (subkey-no-zero written x (h .0), names-clean names (h .1))
-
 module _ (s : State) (tree : Tree) (g : Invariant s tree) where
   pub clean : EachWithout 0 (namesOf tree)
-  clean = names-clean (namesOf tree) (g .subkeys)
+  clean = subkeys-no-zero (writerEdition (s .writer)) (namesOf tree) (g .subkeys)
 
   pub used-text : usedText (s .writer) (s .text) ≡ textOf (namesOf tree)
   used-text = rw (g .text-count, g .text-is) (take-at (textOf (namesOf tree)) (g .text-rest) (length (textOf (namesOf tree))) refl)
@@ -245,14 +244,14 @@ module _ (s : State) (tree : Tree) (g : Invariant s tree) where
   names-in = ap stringsOf used-text ∙ stringsOf-textOf (namesOf tree) clean
 
   pub count-same : length (g .entries) ≡ length tree
-  count-same = each-length (namesOf tree) (s .buffer) (dataSize tree) 1 (g .entries) tree (g .each)
+  count-same = each-length (writerEdition (s .writer)) (namesOf tree) (s .buffer) (dataSize tree) 1 (g .entries) tree (g .each)
 
-  pub small : dataPlace + dataSize tree ≤ imageLimit
+  pub small : dataPlace (s .writer) + dataSize tree ≤ imageLimit
   unfolding sizeOf
   small = omega (arith, g .fits, g .buffer-allowed)
 
   pub storables : Storables (g .entries)
-  storables = each-storable (namesOf tree) (s .buffer) (dataSize tree) (g .strings-few) small 1 (g .entries) tree (g .each) (omega (arith, g .nodes-few))
+  storables = each-storable (writerEdition (s .writer)) (namesOf tree) (s .buffer) (dataSize tree) (g .strings-few) small 1 (g .entries) tree (g .each) (omega (arith, g .nodes-few))
 
   found-in : (k : ℕ) → 0 < k → k ≤ length tree → foundSlot (s .tree) k ≡ Whole (nodeEntry (g .entries) k)
   found-in k lo hi = rw (g .tree-is) (slot-found (g .entries) (g .tree-rest) storables k lo (omega (arith, count-same)))
@@ -260,8 +259,8 @@ module _ (s : State) (tree : Tree) (g : Invariant s tree) where
   pub entry-in : (k : ℕ) → k ≤ length tree → slotEntry (s .tree) k ≡ nodeEntry (g .entries) k
   entry-in k hi = rw (g .tree-is) (slot-entry (g .entries) (g .tree-rest) storables k (omega (arith, count-same)))
 
-  pub stored-in : (k : ℕ) → 0 < k → k ≤ length tree → Stored (namesOf tree) (s .buffer) (dataSize tree) k (nodeEntry (g .entries) k) (treeNode tree k)
-  stored-in = each-at (namesOf tree) (s .buffer) (dataSize tree) (g .entries) tree (g .each)
+  pub stored-in : (k : ℕ) → 0 < k → k ≤ length tree → Stored (writerEdition (s .writer)) (namesOf tree) (s .buffer) (dataSize tree) k (nodeEntry (g .entries) k) (treeNode tree k)
+  stored-in = each-at (writerEdition (s .writer)) (namesOf tree) (s .buffer) (dataSize tree) (g .entries) tree (g .each)
 
   pub entries-in : entriesOut (s .tree) (s .writer .nodes) ≡ treeBytes (g .entries)
   entries-in = rw (g .nodes-count, ← count-same, g .tree-is) (entries-out (g .entries) (g .tree-rest) storables)
@@ -284,13 +283,13 @@ module _ (s : State) (tree : Tree) (g : Invariant s tree) where
 
   -- The bytes of the entries in a file.
   pub sizes-in-bytes : length (treeBytes (g .entries)) ≡ entriesSize tree
-  sizes-in-bytes = each-sizes (namesOf tree) (s .buffer) (dataSize tree) 1 (g .entries) tree (g .each)
+  sizes-in-bytes = each-sizes (writerEdition (s .writer)) (namesOf tree) (s .buffer) (dataSize tree) 1 (g .entries) tree (g .each)
 
   sizes-in : entrySizes (s .tree) (s .writer .nodes) ≡ entriesSize tree
   sizes-in =
       rw (g .nodes-count, ← count-same, g .tree-is) (sizes-are (g .entries) (g .tree-rest) storables) ∙ sizes-in-bytes
 
-  pub size-in : finishedSize (s .writer) (s .tree) ≡ sizeOf tree
+  pub size-in : finishedSize (s .writer) (s .tree) ≡ sizeOf (writerEdition (s .writer)) tree
   unfolding finishedSize sizeOf
   size-in = rw (sizes-in, g .data-count, g .text-count)
 
@@ -308,6 +307,7 @@ module _ (s : State) (tree : Tree) (g : Invariant s tree) where
   pub invariant-belongs : WriterBelongs (length (s .buffer)) (s .writer) (s .text) (s .tree)
   invariant-belongs =
       record {
+        edition-written = g .edition-written;
         length-recorded = g .buffer-length;
         length-allowed = g .buffer-allowed;
         text-area = g .text-area;

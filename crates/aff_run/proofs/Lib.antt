@@ -5,7 +5,6 @@ pub mod NamesLaws
 pub mod MakeInvariantLaws
 pub mod PutInvariantLaws
 pub mod ClosedLaws
-pub mod ShownLaws
 pub mod StepLaws
 pub mod RunLaws
 pub mod PlaceLaws

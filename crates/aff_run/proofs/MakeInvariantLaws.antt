@@ -20,6 +20,7 @@ use Rattle.aff_format.specs.Lowest.{lowestFrom}
 use Rattle.aff_format.specs.Strings.{isIn, textOf}
 use Rattle.aff_format.specs.Subkey.{isSubkey}
 use Rattle.aff_format.specs.Tree.{Node, Tree, root, treeNode}
+use Rattle.aff_format.specs.declared.edition.Edition.{Edition}
 use Rattle.aff_format.specs.declared.entry.Entry.{Entry}
 use Rattle.aff_format.specs.declared.kind.Kind.the-variants.{Void}
 use Rattle.aff_format.proofs.BytesLaws.{length-spliced}
@@ -29,7 +30,7 @@ use Rattle.aff_format.proofs.SameLaws.{same-refl}
 use Rattle.aff_format.proofs.TestLaws.{or-false}
 use Rattle.aff_areas.specs.Areas.{namesIn, slotAt, slotEntry, finishedSize}
 use Rattle.aff_areas.specs.Stores.{applyStores}
-use Rattle.aff_areas.specs.Writer.{written}
+use Rattle.aff_areas.specs.Writer.{writerEdition}
 use Rattle.aff_make.specs.Make.{addedStrings, addedText, tooMany, isChild, childExists, childChecks, madeText, madeEntry, madeTree}
 use Rattle.aff_run.specs.TreeSizes.{withChild, addName, namesOf, dataSize, entriesSize, sizeOf}
 use Rattle.aff_run.specs.Run.{make, State, completed, step, afterCall}
@@ -53,9 +54,9 @@ unfolding entriesSize
 entries-snoc [] t = omega arith
 entries-snoc (s ∷ tree) t = omega (arith, entries-snoc tree t)
 
-pub size-child : (tree : Tree) (parent : ℕ) (name : List ℕ) → sizeOf (withChild tree parent name) ≡ sizeOf tree + 13 + cond (isIn name (namesOf tree)) 0 (length name + 1)
+pub size-child : (ed : Edition) (tree : Tree) (parent : ℕ) (name : List ℕ) → sizeOf ed (withChild tree parent name) ≡ sizeOf ed tree + 13 + cond (isIn name (namesOf tree)) 0 (length name + 1)
 unfolding sizeOf
-size-child tree parent name =
+size-child ed tree parent name =
     let t = child parent name in
     rw (data-snoc tree t, entries-snoc tree t, names-snoc tree t, text-add (namesOf tree) name) (omega arith)
 
@@ -89,8 +90,8 @@ module _ (s : State) (tree : Tree) (g : Invariant s tree) (parent : ℕ) (name :
   parent-there : parent ≤ length tree
   parent-there = omega (arith, ltb-false (s .writer .nodes) parent (clear .0), g .nodes-count)
 
-  is-subkey : isSubkey written name ≡ true
-  is-subkey = not-false (isSubkey written name) (clear .1 .0)
+  is-subkey : isSubkey (writerEdition (s .writer)) name ≡ true
+  is-subkey = not-false (isSubkey (writerEdition (s .writer)) name) (clear .1 .0)
 
   -- No child of the parent has the name.
   free : (j : ℕ) → 0 < j → j ≤ length tree → treeNode tree j .parent ≡ parent → treeNode tree j .name ≡ name → ⊥
@@ -114,10 +115,10 @@ module _ (s : State) (tree : Tree) (g : Invariant s tree) (parent : ℕ) (name :
       let l = ltb-false textArea (s .writer .text + addedText (s .writer) (s .text) name) (b .1) in
       (omega (arith, g .nodes-count), rw (← strings-now s tree g name) k, rw (← text-now s tree g name) l)
 
-  size-now : sizeOf (withChild tree parent name) ≤ s .writer .length
+  size-now : sizeOf (writerEdition (s .writer)) (withChild tree parent name) ≤ s .writer .length
   size-now =
       let l = ltb-false (s .writer .length) (finishedSize (s .writer) (s .tree) + entrySize Void + addedText (s .writer) (s .text) name) (clear .1 .1 .1 .1 .0) in
-      rw (size-child tree parent name) (rw (size-in s tree g, names-in s tree g) at l)
+      rw (size-child (writerEdition (s .writer)) tree parent name) (rw (size-in s tree g, names-in s tree g) at l)
 
   -- ---- What it leaves.
 
@@ -127,7 +128,7 @@ module _ (s : State) (tree : Tree) (g : Invariant s tree) (parent : ℕ) (name :
   abbrev entry : Entry
   entry = madeEntry (s .writer) (s .text) parent name
 
-  new-stored : Stored (addName names name) (s .buffer) (dataSize tree) (suc (length tree)) entry (child parent name)
+  new-stored : Stored (writerEdition (s .writer)) (addName names name) (s .buffer) (dataSize tree) (suc (length tree)) entry (child parent name)
   new-stored =
       record {
         parent-is = refl;
@@ -145,9 +146,9 @@ module _ (s : State) (tree : Tree) (g : Invariant s tree) (parent : ℕ) (name :
         there = λ v. absurd (true≢false v);
       }
 
-  each-left : Each (addName names name) (s .buffer) (dataSize tree) 1 (g .entries) tree
+  each-left : Each (writerEdition (s .writer)) (addName names name) (s .buffer) (dataSize tree) 1 (g .entries) tree
   each-left =
-      each-kept names (addName names name) (s .buffer) (s .buffer) (dataSize tree) (dataSize tree) (add-longer names name) (add-old names name)
+      each-kept (writerEdition (s .writer)) names (addName names name) (s .buffer) (s .buffer) (dataSize tree) (dataSize tree) (add-longer names name) (add-old names name)
       (omega arith) (λ at n l. refl) 1 (g .entries) tree (g .each)
 
   text-left : (k : ℕ) × (left .text ≡ textOf (addName names name) ++ drop k (g .text-rest))
@@ -211,6 +212,7 @@ module _ (s : State) (tree : Tree) (g : Invariant s tree) (parent : ℕ) (name :
         tree-is = tree-left;
         text-area = text-long;
         tree-area = tree-long;
+        edition-written = g .edition-written;
         buffer-length = g .buffer-length;
         buffer-allowed = g .buffer-allowed;
         form-length = g .form-length;
@@ -222,9 +224,9 @@ module _ (s : State) (tree : Tree) (g : Invariant s tree) (parent : ℕ) (name :
         data-count = g .data-count ∙ sym z;
         live = g .live;
         fits = size-now;
-        subkeys = rw ns (subkeys-add names name written (g .subkeys) is-subkey);
+        subkeys = rw ns (subkeys-add names name (writerEdition (s .writer)) (g .subkeys) is-subkey);
         distinct = rw ns (distinct-add names name (g .distinct));
-        each = rw (ns, z) (each-snoc (addName names name) (s .buffer) (dataSize tree) 1 (g .entries) tree entry t each-left (rw one-add new-stored));
+        each = rw (ns, z) (each-snoc (writerEdition (s .writer)) (addName names name) (s .buffer) (dataSize tree) 1 (g .entries) tree entry t each-left (rw one-add new-stored));
         siblings = siblings-left;
       }
 

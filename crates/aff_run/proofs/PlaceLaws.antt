@@ -2,7 +2,7 @@
 -- a closed run, has a zero at place 0, and opening answers 3. Assumes nothing.
 use mathlib.Core.Path.{_≡_, refl, sym, ap, _∙_}
 use mathlib.Core.Bool.{Bool, true, false, _&&_, _||_}
-use mathlib.Core.List.{List, [], _∷_, _++_, append-nil, append-assoc}
+use mathlib.Core.List.{List, [], _∷_, _++_, append-nil, append-assoc, map}
 use mathlib.Core.Logic.{⊎-elim}
 use Prim.Native.Nat.{ℕ, zero, suc, _+_, _≤_, _<_}
 use native.Mathlib.Nat.{eq-or-lt-of-le}
@@ -12,14 +12,18 @@ use lib.ListN.{length, getD, set, take, drop, length-append}
 use lib.Seq.{take-append-le}
 use borrow.Author.Tests.{ltb-true}
 use Rattle.aff_format.specs.Answer.{Answer, accepted, refused, refusalAt}
-use Rattle.aff_format.specs.Edition.{signatureText}
 use Rattle.aff_format.specs.declared.refusal.RefusalCode.{RefusalCode}
 use Rattle.aff_format.proofs.AnswerLaws.{last-reported}
+use Rattle.md5.specs.Md5.{md5}
+use Rattle.aff_format.specs.Bytes.{joined}
+use Rattle.aff_format.specs.Edition.{headerOrder}
+use Rattle.aff_format.proofs.EditionLaws.{first-byte}
+use Rattle.aff_areas.specs.Writer.{writerEdition}
 use Rattle.aff_areas.specs.Belongs.{writerChecks}
-use Rattle.aff_areas.specs.Header.{headerFront, withSum}
+use Rattle.aff_header.specs.Header.{headerFront, withSum}
 use Rattle.aff_areas.specs.Areas.{usedText, entriesOut}
 use Rattle.aff_areas.specs.Stores.{Store, applyStores, storesFrom, storesReported}
-use Rattle.aff_write.specs.Close.{symbolsPlace, treePlace, closeHeader, closeStores, closeAnswer}
+use Rattle.aff_write.specs.Close.{symbolsPlace, treePlace, closeSection, closeHeader, closeStores, closeAnswer}
 use Rattle.aff_write.specs.Put.{putPlace, putStores}
 use Rattle.aff_run.specs.Run.{Call, make, put, close, State, answerTo, step, afterCall, answersOf, storesOf, isAccepted, isClose, closedBy}
 use Rattle.aff_run.proofs.RunLaws.{step-sleeps, close-sleeps, sleeps-asleep, needed-made}
@@ -74,9 +78,18 @@ shaped-take ss true k (mid, last, p, e) no′ h =
     (eq-or-lt-of-le h)
 
 -- A close: its last store alone is at place 0.
+first-of : {x : ℕ} {text : List ℕ} (rest more : List ℕ) → text ≡ x ∷ rest → (all : List ℕ) × (text ++ more ≡ x ∷ all)
+first-of rest more e = (rest ++ more, ap (λ (l : List ℕ). l ++ more) e)
+
 header-first : (s : State) → (x : ℕ) × (rest : List ℕ) × (closeHeader (s .buffer) (s .writer) (s .text) (s .tree) ≡ x ∷ rest)
-unfolding closeHeader withSum headerFront signatureText
-header-first s = (76, _, refl)
+unfolding closeHeader withSum headerFront
+header-first s =
+    let e = writerEdition (s .writer) in
+    let h = closeSection (s .buffer) (s .writer) (s .text) (s .tree) in
+    let (rest, is) = first-byte e in
+    let (more, begins) = first-of rest (s .writer .form ++ joined (map h (headerOrder e))) is in
+    let (all, whole) = first-of more (md5 (headerFront e (s .writer .form) h)) begins in
+    (76, all, whole)
 
 ends-in-one : (a b c : List Store) (h : List ℕ) {x : ℕ} {rest : List ℕ} → FromPlace a → FromPlace b → h ≡ x ∷ rest
     → Shaped ((a ++ b) ++ (storesFrom 1 (drop 1 h) ++ storesFrom 0 (take 1 h))) true

@@ -27,7 +27,7 @@ use Rattle.aff_format.proofs.KindLaws.{countIn-div}
 use Rattle.aff_format.proofs.TestLaws.{or-false}
 use Rattle.aff_tables.specs.Tables.{nodeEntry}
 use Rattle.aff_areas.specs.Areas.{slotAt, slotEntry, finishedSize}
-use Rattle.aff_areas.specs.Writer.{dataPlace}
+use Rattle.aff_areas.specs.Writer.{writerEdition, dataPlace}
 use Rattle.aff_areas.proofs.StoreLaws.{apply-spliced}
 use Rattle.aff_write.specs.Put.{takesNone, wrongData, dataKind, putPlace, putStores, dataChecks, putWriter, putEntry, putTree}
 use Rattle.aff_run.specs.TreeSizes.{withData, addName, namesFrom, namesOf, dataSize, entriesSize, sizeOf}
@@ -95,7 +95,7 @@ module _ (s : State) (tree : Tree) (g : Invariant s tree) (node : ℕ) (kind : K
       entries-set tree (node - 1) withNode (old-at .0) (ap (λ (t : Node). entrySize (t .kind)) (old-at .1) ∙ ap entrySize (is-void (treeNode tree node .kind) void))
       (rw right)
 
-  pub size-after : sizeOf (withData tree node kind bytes) ≡ sizeOf tree + 12 + length bytes
+  pub size-after : sizeOf (writerEdition (s .writer)) (withData tree node kind bytes) ≡ sizeOf (writerEdition (s .writer)) tree + 12 + length bytes
   unfolding sizeOf
   size-after = rw (data-after, entries-after, names-after) (omega arith)
 
@@ -121,7 +121,7 @@ module _ (s : State) (tree : Tree) (g : Invariant s tree) (node type : ℕ) (byt
   abbrev old : Node
   old = treeNode tree node
 
-  old-stored : Stored (namesOf tree) (s .buffer) (dataSize tree) node (nodeEntry (g .entries) node) old
+  old-stored : Stored (writerEdition (s .writer)) (namesOf tree) (s .buffer) (dataSize tree) node (nodeEntry (g .entries) node) old
   old-stored = stored-in s tree g node (takes .0) there
 
   old-void : isVoid (old .kind) ≡ true
@@ -130,7 +130,7 @@ module _ (s : State) (tree : Tree) (g : Invariant s tree) (node type : ℕ) (byt
   right : (isVoid kind ≡ false) × (length bytes % elementSize kind ≡ 0)
   right = data-right (kindOf type) (length bytes) (clear .1 .1 .0)
 
-  size-now : sizeOf tree + 12 + length bytes ≤ s .writer .length
+  size-now : sizeOf (writerEdition (s .writer)) tree + 12 + length bytes ≤ s .writer .length
   size-now =
       let l = ltb-false (s .writer .length) (finishedSize (s .writer) (s .tree) + 12 + length bytes) (clear .1 .1 .1 .0) in
       rw (size-in s tree g) at l
@@ -152,10 +152,10 @@ module _ (s : State) (tree : Tree) (g : Invariant s tree) (node type : ℕ) (byt
         writer = putWriter (s .writer) bytes;
         text = s .text;
         tree = putTree (s .writer) (s .tree) node type bytes;
-        buffer = spliced (dataPlace + dataSize tree) bytes (s .buffer);
+        buffer = spliced (dataPlace (s .writer) + dataSize tree) bytes (s .buffer);
       }
 
-  fits-buffer : dataPlace + dataSize tree + length bytes ≤ length (s .buffer)
+  fits-buffer : dataPlace (s .writer) + dataSize tree + length bytes ≤ length (s .buffer)
   unfolding sizeOf
   fits-buffer = omega (arith, size-now, g .buffer-length)
 
@@ -165,11 +165,11 @@ module _ (s : State) (tree : Tree) (g : Invariant s tree) (node type : ℕ) (byt
   old-is : getD tree (node - 1) root ≡ old
   old-is = ap (λ (k : ℕ). treeNode tree k) (index .1)
 
-  new-stored : Stored (namesOf tree) (left .buffer) (dataSize tree + length bytes) node entry new
+  new-stored : Stored (writerEdition (s .writer)) (namesOf tree) (left .buffer) (dataSize tree + length bytes) node entry new
   new-stored =
       let e = entry-in s tree g node there in
       let o = old-stored in
-      let p : putPlace (s .writer) ≡ dataPlace + dataSize tree = ap (λ (d : ℕ). dataPlace + d) (g .data-count) in
+      let p : putPlace (s .writer) ≡ dataPlace (s .writer) + dataSize tree = ap (λ (d : ℕ). dataPlace (s .writer) + d) (g .data-count) in
       record {
         parent-is = ap (λ (x : Entry). x .parent) e ∙ o .parent-is;
         parent-lower = o .parent-lower;
@@ -185,13 +185,13 @@ module _ (s : State) (tree : Tree) (g : Invariant s tree) (node type : ℕ) (byt
         void-offset = λ v. absurd (true≢false (sym v ∙ right .0));
         begins = λ v. rw p (omega arith);
         ends = λ v. rw p (omega arith);
-        there = λ v. rw p (part-spliced (dataPlace + dataSize tree) bytes (s .buffer) fits-buffer);
+        there = λ v. rw p (part-spliced (dataPlace (s .writer) + dataSize tree) bytes (s .buffer) fits-buffer);
       }
 
-  each-left : Each (namesOf tree) (left .buffer) (dataSize tree + length bytes) 1 (g .entries) tree
+  each-left : Each (writerEdition (s .writer)) (namesOf tree) (left .buffer) (dataSize tree + length bytes) 1 (g .entries) tree
   each-left =
-      each-kept (namesOf tree) (namesOf tree) (s .buffer) (left .buffer) (dataSize tree) (dataSize tree + length bytes) (omega arith) (λ k l. refl) (omega arith)
-      (λ at n l. part-before at n (dataPlace + dataSize tree) bytes (s .buffer) l fits-buffer) 1 (g .entries) tree (g .each)
+      each-kept (writerEdition (s .writer)) (namesOf tree) (namesOf tree) (s .buffer) (left .buffer) (dataSize tree) (dataSize tree + length bytes) (omega arith) (λ k l. refl) (omega arith)
+      (λ at n l. part-before at n (dataPlace (s .writer) + dataSize tree) bytes (s .buffer) l fits-buffer) 1 (g .entries) tree (g .each)
 
   names-left : namesOf after ≡ namesOf tree
   names-left = names-after s tree g node kind bytes (takes .0) there old-void (right .0)
@@ -233,7 +233,8 @@ module _ (s : State) (tree : Tree) (g : Invariant s tree) (node type : ℕ) (byt
         tree-is = tree-left;
         text-area = g .text-area;
         tree-area = tree-long;
-        buffer-length = length-spliced (dataPlace + dataSize tree) bytes (s .buffer) fits-buffer ∙ g .buffer-length;
+        edition-written = g .edition-written;
+        buffer-length = length-spliced (dataPlace (s .writer) + dataSize tree) bytes (s .buffer) fits-buffer ∙ g .buffer-length;
         buffer-allowed = g .buffer-allowed;
         form-length = g .form-length;
         strings-count = rw names-left (g .strings-count);
@@ -248,7 +249,7 @@ module _ (s : State) (tree : Tree) (g : Invariant s tree) (node type : ℕ) (byt
         distinct = rw names-left (g .distinct);
         each =
             rw (names-left, data-left)
-            (each-set (namesOf tree) (left .buffer) (dataSize tree + length bytes) 1 (g .entries) tree (node - 1) entry new each-left (index .0)
+            (each-set (writerEdition (s .writer)) (namesOf tree) (left .buffer) (dataSize tree + length bytes) 1 (g .entries) tree (node - 1) entry new each-left (index .0)
             (rw (one-add, index .1) new-stored));
         siblings = λ j k lo l hi p q.
             let a = site-left j in
@@ -261,8 +262,8 @@ module _ (s : State) (tree : Tree) (g : Invariant s tree) (node type : ℕ) (byt
   unfolding step
   left-is =
       let all : length (putStores (s .writer) bytes) ≡ n = accepted-clear s (put node type bytes allowance) h .1 in
-      let p : putPlace (s .writer) ≡ dataPlace + dataSize tree = ap (λ (d : ℕ). dataPlace + d) (g .data-count) in
-      rw (h, ← all, take-length, p, apply-spliced (dataPlace + dataSize tree) bytes (s .buffer) fits-buffer)
+      let p : putPlace (s .writer) ≡ dataPlace (s .writer) + dataSize tree = ap (λ (d : ℕ). dataPlace (s .writer) + d) (g .data-count) in
+      rw (h, ← all, take-length, p, apply-spliced (dataPlace (s .writer) + dataSize tree) bytes (s .buffer) fits-buffer)
 
   pub put-invariant : Invariant (afterCall s (put node type bytes allowance)) after
   put-invariant = rw left-is put-left

@@ -26,22 +26,29 @@ use Rattle.aff_run.proofs.StepLaws.{accepted-clear, step-refused, aslee
 
 -- ---- What a call leaves of the record.
 
-form-after : (a : Answer ℕ) (w given : Writer) → w .form ≡ given .form → writerAfter a w given .form ≡ given .form
-form-after (accepted n) w given h = h
-form-after (refused t) w given h = go (eqb (t .number) 23)
-  where
-    go : (b : Bool) → (cond b (stopped given) given) .form ≡ given .form
-    go true = refl
-    go false = refl
+-- What no call changes: f of the record, where stopping and completing a call leave it.
+module _ {A : Type 0} (f : Writer → A) (stops-keep : (w : Writer) → f (stopped w) ≡ f w) where
+  kept-after : (a : Answer ℕ) (w given : Writer) → f w ≡ f given → f (writerAfter a w given) ≡ f given
+  kept-after (accepted n) w given h = h
+  kept-after (refused t) w given h = go (eqb (t .number) 23)
+    where
+      go : (b : Bool) → f (cond b (stopped given) given) ≡ f given
+      go true = stops-keep given
+      go false = refl
+
+  step-keeps : (s : State) (c : Call) → f (completed s c .writer) ≡ f (s .writer) → f (step s c .writer) ≡ f (s .writer)
+  unfolding step
+  step-keeps s c h = kept-after (answerTo s c) (completed s c .writer) (s .writer) h
 
 pub step-form : (s : State) (c : Call) → step s c .writer .form ≡ s .writer .form
-unfolding step
-step-form s c = form-after (answerTo s c) (completed s c .writer) (s .writer) (kept c)
-  where
-    kept : (c : Call) → completed s c .writer .form ≡ s .writer .form
-    kept (make parent name) = refl
-    kept (put node type bytes allowance) = refl
-    kept (close allowance) = refl
+step-form s (make parent name) = step-keeps (λ w. w .form) (λ w. refl) s (make parent name) refl
+step-form s (put node type bytes allowance) = step-keeps (λ w. w .form) (λ w. refl) s (put node type bytes allowance) refl
+step-form s (close allowance) = step-keeps (λ w. w .form) (λ w. refl) s (close allowance) refl
+
+pub step-edition : (s : State) (c : Call) → step s c .writer .edition ≡ s .writer .edition
+step-edition s (make parent name) = step-keeps (λ w. w .edition) (λ w. refl) s (make parent name) refl
+step-edition s (put node type bytes allowance) = step-keeps (λ w. w .edition) (λ w. refl) s (put node type bytes allowance) refl
+step-edition s (close allowance) = step-keeps (λ w. w .edition) (λ w. refl) s (close allowance) refl
 
 -- A call refused by 23 stops the writer, and an accepted close closes it: the record sleeps, the areas are as they were.
 abbrev pub Sleeps : State → Step → Type 0

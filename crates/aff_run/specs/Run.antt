@@ -43,13 +43,13 @@ pub record Step : Type 0 where
 abbrev pub next : Step → List ℕ → State
 next t buffer = record { writer = t .writer; text = t .text; tree = t .tree; buffer = applyStores buffer (t .stores) }
 
-unfoldable pub beginStep : List ℕ → List ℕ → List ℕ → List ℕ → ℕ → Step
-beginStep buffer form text tree allowance =
-    let a = beginAnswer buffer form text tree allowance in
+unfoldable pub beginStep : ℕ → List ℕ → List ℕ → List ℕ → List ℕ → ℕ → Step
+beginStep edition buffer form text tree allowance =
+    let a = beginAnswer edition buffer form text tree allowance in
     record {
       answer = a;
       stores = take (storesReported a) beginStores;
-      writer = beginWriter a (length buffer) form;
+      writer = beginWriter a edition (length buffer) form;
       text = beginArea a text;
       tree = beginArea a tree;
     }
@@ -156,6 +156,7 @@ closedBy (c ∷ cs) (a ∷ answers) = (isAccepted a && isClose c) || closedBy cs
 
 -- A run of the writer: what begin is given, and the calls after it.
 pub record Run : Type 0 where
+  pub edition : ℕ
   pub buffer : List ℕ
   pub form : List ℕ
   pub text : List ℕ
@@ -166,16 +167,16 @@ pub record Run : Type 0 where
 -- The same run with another allowance of begin, or with other calls.
 abbrev pub withAllowance : Run → ℕ → Run
 withAllowance run allowance =
-    record { buffer = run .buffer; form = run .form; text = run .text; tree = run .tree; allowance = allowance; calls = run .calls }
+    record { edition = run .edition; buffer = run .buffer; form = run .form; text = run .text; tree = run .tree; allowance = allowance; calls = run .calls }
 
 abbrev pub withCalls : Run → List Call → Run
 withCalls run calls =
-    record { buffer = run .buffer; form = run .form; text = run .text; tree = run .tree; allowance = run .allowance; calls = calls }
+    record { edition = run .edition; buffer = run .buffer; form = run .form; text = run .text; tree = run .tree; allowance = run .allowance; calls = calls }
 
 module _ (run : Run) where
   -- Begin's step, and what it leaves.
   abbrev pub runBegin : Step
-  runBegin = beginStep (run .buffer) (run .form) (run .text) (run .tree) (run .allowance)
+  runBegin = beginStep (run .edition) (run .buffer) (run .form) (run .text) (run .tree) (run .allowance)
 
   abbrev pub runStart : State
   runStart = next runBegin (run .buffer)

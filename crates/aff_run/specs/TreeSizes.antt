@@ -3,12 +3,13 @@ use mathlib.Core.Bool.{cond}
 use mathlib.Core.List.{List, [], _∷_, _++_}
 use Prim.Native.Nat.{ℕ, _+_, _-_}
 use lib.ListN.{length, set}
+use Rattle.aff_format.specs.Edition.{headerSize}
 use Rattle.aff_format.specs.Kind.{entrySize, isVoid}
 use Rattle.aff_format.specs.Strings.{isIn, textOf}
 use Rattle.aff_format.specs.Tree.{Tree, treeNode}
+use Rattle.aff_format.specs.declared.edition.Edition.{Edition}
 use Rattle.aff_format.specs.declared.kind.Kind.{Kind}
 use Rattle.aff_format.specs.declared.kind.Kind.the-variants.{Void}
-use Rattle.aff_areas.specs.Writer.{dataPlace}
 
 -- The tree with the next number, Void, with its parent and name.
 abbrev pub withChild : Tree → ℕ → List ℕ → Tree
@@ -46,5 +47,5 @@ nonVoidCount [] = 0
 nonVoidCount (t ∷ ts) = cond (isVoid (t .kind)) 0 1 + nonVoidCount ts
 
 -- Finished size: header, data bytes, string bytes with their zeros, entries.
-unfoldable pub sizeOf : Tree → ℕ
-sizeOf tree = dataPlace + dataSize tree + length (textOf (namesOf tree)) + entriesSize tree
+unfoldable pub sizeOf : Edition → Tree → ℕ
+sizeOf e tree = headerSize e + dataSize tree + length (textOf (namesOf tree)) + entriesSize tree

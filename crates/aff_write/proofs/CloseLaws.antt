@@ -1,96 +1,123 @@
 -- Closing: the parts of the header one after another are the header, and the stores are those of the strings, the entries and the header.
 -- Assumes nothing.
 use mathlib.Core.Path.{_≡_, sym, ap, _∙_}
-use mathlib.Core.List.{List, _++_, append-assoc}
+use mathlib.Core.List.{List, _++_, map, append-assoc}
 use Prim.Native.Nat.{ℕ, _+_, _-_, _≤_, _<_}
 use native.Mathlib.Omega.{arith}
 use lib.ListN.{length, take, drop, length-append, length-drop}
 use lib.Seq.{length-take-le, take-all}
 use Rattle.aff_format.specs.Answer.{firstWrong}
-use Rattle.aff_format.specs.Bytes.{spliced}
-use Rattle.aff_format.specs.Edition.{signatureText}
+use Rattle.aff_format.specs.Bytes.{spliced, joined}
+use Rattle.aff_format.specs.Edition.{signatureText, headerOrder, signatureSize, sectionAt, sectionHeaderSize, headerSumAt, headerSize, mostHeader}
 use Rattle.aff_format.specs.Limits.{nodeLimit, treeArea}
 use Rattle.aff_format.specs.Verdict.{answerOfVerdict, answerOfNumber}
-use Rattle.aff_format.specs.declared.edition.Edition.the-variants.{Two}
+use Rattle.aff_format.specs.declared.edition.Edition.{Edition}
+use Rattle.aff_format.specs.declared.section.Section.{Section}
+use Rattle.aff_format.specs.declared.section.Section.the-variants.{Symbol, Tree, Data}
 use Rattle.aff_format.specs.declared.refusal.Refusal.{Refusal}
 use Rattle.aff_format.specs.declared.verdict.NumberAnswer.the-variants as answered
 use Rattle.aff_format.specs.declared.verdict.Verdict.{Verdict}
 use Rattle.aff_format.specs.declared.verdict.Verdict.the-variants.{Accepted, Refused}
 use Rattle.aff_format.proofs.BytesLaws.{spliced-next}
-use Rattle.aff_format.proofs.EditionLaws.{length-signatureText}
+use Rattle.aff_format.proofs.EditionLaws.{length-signatureText, section-header-sizes}
 use Rattle.aff_areas.specs.Areas.{usedText, entriesOut, dataNodes, finishedSize}
 use Rattle.aff_areas.specs.Belongs.{WriterBelongs, writerChecks}
-use Rattle.aff_areas.specs.Header.{sectionHeader, headerFront, withSum}
+use Rattle.aff_header.specs.Header.{sectionHeader, headerFront, withSum}
 use Rattle.aff_areas.specs.Stores.{Store, applyStores, storesFrom, bufferAfter}
-use Rattle.aff_areas.specs.Writer.{written, dataPlace, stopped, writerAfter}
+use Rattle.aff_areas.specs.Writer.{writerEdition, dataPlace, stopped, writerAfter}
 use Rattle.aff_areas.specs.declared.writer.Writer.{Writer}
 use Rattle.aff_areas.specs.declared.writer.Writing.{Writing}
 use Rattle.aff_areas.proofs.AreaLaws.{entrySizes-most, length-entriesOut}
 use Rattle.aff_areas.proofs.BelongsLaws.{judge-leaves, judge-refuses, judged-other}
-use Rattle.aff_areas.proofs.HeaderLaws.{length-sectionHeader, length-headerFront, length-withSum, take-front}
+use Rattle.aff_header.proofs.HeaderLaws.{length-sectionHeader, three-headers, length-headerFront, length-withSum, take-front}
 use Rattle.aff_areas.proofs.StoreLaws.{length-storesFrom, length-take-most}
-use Rattle.aff_write.specs.Close.{symbolsPlace, treePlace, dataBytes, closeHeader, closeStores, storeChecks, closeAnswer}
+use Rattle.aff_write.specs.Close.{symbolsPlace, treePlace, dataBytes, sectionOf, closeSection, closeHeader, closeStores, storeChecks, closeAnswer}
 use Rattle.aff_write.proofs.SpentLaws.{two-made, two-buffer, reported-refused, stopped-after}
 
--- The headers of symbol and tree section.
-pub tables-over : (writer : Writer) (symbols entries : List ℕ) (p q at : ℕ) (l₀ l₁ l₂ : List ℕ) → 112 ≤ length l₀ → p ≡ 32 → q ≡ 72 → at ≡ symbolsPlace writer
-    → l₁ ≡ spliced p (sectionHeader Two at (writer .strings) symbols) l₀ → l₂ ≡ spliced q (sectionHeader Two (at + writer .text) (writer .nodes) entries) l₁
-    → l₂ ≡ spliced 32 (sectionHeader written (symbolsPlace writer) (writer .strings) symbols ++ sectionHeader written (treePlace writer) (writer .nodes) entries) l₀
-tables-over writer symbols entries p q at l₀ l₁ l₂ f hp hq ha h₁ h₂ =
-    let s = sectionHeader Two (symbolsPlace writer) (writer .strings) symbols in
-    let t = sectionHeader Two (treePlace writer) (writer .nodes) entries in
-    let n : length s ≡ 40 = length-sectionHeader (symbolsPlace writer) (writer .strings) symbols in
-    let m : 32 + length s ≡ 72 = omega arith in
-    let e₁ : l₁ ≡ spliced 32 s l₀ = h₁ ∙ rw (hp, ha) in
-    let e₂ : l₂ ≡ spliced 72 t l₁ = h₂ ∙ rw (hq, ha) in
-    spliced-next 32 72 s t l₀ l₁ l₂ m (omega arith) e₁ e₂
+-- Each section header has the size of its edition.
+pub length-sectionOf : (writer : Writer) (full : ℕ) (symbols entries stored : List ℕ) (s : Section)
+    → length (sectionOf writer full symbols entries stored s) ≡ sectionHeaderSize (writerEdition writer)
+length-sectionOf writer full symbols entries stored Symbol = length-sectionHeader (writerEdition writer) (symbolsPlace writer) (writer .strings) symbols
+length-sectionOf writer full symbols entries stored Tree = length-sectionHeader (writerEdition writer) (treePlace writer) (writer .nodes) entries
+length-sectionOf writer full symbols entries stored Data = length-sectionHeader (writerEdition writer) (dataPlace writer) full stored
 
--- Signature, section headers and sum.
-header-parts : (form s t d l₀ l₁ l₂ l₃ : List ℕ) → 168 ≤ length l₀ → length form ≡ 12 → length s ≡ 40 → length t ≡ 40 → length d ≡ 40
-    → l₁ ≡ spliced 0 (signatureText Two ++ form) l₀ → l₂ ≡ spliced 32 (s ++ t) l₁ → l₃ ≡ spliced 112 d l₂ → take 152 l₃ ≡ headerFront Two form s t d
+-- The header that the code writes at a rank is that of the section there.
+pub ranked-fits : (e : Edition) (writer : Writer) (at n : ℕ) → e ≡ writerEdition writer → at + sectionHeaderSize (writerEdition writer) ≤ n → at + sectionHeaderSize e ≤ n
+ranked-fits e writer at n h f = rw h f
+
+section-is : (e d : Edition) (rank : ℕ) (s t : Section) → e ≡ d → s ≡ sectionAt e rank → s ≡ t → sectionAt d rank ≡ t
+section-is e d rank s t he hs h = ap (λ (x : Edition). sectionAt x rank) (sym he) ∙ sym hs ∙ h
+
+module _ (writer : Writer) (full : ℕ) (symbols entries stored : List ℕ) (e : Edition) (place at rank : ℕ) (s : Section) (l₀ l₁ : List ℕ)
+    (he : e ≡ writerEdition writer) (hp : place ≡ dataPlace writer) (hs : s ≡ sectionAt e rank) where
+  pub ranked-symbols : s ≡ Symbol → l₁ ≡ spliced at (sectionHeader e (place + writer .«data») (writer .strings) symbols) l₀
+      → l₁ ≡ spliced at (sectionOf writer full symbols entries stored (sectionAt (writerEdition writer) rank)) l₀
+  ranked-symbols h q = q ∙ rw (section-is e (writerEdition writer) rank s Symbol he hs h, he, hp)
+
+  pub ranked-tree : s ≡ Tree → l₁ ≡ spliced at (sectionHeader e (place + writer .«data» + writer .text) (writer .nodes) entries) l₀
+      → l₁ ≡ spliced at (sectionOf writer full symbols entries stored (sectionAt (writerEdition writer) rank)) l₀
+  ranked-tree h q = q ∙ rw (section-is e (writerEdition writer) rank s Tree he hs h, he, hp)
+
+  pub ranked-data : s ≡ Data → l₁ ≡ spliced at (sectionHeader e place full stored) l₀
+      → l₁ ≡ spliced at (sectionOf writer full symbols entries stored (sectionAt (writerEdition writer) rank)) l₀
+  ranked-data h q = q ∙ rw (section-is e (writerEdition writer) rank s Data he hs h, he, hp)
+
+-- The three section headers, each after the one before it.
+pub headers-over : (e : Edition) (h : Section → List ℕ) (n : ℕ) (l₀ l₁ l₂ l₃ : List ℕ) → mostHeader ≤ length l₀ → n ≡ sectionHeaderSize e
+    → ((s : Section) → length (h s) ≡ sectionHeaderSize e)
+    → l₁ ≡ spliced signatureSize (h (sectionAt e 0)) l₀ → l₂ ≡ spliced (signatureSize + n) (h (sectionAt e 1)) l₁ → l₃ ≡ spliced (signatureSize + n + n) (h (sectionAt e 2)) l₂
+    → l₃ ≡ spliced signatureSize (joined (map h (headerOrder e))) l₀
+headers-over e h n l₀ l₁ l₂ l₃ f is sized h₁ h₂ h₃ =
+    let a = h (sectionAt e 0) in
+    let b = h (sectionAt e 1) in
+    let small = section-header-sizes e in
+    let m₁ : signatureSize + length a ≡ signatureSize + n = omega (arith, is, sized (sectionAt e 0)) in
+    let two : l₂ ≡ spliced signatureSize (a ++ b) l₀ = spliced-next signatureSize (signatureSize + n) a b l₀ l₁ l₂ m₁ (omega arith) h₁ h₂ in
+    let m₂ : signatureSize + length (a ++ b) ≡ signatureSize + n + n = omega (arith, is, length-append a b, sized (sectionAt e 0), sized (sectionAt e 1)) in
+    spliced-next signatureSize (signatureSize + n + n) (a ++ b) (h (sectionAt e 2)) l₀ l₂ l₃ m₂ (omega arith) two h₃
+    ∙ rw (three-headers e h, append-assoc)
+
+-- Signature and section headers.
+front-is : (e : Edition) (form : List ℕ) (h : Section → List ℕ) → (signatureText e ++ form) ++ joined (map h (headerOrder e)) ≡ headerFront e form h
 unfolding headerFront
-header-parts form s t d l₀ l₁ l₂ l₃ f n ns nt nd h₁ h₂ h₃ =
-    let x = signatureText Two ++ form in
-    let y = x ++ (s ++ t) in
-    let mx : length x ≡ 32 = simp (length-append, length-signatureText, n) in
-    let my : length y ≡ 112 = length-append x (s ++ t) ∙ simp (mx, length-append, ns, nt) in
-    let mz : length (y ++ d) ≡ 152 = length-append y d ∙ simp (my, nd) in
-    let two : l₂ ≡ spliced 0 y l₀ = spliced-next 0 32 x (s ++ t) l₀ l₁ l₂ (omega arith) (omega arith) h₁ h₂ in
-    let three : l₃ ≡ spliced 0 (y ++ d) l₀ = spliced-next 0 112 y d l₀ l₂ l₃ (omega arith) (omega arith) two h₃ in
-    ap (take 152) three ∙ take-front 152 (y ++ d) l₀ mz ∙ simp append-assoc
+front-is e form h = append-assoc (signatureText e) form (joined (map h (headerOrder e)))
+
+front-over : (e : Edition) (form : List ℕ) (h : Section → List ℕ) (l₀ l₁ l₂ : List ℕ) → mostHeader ≤ length l₀ → length form ≡ 12
+    → ((s : Section) → length (h s) ≡ sectionHeaderSize e)
+    → l₁ ≡ spliced 0 (signatureText e ++ form) l₀ → l₂ ≡ spliced signatureSize (joined (map h (headerOrder e))) l₁
+    → take (headerSumAt e) l₂ ≡ headerFront e form h
+front-over e form h l₀ l₁ l₂ f n sized h₁ h₂ =
+    let x = signatureText e ++ form in
+    let y = joined (map h (headerOrder e)) in
+    let mx : 0 + length x ≡ signatureSize = omega (arith, length-append (signatureText e) form, length-signatureText e, n) in
+    let whole : x ++ y ≡ headerFront e form h = front-is e form h in
+    let two : l₂ ≡ spliced 0 (x ++ y) l₀ = spliced-next 0 signatureSize x y l₀ l₁ l₂ mx (omega arith) h₁ h₂ in
+    let m : length (x ++ y) ≡ headerSumAt e = ap length whole ∙ length-headerFront e form h n sized in
+    ap (take (headerSumAt e)) two ∙ take-front (headerSumAt e) (x ++ y) l₀ m ∙ whole
 
 module _ (buffer : List ℕ) (writer : Writer) (text tree : List ℕ) where
-  pub header-over : (entries bytes : List ℕ) (p from full : ℕ) (l₀ l₁ l₂ l₃ l₄ : List ℕ) → 168 ≤ length l₀ → length (writer .form) ≡ 12
-      → entries ≡ entriesOut tree (writer .nodes) → bytes ≡ dataBytes buffer writer → p ≡ 112 → from ≡ dataPlace → full ≡ dataNodes tree (writer .nodes)
-      → l₁ ≡ spliced 0 (signatureText Two ++ writer .form) l₀
-      → l₂
-      ≡ spliced 32
-      (sectionHeader written (symbolsPlace writer) (writer .strings) (usedText writer text)
-      ++ sectionHeader written (treePlace writer) (writer .nodes) entries)
-      l₁
-      → l₃ ≡ spliced p (sectionHeader Two from full bytes) l₂ → l₄ ≡ withSum (take 152 l₃) → l₄ ≡ closeHeader buffer writer text tree
-  unfolding closeHeader
-  header-over entries bytes p from full l₀ l₁ l₂ l₃ l₄ f n he hb hp hf hn h₁ h₂ h₃ h₄ =
-      let s = sectionHeader Two (symbolsPlace writer) (writer .strings) (usedText writer text) in
-      let t = sectionHeader Two (treePlace writer) (writer .nodes) (entriesOut tree (writer .nodes)) in
-      let d = sectionHeader Two dataPlace (dataNodes tree (writer .nodes)) (dataBytes buffer writer) in
-      let e₂ : l₂ ≡ spliced 32 (s ++ t) l₁ = h₂ ∙ rw he in
-      let e₃ : l₃ ≡ spliced 112 d l₂ = h₃ ∙ rw (hp, hf, hn, hb) in
-      h₄
-      ∙ ap withSum
-      (header-parts (writer .form) s t d l₀ l₁ l₂ l₃ f n
-      (length-sectionHeader (symbolsPlace writer) (writer .strings) (usedText writer text))
-      (length-sectionHeader (treePlace writer) (writer .nodes) (entriesOut tree (writer .nodes)))
-      (length-sectionHeader dataPlace (dataNodes tree (writer .nodes)) (dataBytes buffer writer)) h₁ e₂ e₃)
+  closeSection-size : (s : Section) → length (closeSection buffer writer text tree s) ≡ sectionHeaderSize (writerEdition writer)
+  unfolding closeSection
+  closeSection-size = length-sectionOf writer (dataNodes tree (writer .nodes)) (usedText writer text) (entriesOut tree (writer .nodes)) (dataBytes buffer writer)
 
-  pub length-closeHeader : length (writer .form) ≡ 12 → length (closeHeader buffer writer text tree) ≡ 168
+  -- Signature, section headers and sum are the header; they are the front of the area.
+  pub header-over : (e : Edition) (entries stored : List ℕ) (full : ℕ) (l₀ l₁ l₂ l₃ : List ℕ) → mostHeader ≤ length l₀ → length (writer .form) ≡ 12
+      → e ≡ writerEdition writer → entries ≡ entriesOut tree (writer .nodes) → stored ≡ dataBytes buffer writer → full ≡ dataNodes tree (writer .nodes)
+      → l₁ ≡ spliced 0 (signatureText e ++ writer .form) l₀
+      → l₂ ≡ spliced signatureSize (joined (map (sectionOf writer full (usedText writer text) entries stored) (headerOrder (writerEdition writer)))) l₁
+      → take (headerSize e) l₃ ≡ withSum (take (headerSumAt e) l₂) → take (dataPlace writer) l₃ ≡ closeHeader buffer writer text tree
+  unfolding closeHeader closeSection
+  header-over e entries stored full l₀ l₁ l₂ l₃ f n he hn hs hf h₁ h₂ h₃ =
+      let d = writerEdition writer in
+      let e₁ : l₁ ≡ spliced 0 (signatureText d ++ writer .form) l₀ = h₁ ∙ rw he in
+      let e₂ : l₂ ≡ spliced signatureSize (joined (map (closeSection buffer writer text tree) (headerOrder d))) l₁ = h₂ ∙ rw (hn, hs, hf) in
+      let e₃ : take (headerSize d) l₃ ≡ withSum (take (headerSumAt d) l₂) = rw he at h₃ in
+      e₃ ∙ ap withSum (front-over d (writer .form) (closeSection buffer writer text tree) l₀ l₁ l₂ f n closeSection-size e₁ e₂)
+
+  pub length-closeHeader : length (writer .form) ≡ 12 → length (closeHeader buffer writer text tree) ≡ dataPlace writer
   unfolding closeHeader
   length-closeHeader n =
-      length-withSum _
-      (length-headerFront (writer .form) _ _ _ n
-      (length-sectionHeader (symbolsPlace writer) (writer .strings) (usedText writer text))
-      (length-sectionHeader (treePlace writer) (writer .nodes) (entriesOut tree (writer .nodes)))
-      (length-sectionHeader dataPlace (dataNodes tree (writer .nodes)) (dataBytes buffer writer)))
+      length-withSum (writerEdition writer) _ (length-headerFront (writerEdition writer) (writer .form) (closeSection buffer writer text tree) n closeSection-size)
 
   -- The stores.
   pub stores-closed : (at : ℕ) (symbols entries header : List ℕ) → at ≡ symbolsPlace writer → symbols ≡ usedText writer text
@@ -100,13 +127,13 @@ module _ (buffer : List ℕ) (writer : Writer) (text tree : List ℕ) where
   unfolding closeStores
   stores-closed at symbols entries header ha hs hl he hh = rw (hl, ha, hs, he, hh)
 
-  pub length-closeStores : length (usedText writer text) ≡ writer .text → length (closeHeader buffer writer text tree) ≡ 168
-      → length (closeStores buffer writer text tree) ≡ writer .text + length (entriesOut tree (writer .nodes)) + 168
+  pub length-closeStores : length (usedText writer text) ≡ writer .text → length (closeHeader buffer writer text tree) ≡ dataPlace writer
+      → length (closeStores buffer writer text tree) ≡ writer .text + length (entriesOut tree (writer .nodes)) + dataPlace writer
   unfolding closeStores
   length-closeStores u n =
       let h = closeHeader buffer writer text tree in
-      let t : length (take 1 h) ≡ 1 = length-take-le 1 h (omega arith) in
-      let d : length (drop 1 h) ≡ 167 = length-drop 1 h ∙ omega arith in
+      let t : length (take 1 h) ≡ 1 = length-take-le 1 h (omega (arith, n)) in
+      let d : length (drop 1 h) ≡ dataPlace writer - 1 = length-drop 1 h ∙ rw n in
       simp (length-append, length-storesFrom, u, t, d) (omega arith)
 
 -- What belongs has its bytes inside.
@@ -135,7 +162,7 @@ pub front-taken : (x l₀ l₁ : List ℕ) (n : ℕ) → n ≡ length x → l₁
 front-taken x l₀ l₁ n h e = ap (take n) e ∙ take-front n x l₀ (sym h)
 
 -- The data as the code passes them.
-pub data-lengths : (buffer : List ℕ) (writer : Writer) (from : ℕ) → from ≡ dataPlace → take (from + writer .«data» - from) (drop from buffer) ≡ dataBytes buffer writer
+pub data-lengths : (buffer : List ℕ) (writer : Writer) (from : ℕ) → from ≡ dataPlace writer → take (from + writer .«data» - from) (drop from buffer) ≡ dataBytes buffer writer
 data-lengths buffer writer from e = let n : from + writer .«data» - from ≡ writer .«data» = omega arith in rw (n, e)
 
 -- Strings and entries, then the header from its byte 1 on and its first byte, under one allowance.
@@ -145,14 +172,14 @@ bodyStores at symbols entries = storesFrom at symbols ++ storesFrom (at + length
 abbrev pub headStores : List ℕ → List Store
 headStores header = storesFrom 1 (drop 1 header) ++ storesFrom 0 (take 1 header)
 
-module _ (at : ℕ) (symbols entries header : List ℕ) (allowance first second : ℕ) (buffer₀ buffer₁ buffer₂ : List ℕ) (n : length header ≡ 168)
+module _ (at : ℕ) (symbols entries header : List ℕ) (allowance first second : ℕ) (buffer₀ buffer₁ buffer₂ : List ℕ)
     (m₁ : first ≡ length (take allowance (bodyStores at symbols entries)))
     (r₁ : buffer₁ ≡ applyStores buffer₀ (take allowance (bodyStores at symbols entries)))
-    (m₂ : second ≡ length (take (allowance - first) (storesFrom 1 (take 167 (drop 1 header)) ++ storesFrom 0 (take 1 header))))
-    (r₂ : buffer₂ ≡ applyStores buffer₁ (take (allowance - first) (storesFrom 1 (take 167 (drop 1 header)) ++ storesFrom 0 (take 1 header)))) where
-  after-first : storesFrom 1 (take 167 (drop 1 header)) ++ storesFrom 0 (take 1 header) ≡ headStores header
+    (m₂ : second ≡ length (take (allowance - first) (storesFrom 1 (take (length header - 1) (drop 1 header)) ++ storesFrom 0 (take 1 header))))
+    (r₂ : buffer₂ ≡ applyStores buffer₁ (take (allowance - first) (storesFrom 1 (take (length header - 1) (drop 1 header)) ++ storesFrom 0 (take 1 header)))) where
+  after-first : storesFrom 1 (take (length header - 1) (drop 1 header)) ++ storesFrom 0 (take 1 header) ≡ headStores header
   after-first =
-      ap (λ (x : List ℕ). storesFrom 1 x ++ storesFrom 0 (take 1 header)) (take-all 167 (drop 1 header) (omega (arith, length-drop 1 header)))
+      ap (λ (x : List ℕ). storesFrom 1 x ++ storesFrom 0 (take 1 header)) (take-all (length header - 1) (drop 1 header) (omega (arith, length-drop 1 header)))
 
   second-made : second ≡ length (take (allowance - first) (headStores header))
   second-made = m₂ ∙ ap (λ (s : List Store). length (take (allowance - first) s)) after-first

@@ -5,33 +5,38 @@ use lib.Dec.{ltb}
 use lib.ListN.{length, take, drop}
 use Rattle.aff_format.specs.Answer.{Answer, Check, check, refusalAt, firstWrong}
 use Rattle.aff_format.specs.Bytes.{part}
+use Rattle.aff_format.specs.declared.section.Section.{Section}
+use Rattle.aff_format.specs.declared.section.Section.the-variants.{Symbol, Tree, Data}
 use Rattle.aff_areas.specs.Areas.{usedText, entriesOut, dataNodes}
 use Rattle.aff_areas.specs.Belongs.{writerChecks}
-use Rattle.aff_areas.specs.Header.{sectionHeader, headerFront, withSum}
+use Rattle.aff_header.specs.Header.{sectionHeader, headerFront, withSum}
 use Rattle.aff_areas.specs.Stores.{Store, storesFrom}
-use Rattle.aff_areas.specs.Writer.{written, dataPlace}
+use Rattle.aff_areas.specs.Writer.{writerEdition, dataPlace}
 use Rattle.aff_areas.specs.declared.writer.Writer.{Writer}
 
 -- Where the strings and the entries of the file begin: after the data, and after the strings.
 abbrev pub symbolsPlace : Writer → ℕ
-symbolsPlace writer = dataPlace + writer .«data»
+symbolsPlace writer = dataPlace writer + writer .«data»
 
 abbrev pub treePlace : Writer → ℕ
 treePlace writer = symbolsPlace writer + writer .text
 
 -- The data in the buffer.
 abbrev pub dataBytes : List ℕ → Writer → List ℕ
-dataBytes buffer writer = part dataPlace (writer .«data») buffer
+dataBytes buffer writer = part (dataPlace writer) (writer .«data») buffer
+
+-- The header of each section, by the bytes of the three sections. Record counts: strings, nodes, and `full`, the nodes that are not Void.
+abbrev pub sectionOf : Writer → ℕ → List ℕ → List ℕ → List ℕ → Section → List ℕ
+sectionOf writer full symbols entries stored Symbol = sectionHeader (writerEdition writer) (symbolsPlace writer) (writer .strings) symbols
+sectionOf writer full symbols entries stored Tree = sectionHeader (writerEdition writer) (treePlace writer) (writer .nodes) entries
+sectionOf writer full symbols entries stored Data = sectionHeader (writerEdition writer) (dataPlace writer) full stored
 
 module _ (buffer : List ℕ) (writer : Writer) (text tree : List ℕ) where
-  -- Record counts: strings, nodes, nodes that are not Void.
+  unfoldable pub closeSection : Section → List ℕ
+  closeSection s = sectionOf writer (dataNodes tree (writer .nodes)) (usedText writer text) (entriesOut tree (writer .nodes)) (dataBytes buffer writer) s
+
   unfoldable pub closeHeader : List ℕ
-  closeHeader =
-      withSum
-      (headerFront written (writer .form)
-      (sectionHeader written (symbolsPlace writer) (writer .strings) (usedText writer text))
-      (sectionHeader written (treePlace writer) (writer .nodes) (entriesOut tree (writer .nodes)))
-      (sectionHeader written dataPlace (dataNodes tree (writer .nodes)) (dataBytes buffer writer)))
+  closeHeader = withSum (headerFront (writerEdition writer) (writer .form) closeSection)
 
   -- Order of byte stores: strings, entries, header bytes from 1 on, and last the header's first byte.
   unfoldable pub closeStores : List Store

@@ -36,7 +36,7 @@ dataKind (Known k) = k
 
 -- Where the next data begin: after those that were put.
 abbrev pub putPlace : Writer → ℕ
-putPlace writer = dataPlace + writer .«data»
+putPlace writer = dataPlace writer + writer .«data»
 
 abbrev pub putStores : Writer → List ℕ → List Store
 putStores writer bytes = storesFrom (putPlace writer) bytes
@@ -50,6 +50,7 @@ abbrev pub putWriter : Writer → List ℕ → Writer
 putWriter writer bytes =
     record {
       length = writer .length;
+      edition = writer .edition;
       form = writer .form;
       strings = writer .strings;
       text = writer .text;

@@ -28,17 +28,18 @@ fn lengths_wrong(buffer: &[u8], form: &[u8], text: &[u8], tree: &[u8]) -> bool
     limits::IMAGE_LIMIT < buffer.len()
 }
 
-// Begins a file of edition 2 in a buffer: 1, 21, 23. `form` has the 12 bytes that come after the signature text. An accepted begin stores 0
+// Begins a file of a written edition in a buffer: 1, 3, 21, 23. `edition` is its number: 2. `form` has the 12 bytes that come after the signature text. An accepted begin stores 0
 // at the buffer's place 0, so that nothing opens there until the file is closed, and clears both areas.
 pub fn begin(
+    edition: u32,
     buffer: &mut [u8],
     form: &[u8],
     text: &mut [u8],
     tree: &mut [u8],
     allowance: usize,
 ) -> Writing
-    ensures answer { λ r. ⌜ answerOfNumber (r .answer) ≡ beginAnswer (now (buffer .entry)) (now (form .entry)) (now (text .entry)) (now (tree .entry)) allowance ⌝ }
-    ensures record { λ r. ⌜ r .writer ≡ beginWriter (answerOfNumber (r .answer)) (length (now (buffer .entry))) (now (form .entry)) ⌝ }
+    ensures answer { λ r. ⌜ answerOfNumber (r .answer) ≡ beginAnswer edition (now (buffer .entry)) (now (form .entry)) (now (text .entry)) (now (tree .entry)) allowance ⌝ }
+    ensures record { λ r. ⌜ r .writer ≡ beginWriter (answerOfNumber (r .answer)) edition (length (now (buffer .entry))) (now (form .entry)) ⌝ }
     ensures buffer { λ r. ⌜ now (buffer .exit) ≡ bufferAfter (answerOfNumber (r .answer)) beginStores (now (buffer .entry)) ⌝ }
     ensures text { λ r. ⌜ now (text .exit) ≡ beginArea (answerOfNumber (r .answer)) (now (text .entry)) ⌝ }
     ensures tree { λ r. ⌜ now (tree .exit) ≡ beginArea (answerOfNumber (r .answer)) (now (tree .entry)) ⌝ }
@@ -46,10 +47,13 @@ pub fn begin(
     if lengths_wrong(buffer, form, text, tree) {
         return writer::refused(Refusal::WrongLength, Writer::none());
     }
-    if buffer.len() < Edition::Two.header_size() {
+    if !Edition::names_written(edition) {
+        return writer::refused(Refusal::UnknownEdition, Writer::none());
+    }
+    let record = Writer::fresh(edition, buffer.len(), form);
+    if buffer.len() < record.data_place() {
         return writer::refused(Refusal::BufferTooSmall, Writer::none());
     }
-    let record = Writer::fresh(buffer.len(), form);
     if allowance < 1 {
         return writer::refused(Refusal::AllowanceSpent(allowance), record.stopped());
     }

@@ -1,7 +1,6 @@
 // Close.
 use aff_areas::areas;
 use aff_areas::belongs;
-use aff_areas::header;
 use aff_areas::store;
 use aff_areas::writer;
 use aff_areas::writer::Writer;
@@ -11,72 +10,111 @@ use aff_format::NumberAnswer;
 use aff_format::Refusal;
 use aff_format::Section;
 use aff_format::Verdict;
+use aff_format::limits;
+use aff_header::header;
 ghost use mathlib.Core.Path.{_≡_};
-ghost use mathlib.Core.List.{_++_};
+ghost use mathlib.Core.List.{_++_, map};
 ghost use Prim.Native.Nat.{_+_, _≤_};
 ghost use lib.ListN.{length, take, drop};
 ghost use Rattle.aff_format.specs.Answer.{firstWrong};
-ghost use Rattle.aff_format.specs.Bytes.{spliced};
+ghost use Rattle.aff_format.specs.Bytes.{spliced, joined};
+ghost use Rattle.aff_format.specs.Edition.{headerOrder, signatureSize, sectionAt, sectionHeaderSize, mostHeader};
 ghost use Rattle.aff_format.specs.Limits.{imageLimit, textArea};
 ghost use Rattle.aff_format.specs.Verdict.{answerOfNumber};
 ghost use Rattle.aff_areas.specs.Areas.{entriesOut};
 ghost use Rattle.aff_areas.specs.Belongs.{WriterBelongs};
-ghost use Rattle.aff_areas.specs.Header.{sectionHeader};
 ghost use Rattle.aff_areas.specs.Stores.{applyStores, storesFrom, bufferAfter};
-ghost use Rattle.aff_areas.specs.Writer.{written, stopped, writerAfter};
-ghost use Rattle.aff_write.specs.Close.{symbolsPlace, treePlace, closeHeader, closeStores, storeChecks, closeAnswer};
+ghost use Rattle.aff_areas.specs.Writer.{writerEdition, dataPlace, stopped, writerAfter};
+ghost use Rattle.aff_write.specs.Close.{sectionOf, closeHeader, closeStores, storeChecks, closeAnswer};
 
-// The headers of symbol and tree section in a header.
-fn put_tables(out: &mut [u8], writer: Writer, symbols: &[u8], entries: &[u8])
-    requires { ⌜ (112 ≤ length (now out)) × (writer .«data» ≤ imageLimit) × (writer .text ≤ textArea) ⌝ }
-    ensures { λ _. ⌜ now (out .exit) ≡ spliced 32 (sectionHeader written (symbolsPlace writer) (writer .strings) (now (symbols .entry)) ++ sectionHeader written (treePlace writer) (writer .nodes) (now (entries .entry))) (now (out .entry)) ⌝ }
+// The header of the section at a rank, 0 to 2, by the bytes of the three sections.
+fn put_ranked(
+    out: &mut [u8],
+    at: usize,
+    rank: usize,
+    writer: Writer,
+    full: usize,
+    symbols: &[u8],
+    entries: &[u8],
+    stored: &[u8],
+)
+    requires { ⌜ (at + sectionHeaderSize (writerEdition writer) ≤ length (now out)) × (writer .«data» ≤ imageLimit) × (writer .text ≤ textArea) ⌝ }
+    ensures { λ _. ⌜ now (out .exit) ≡ spliced at (sectionOf writer full (now (symbols .entry)) (now (entries .entry)) (now (stored .entry)) (sectionAt (writerEdition writer) rank)) (now (out .entry)) ⌝ }
 {
-    let two = Edition::Two;
-    let at = two.header_size() + writer.data;
-    header::put_section(
-        out,
-        two.section_header_at(Section::Symbol),
-        at,
-        writer.strings,
-        symbols,
-    );
-    header::put_section(
-        out,
-        two.section_header_at(Section::Tree),
-        at + writer.text,
-        writer.nodes,
-        entries,
-    );
+    let edition = Edition::by_number(writer.edition);
+    let from = writer.data_place();
+    let end = from + writer.data;
+    match edition.section_at(rank) {
+        Section::Symbol => {
+            header::put_section(out, edition, at, end, writer.strings, symbols);
+        }
+        Section::Tree => {
+            header::put_section(out, edition, at, end + writer.text, writer.nodes, entries);
+        }
+        Section::Data => {
+            header::put_section(out, edition, at, from, full, stored);
+        }
+    }
 }
 
-// The header of the finished file, from its strings, its entries and the data in the buffer.
+// The three section headers after the signature, in the order of the edition.
+fn put_headers(
+    out: &mut [u8],
+    writer: Writer,
+    full: usize,
+    symbols: &[u8],
+    entries: &[u8],
+    stored: &[u8],
+)
+    requires { ⌜ (mostHeader ≤ length (now out)) × (writer .«data» ≤ imageLimit) × (writer .text ≤ textArea) ⌝ }
+    ensures { λ _. ⌜ now (out .exit) ≡ spliced signatureSize (joined (map (sectionOf writer full (now (symbols .entry)) (now (entries .entry)) (now (stored .entry))) (headerOrder (writerEdition writer)))) (now (out .entry)) ⌝ }
+{
+    let edition = Edition::by_number(writer.edition);
+    let size = edition.section_header_size();
+    let second = Edition::SIGNATURE + size;
+    let third = second + size;
+    put_ranked(
+        out,
+        Edition::SIGNATURE,
+        0,
+        writer,
+        full,
+        symbols,
+        entries,
+        stored,
+    );
+    put_ranked(out, second, 1, writer, full, symbols, entries, stored);
+    put_ranked(out, third, 2, writer, full, symbols, entries, stored);
+}
+
+// The header of the finished file, from its strings, its entries and the data in the buffer: the front of what is returned.
 fn close_header(
     buffer: &[u8],
     writer: Writer,
     text: &[u8],
     tree: &[u8],
     entries: &[u8],
-) -> [u8; 168]
+) -> [u8; Edition::MOST_HEADER]
     requires { ⌜ WriterBelongs (length (now buffer)) writer (now text) (now tree) × (now entries ≡ entriesOut (now tree) (writer .nodes)) ⌝ }
-    ensures { λ r. ⌜ r ≡ closeHeader (now (buffer .entry)) writer (now (text .entry)) (now (tree .entry)) ⌝ }
+    ensures { λ r. ⌜ take (dataPlace writer) r ≡ closeHeader (now (buffer .entry)) writer (now (text .entry)) (now (tree .entry)) ⌝ }
 {
-    let mut out = [0u8; 168];
-    let two = Edition::Two;
+    let mut out = [0u8; Edition::MOST_HEADER];
+    let edition = Edition::by_number(writer.edition);
     let used = writer.text;
-    let from = two.header_size();
+    let from = writer.data_place();
     let end = from + writer.data;
     let form = writer.form;
     let full = areas::data_nodes(tree, writer.nodes);
-    header::put_signature(&mut out, form);
-    put_tables(&mut out, writer, &text[..used], entries);
-    header::put_section(
+    header::put_signature(&mut out, edition, form);
+    put_headers(
         &mut out,
-        two.section_header_at(Section::Data),
-        from,
+        writer,
         full,
+        &text[..used],
+        entries,
         &buffer[from..end],
     );
-    header::put_sum(&mut out);
+    header::put_sum(&mut out, edition);
     out
 }
 
@@ -90,13 +128,14 @@ fn store_file(
     header: &[u8],
     allowance: usize,
 ) -> usize
-    requires { ⌜ (168 ≤ length (now buffer)) × (length (now header) ≡ 168) × (at + length (now symbols) + length (now entries) ≤ length (now buffer)) ⌝ }
+    requires { ⌜ (1 ≤ length (now header)) × (length (now header) ≤ length (now buffer)) × (at + length (now symbols) + length (now entries) ≤ length (now buffer)) ⌝ }
     ensures made { λ r. ⌜ r ≡ length (take allowance ((storesFrom at (now (symbols .entry)) ++ storesFrom (at + length (now (symbols .entry))) (now (entries .entry))) ++ (storesFrom 1 (drop 1 (now (header .entry))) ++ storesFrom 0 (take 1 (now (header .entry)))))) ⌝ }
     ensures buffer { λ _. ⌜ now (buffer .exit) ≡ applyStores (now (buffer .entry)) (take allowance ((storesFrom at (now (symbols .entry)) ++ storesFrom (at + length (now (symbols .entry))) (now (entries .entry))) ++ (storesFrom 1 (drop 1 (now (header .entry))) ++ storesFrom 0 (take 1 (now (header .entry)))))) ⌝ }
 {
     let body = store::store_both(buffer, at, symbols, at + symbols.len(), entries, allowance);
     let left = allowance - body;
-    body + store::store_both(buffer, 1, &header[1..168], 0, &header[0..1], left)
+    let size = header.len();
+    body + store::store_both(buffer, 1, &header[1..size], 0, &header[0..1], left)
 }
 
 // Makes the header and stores the file, at most as many bytes as allowed. It answers how many it stored.
@@ -111,12 +150,20 @@ fn store_closed(
     requires { ⌜ WriterBelongs (length (now buffer)) writer (now text) (now tree) × (now entries ≡ entriesOut (now tree) (writer .nodes)) ⌝ }
     ensures made { λ r. ⌜ r ≡ length (take allowance (closeStores (now (buffer .entry)) writer (now (text .entry)) (now (tree .entry)))) ⌝ }
     ensures buffer { λ _. ⌜ now (buffer .exit) ≡ applyStores (now (buffer .entry)) (take allowance (closeStores (now (buffer .entry)) writer (now (text .entry)) (now (tree .entry)))) ⌝ }
-    ensures needed { λ _. ⌜ length (closeStores (now (buffer .entry)) writer (now (text .entry)) (now (tree .entry))) ≡ writer .text + length (now (entries .entry)) + 168 ⌝ }
+    ensures needed { λ _. ⌜ length (closeStores (now (buffer .entry)) writer (now (text .entry)) (now (tree .entry))) ≡ writer .text + length (now (entries .entry)) + dataPlace writer ⌝ }
 {
     let used = writer.text;
-    let at = Edition::Two.header_size() + writer.data;
+    let from = writer.data_place();
+    let at = from + writer.data;
     let header = close_header(buffer, writer, text, tree, entries);
-    store_file(buffer, at, &text[..used], entries, &header, allowance)
+    store_file(
+        buffer,
+        at,
+        &text[..used],
+        entries,
+        &header[..from],
+        allowance,
+    )
 }
 
 // 23, for a record that belongs and is open. All that is stored is made first; then it is stored as far as allowed.
@@ -132,10 +179,11 @@ fn close_open(
     ensures record { λ r. ⌜ r .writer ≡ stopped writer ⌝ }
     ensures buffer { λ r. ⌜ now (buffer .exit) ≡ bufferAfter (answerOfNumber (r .answer)) (closeStores (now (buffer .entry)) writer (now (text .entry)) (now (tree .entry))) (now (buffer .entry)) ⌝ }
 {
-    let mut entries = [0u8; 51200];
+    let mut entries = [0u8; limits::TREE_AREA];
     let size = areas::entries_out(tree, writer.nodes, &mut entries);
     let made = store_closed(buffer, writer, text, tree, &entries[..size], allowance);
-    if made < writer.text + size + 168 {
+    let header = writer.data_place();
+    if made < writer.text + size + header {
         return writer::refused(Refusal::AllowanceSpent(made), writer.stopped());
     }
     Writing {

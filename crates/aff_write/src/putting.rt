@@ -5,7 +5,6 @@ use aff_areas::store;
 use aff_areas::writer;
 use aff_areas::writer::Writer;
 use aff_areas::writer::Writing;
-use aff_format::Edition;
 use aff_format::Entry;
 use aff_format::FoundKind;
 use aff_format::Kind;
@@ -76,7 +75,7 @@ fn fill_slot(writer: Writer, tree: &mut [u8], node: usize, kind: Kind, bytes: &[
         parent: old.parent,
         string: old.string,
         count: count_in(kind, bytes) as u32,
-        offset: (Edition::Two.header_size() + writer.data) as u64,
+        offset: (writer.data_place() + writer.data) as u64,
     };
     areas::put_slot(tree, node, entry);
 }
@@ -97,12 +96,7 @@ fn put_bytes(
     ensures buffer { λ r. ⌜ now (buffer .exit) ≡ bufferAfter (answerOfNumber (r .answer)) (putStores writer (now (bytes .entry))) (now (buffer .entry)) ⌝ }
     ensures tree { λ r. ⌜ now (tree .exit) ≡ areaAfter (answerOfNumber (r .answer)) (spliced (slotAt node) (slotBytes (putEntry writer (now (tree .entry)) node kind (now (bytes .entry)))) (now (tree .entry))) (now (tree .entry)) ⌝ }
 {
-    let made = store::store(
-        buffer,
-        Edition::Two.header_size() + writer.data,
-        bytes,
-        allowance,
-    );
+    let made = store::store(buffer, writer.data_place() + writer.data, bytes, allowance);
     if made < bytes.len() {
         return writer::refused(Refusal::AllowanceSpent(made), writer.stopped());
     }

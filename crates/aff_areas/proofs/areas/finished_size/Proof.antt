@@ -6,7 +6,7 @@ use Rattle.aff_areas.proofs.areas.finished_size.Tie as tie
 
 returns : tie.Need-returns
 unfolding finishedSize
-returns c = rw (c .before .before .before .header-size .ensures, c .entry-sizes .ensures .0)
+returns c = rw (c .before .before .before .data-place .ensures .0, c .entry-sizes .ensures .0)
 
 pub finished-size-spec : {M : Type 1} → statement M
 finished-size-spec =

@@ -12,11 +12,11 @@ use Rattle.aff_areas.proofs.belongs.lost_node.Statement.{statement}
 use Rattle.aff_areas.proofs.belongs.lost_node.Tie as tie
 
 abbrev Inv-loop : tie.InvT-loop
-Inv-loop tree nodes strings size k₀ k =
-    (k ≤ nodes) × (lowestFrom (writerNodeLost strings size tree) (nodes - k) (k + 1) ≡ lowestFrom (writerNodeLost strings size tree) nodes 1)
+Inv-loop tree nodes strings from size k₀ k =
+    (k ≤ nodes) × (lowestFrom (writerNodeLost strings from size tree) (nodes - k) (k + 1) ≡ lowestFrom (writerNodeLost strings from size tree) nodes 1)
 
 abbrev μ-loop : tie.MeasureT-loop
-μ-loop tree nodes strings size k₀ k = nodes - k
+μ-loop tree nodes strings from size k₀ k = nodes - k
 
 loop-holds : tie.Need-loop-holds Inv-loop μ-loop
 loop-holds c = (omega arith, rw sub-zero)
@@ -25,7 +25,7 @@ returns : tie.Need-returns Inv-loop μ-loop
 returns c =
     let f = c .before .before in
     let iteration = f .before in
-    lowest-here _ _ _ 1 (iteration .loop-test .taken) (node-judged _ _ _ _ (f .found-slot .ensures) (c .before .slot-lost .ensures) (c .if1 .taken))
+    lowest-here _ _ _ 1 (iteration .loop-test .taken) (node-judged _ _ _ _ _ (f .found-slot .ensures) (c .before .slot-lost .ensures) (c .if1 .taken))
     ∙ iteration .before .loop .inv .1
 
 loop-again : tie.Need-loop-again Inv-loop μ-loop
@@ -33,7 +33,7 @@ loop-again c =
     let f = c .before .before in
     let iteration = f .before in (
       omega arith,
-      lowest-on _ _ _ 1 (iteration .loop-test .taken) (node-judged _ _ _ _ (f .found-slot .ensures) (c .before .slot-lost .ensures) (c .if1 .left))
+      lowest-on _ _ _ 1 (iteration .loop-test .taken) (node-judged _ _ _ _ _ (f .found-slot .ensures) (c .before .slot-lost .ensures) (c .if1 .left))
           ∙ iteration .before .loop .inv .1,
     )
 

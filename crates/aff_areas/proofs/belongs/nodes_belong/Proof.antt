@@ -7,20 +7,23 @@ use Rattle.aff_areas.proofs.belongs.nodes_belong.Statement.{statement}
 use Rattle.aff_areas.proofs.belongs.nodes_belong.Tie as tie
 
 returns : tie.Need-returns
-returns c = let h = c .before .before .header-size .ensures in sym (data-decide _ _ (omega (arith, c .if1 .taken, h)))
+returns c = let h = c .before .before .data-place .ensures .0 in sym (data-decide _ _ (omega (arith, c .if1 .taken, h)))
 
 returns-2 : tie.Need-returns-2
 returns-2 c =
-    let h = c .before .before .before .before .before .header-size .ensures in
+    let h = c .before .before .before .before .before .data-place .ensures .0 in
     sym (data-decide _ _ (omega (arith, c .if2 .taken, h)))
 
 returns-3 : tie.Need-returns-3
-returns-3 c = sym (lost-decides _ _ (sym (c .before .before .lost-node .ensures) ∙ c .enum-told .given .1))
+returns-3 c =
+    let h = c .before .before .before .before .before .before .before .before .data-place .ensures .0 in
+    sym (lost-decides _ _ h (sym (c .before .before .lost-node .ensures) ∙ c .enum-told .given .1))
 
 returns-4 : tie.Need-returns-4
 returns-4 c =
     let t = c .before .before in
-    rw (c .before .finished-size .ensures) (sym (size-decides _ _ (sym (t .before .before .lost-node .ensures) ∙ t .enum-told2 .given .1)))
+    let h = t .before .before .before .before .before .before .before .before .data-place .ensures .0 in
+    rw (c .before .finished-size .ensures) (sym (size-decides _ _ h (sym (t .before .before .lost-node .ensures) ∙ t .enum-told2 .given .1)))
 
 pub nodes-belong-spec : {M : Type 1} → statement M
 nodes-belong-spec =

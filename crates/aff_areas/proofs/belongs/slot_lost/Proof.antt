@@ -13,17 +13,15 @@ returns-2 c = simp (c .before .before .before .before .before .found .given .1, 
 
 returns-4 : tie.Need-returns-4
 returns-4 c =
-    let b = c .before .before .before .before in
+    let b = c .before .before .before in
     simp (
       b .before .before .before .found .given .1,
       lt-leb _ _ (b .if1 .left),
-      lt-leb _ _ (c .before .before .if2 .left),
+      lt-leb _ _ (c .before .if2 .left),
       c .is-outside .ensures,
-      c .before .header-size .ensures,
     )
 
 pub slot-lost-spec : {M : Type 1} → statement M
 slot-lost-spec =
     tie.close
-    (tie.spec (λ c. search needs) (λ c. search needs) returns (λ c. search needs) returns-2 (λ c κs. search needs)
-    (λ c κs. search needs) (λ c. search needs) returns-4)
+    (tie.spec (λ c. search needs) (λ c. search needs) returns (λ c. search needs) returns-2 (λ c κs. search needs) (λ c. search needs) returns-4)

@@ -3,7 +3,7 @@ use mathlib.Core.Path.{sym, _∙_}
 use Prim.Native.Nat.{ℕ}
 use lib.ListN.{length-replicate}
 use borrow.Author.Needs.{needs}
-use Rattle.aff_areas.proofs.HeaderLaws.{spliced-whole}
+use Rattle.aff_format.proofs.BytesLaws.{spliced-whole}
 use Rattle.aff_areas.proofs.writer.form_of.Statement.{statement}
 use Rattle.aff_areas.proofs.writer.form_of.Tie as tie
 

@@ -13,7 +13,7 @@ returns c =
     let e = g .before in
     let a = e .before .before .before .before .before .args in
     lookup-breaks (a .image .now) (a .reader) (a .strings .now) (a .entries .now) (a .path .now) _
-    (sym (g .grammar .ensures ∙ ap (λ (d : Edition). pathGrammar d (a .path .now)) (e .edition-of .ensures)) ∙ c .before .place .given .1)
+    (sym (g .grammar .ensures ∙ ap (λ (d : Edition). pathGrammar d (a .path .now)) (e .by-number .ensures)) ∙ c .before .place .given .1)
 
 returns-2 : tie.Need-returns-2
 returns-2 c =
@@ -23,7 +23,7 @@ returns-2 c =
     let e = g .before in
     let a = e .before .before .before .before .before .args in
     lookup-at (a .image .now) (a .reader) (a .strings .now) (a .entries .now) (a .path .now)
-    (sym (g .grammar .ensures ∙ ap (λ (d : Edition). pathGrammar d (a .path .now)) (e .edition-of .ensures)) ∙ s .enum-told .given .1) _
+    (sym (g .grammar .ensures ∙ ap (λ (d : Edition). pathGrammar d (a .path .now)) (e .by-number .ensures)) ∙ s .enum-told .given .1) _
     (sym (m .lowest-match .ensures) ∙ c .before .node .given .1)
 
 returns-3 : tie.Need-returns-3
@@ -34,7 +34,7 @@ returns-3 c =
     let e = g .before in
     let a = e .before .before .before .before .before .args in
     lookup-none (a .image .now) (a .reader) (a .strings .now) (a .entries .now) (a .path .now)
-    (sym (g .grammar .ensures ∙ ap (λ (d : Edition). pathGrammar d (a .path .now)) (e .edition-of .ensures)) ∙ s .enum-told .given .1)
+    (sym (g .grammar .ensures ∙ ap (λ (d : Edition). pathGrammar d (a .path .now)) (e .by-number .ensures)) ∙ s .enum-told .given .1)
     (sym (m .lowest-match .ensures) ∙ c .enum-told2 .given .1)
 
 pub lookup-of-spec : {M : Type 1} → statement M

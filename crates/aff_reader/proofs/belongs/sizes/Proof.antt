@@ -12,7 +12,7 @@ returns-7 : tie.Need-returns-7
 returns-7 c =
     let b = c .before .before .before in
     let d = b .before .before .before .before in
-    c .is-edition .ensures
+    c .exists .ensures
     ∙ sym (edition-decides _ _ _ _ (d .before .before .if1 .left) (d .if2 .left) (b .before .before .before .if3 .left) (b .before .before .if4 .left)
     (b .if5 .left) (c .before .if6 .left))
 

@@ -18,13 +18,13 @@ returns c =
     let c7 = c6 .before in
     let c11 = c7 .before .before .before .before in
     let a = c11 .args in
-    let h = c5 .header-size in
+    let h = c5 .data-place in
     let n = c6 .count-in in
     let s = c7 .slot-entry in
     c2 .put-slot .ensures
     ∙ ap (λ (e : Entry). spliced (slotAt (a .node)) (slotBytes e) (a .tree .now))
     (entry-filled (a .writer) (a .tree .now) (a .node) (a .kind) (a .bytes .now) (s .result) (n .result) (h .result + a .writer .«data»)
-    (s .ensures) (n .ensures .0) (ap (λ (k : ℕ). k + a .writer .«data») (h .ensures)))
+    (s .ensures) (n .ensures .0) (ap (λ (k : ℕ). k + a .writer .«data») (h .ensures .0)))
 
 pub fill-slot-spec : {M : Type 1} → statement M
 fill-slot-spec =

@@ -21,12 +21,12 @@ returns c =
     let w = c12 .args .writer in
     let l = c12 .args .bytes .now in
     let s = c5 .store in
-    let h = c7 .header-size in
+    let h = c7 .data-place in
     let n = length-storesFrom (putPlace w) l in
     let m : s .result < length (putStores w l) = omega (arith, c2 .if1 .taken) in
     let t = reported-spent (putStores w l) (c12 .args .allowance) (s .result) (c12 .args .buffer .now) (s .last .0)
     (stores-made (putPlace w) (c12 .args .allowance) (s .result) l (s .ensures .0))
-    (stores-buffer w (h .result + w .«data») (c12 .args .allowance) l (c12 .args .buffer .now) (s .last .0) (ap (λ (k : ℕ). k + w .«data») (h .ensures)) (s .ensures .1))
+    (stores-buffer w (h .result + w .«data») (c12 .args .allowance) l (c12 .args .buffer .now) (s .last .0) (ap (λ (k : ℕ). k + w .«data») (h .ensures .0)) (s .ensures .1))
     (putWriter w l) w (c .before .stopped .result) (c .refused .result) m (c .before .stopped .ensures) (c .refused .ensures) in
     (t .0, (t .1 .0, (t .1 .1, area-kept (AllowanceSpent (s .result)) (c .before .stopped .result) (c .refused .result) _ _ (c .refused .ensures))))
 
@@ -40,11 +40,11 @@ returns-2 c =
     let w = c15 .args .writer in
     let l = c15 .args .bytes .now in
     let s = c8 .store in
-    let h = c10 .header-size in
+    let h = c10 .data-place in
     let n = length-storesFrom (putPlace w) l in
     let m : length (putStores w l) ≤ s .result = omega (arith, c5 .if1 .left) in
     let p = stores-made (putPlace w) (c15 .args .allowance) (s .result) l (s .ensures .0) in
-    let q = stores-buffer w (h .result + w .«data») (c15 .args .allowance) l (c15 .args .buffer .now) (s .last .0) (ap (λ (k : ℕ). k + w .«data») (h .ensures)) (s .ensures .1) in (
+    let q = stores-buffer w (h .result + w .«data») (c15 .args .allowance) l (c15 .args .buffer .now) (s .last .0) (ap (λ (k : ℕ). k + w .«data») (h .ensures .0)) (s .ensures .1) in (
       made-answer (putStores w l) (c15 .args .allowance) (s .result) (c15 .args .buffer .now) (s .last .0) p q m,
       (c .with-data .ensures, (made-buffer (putStores w l) (c15 .args .allowance) (s .result) (c15 .args .buffer .now) (s .last .0) p q m, c3 .fill-slot .ensures)),
     )

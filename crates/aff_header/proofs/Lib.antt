@@ -1,0 +1,2 @@
+-- Laws of the definitions in specs/, which proofs of this crate and of those above cite.
+pub mod HeaderLaws
