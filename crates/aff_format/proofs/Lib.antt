@@ -8,6 +8,8 @@ pub mod RuleLaws
 pub mod EditionLaws
 pub mod BytesLaws
 pub mod CopyLaws
+pub mod WrittenLaws
+pub mod CappedLaws
 pub mod SameLaws
 pub mod LaidLaws
 pub mod ClearLaws

@@ -1,17 +1,20 @@
 -- Laws of paths by parents: the path of each node is a path, and no two nodes have one path. Assumes nothing.
 use mathlib.Core.Path.{_≡_, refl, sym, ap, _∙_}
-use mathlib.Core.Bool.{true}
+use mathlib.Core.Bool.{Bool, true, false, cond}
 use mathlib.Core.Logic.{⊎-elim}
 use mathlib.Core.List.{List, [], _∷_, _++_}
 use Prim.Native.Nat.{ℕ, zero, suc, _≤_, _<_}
 use native.Mathlib.Nat.{eq-or-lt-of-le}
 use native.Mathlib.Omega.{arith}
+use lib.Dec.{eqb}
 use lib.ListN.{length}
 use borrow.Author.Tests.{ne-eqb, eqb-true}
+use Rattle.aff_format.specs.Bytes.{Octets}
 use Rattle.aff_format.specs.Path.{isPath, joinedPath, Subkeys, root, subkeys}
 use Rattle.aff_format.specs.Subkey.{isSubkey}
 use Rattle.aff_format.specs.Tree.{reachesBy, frontBy, pathBy}
 use Rattle.aff_format.specs.declared.edition.Edition.{Edition}
+use Rattle.aff_format.proofs.BytesLaws.{octets-nil, octets-cons, octets-append}
 use Rattle.aff_format.proofs.ClimbLaws.{at-zero, le-or-lt, reaches-up}
 use Rattle.aff_format.proofs.PathLaws.{joined-more, subkeys-more, ends-in-slash, last-slash, path-complete}
 use Rattle.aff_format.proofs.SubkeyLaws.{subkey-no-slash, subkey-not-empty}
@@ -54,6 +57,23 @@ module _ (parent : ℕ → ℕ) (name : ℕ → List ℕ) where
 
   pub path-other : (steps n : ℕ) → (n ≡ 0 → ⊥) → pathBy parent name steps n ≡ frontBy parent name steps n
   path-other steps n h = rw (ne-eqb n 0 h)
+
+  -- Names of bytes make paths of bytes.
+  front-octets : ((k : ℕ) → Octets (name k)) → (steps n : ℕ) → Octets (frontBy parent name steps n)
+  unfolding frontBy
+  front-octets o zero n = octets-nil
+  front-octets o (suc steps) n = go (eqb n 0) (front-octets o steps (parent n))
+    where
+      go : (b : Bool) → Octets (frontBy parent name steps (parent n)) → Octets (cond b [] (frontBy parent name steps (parent n) ++ (47 ∷ name n)))
+      go true h = octets-nil
+      go false h = octets-append (frontBy parent name steps (parent n)) (47 ∷ name n) h (octets-cons 47 (name n) (omega arith) (o n))
+
+  pub path-octets : ((k : ℕ) → Octets (name k)) → (steps n : ℕ) → Octets (pathBy parent name steps n)
+  path-octets o steps n = go (eqb n 0)
+    where
+      go : (b : Bool) → Octets (cond b (47 ∷ []) (frontBy parent name steps n))
+      go true = octets-cons 47 [] (omega arith) octets-nil
+      go false = front-octets o steps n
 
 -- Where parents and names agree on the nodes up to m, and parents stay among them, so do the fronts.
 pub front-same : (parent parent′ : ℕ → ℕ) (name name′ : ℕ → List ℕ) (m : ℕ) → ((k : ℕ) → 0 < k → k ≤ m → parent k ≡ parent′ k)

@@ -12,8 +12,8 @@ use borrow.Author.Tests.{lt-ltb, le-ltb}
 use lib.Dec.{ltb}
 use lib.ListN.{length, length-append}
 use Rattle.aff_tables.proofs.OrderLaws.{split}
-use Rattle.aff_read.specs.passes.Written.{Written}
-use Rattle.aff_read.proofs.WrittenLaws.{written-same, written-more, written-length}
+use Rattle.aff_format.specs.passes.Written.{Written}
+use Rattle.aff_format.proofs.WrittenLaws.{written-same, written-more, written-length}
 use Rattle.aff_list.specs.Line.{decimal}
 use Rattle.aff_list.specs.Lister.{inDecimal, refusedWord, refusalLine}
 

@@ -16,7 +16,10 @@ use Rattle.aff_reader.specs.declared.reader.Reader.{Reader}
 use Rattle.aff_tables.proofs.OrderLaws.{split}
 use Rattle.aff_list.specs.Line.{lineAt, decimal, kindWord}
 use Rattle.aff_nodes.specs.Recall.{kindAt, countAt, pathAt}
+use Rattle.aff_list.proofs.LineBytesLaws.{line-path-length}
 use Rattle.aff_list.proofs.LineLaws.{tail-length}
+use Rattle.aff_read.specs.Paths.{spelledPathAt}
+use Rattle.aff_spelling.specs.declared.spelling.Spelling.the-variants.{Escaped}
 use Rattle.aff_list.specs.Lister.{pathLimit, rowLimit, pathTooLong, row, rows, rowsFrom, Ready, Fills}
 use Rattle.aff_list.specs.passes.Block.{endAfter, putAfter}
 use Rattle.aff_list.proofs.RowLaws.{after-stays, after-put}
@@ -62,9 +65,10 @@ module _ {image : List ℕ} {reader : Reader} {strings entries order : List ℕ}
   unfolding pathTooLong lineAt
   row-small k n h is =
       let path = pathAt image reader strings entries n in
+      let written = spelledPathAt Escaped image reader strings entries n in
       let fits = none-holds (λ i. pathTooLong image reader strings entries (getD order i 0)) (length order) 0 (ready .fits) k (omega arith) (omega arith) in
       let short : length path ≤ pathLimit = ltb-false pathLimit (length path) (rw is fits) in
-      omega (arith, row-length n, length-append path (32 ∷ (kindWord (kindAt image entries n) ++ (32 ∷ decimal 10 (countAt image entries n)))), tail-length (kindAt image entries n) (countAt image entries n), short)
+      omega (arith, row-length n, length-append written (32 ∷ (kindWord (kindAt image entries n) ++ (32 ∷ decimal 10 (countAt image entries n)))), tail-length (kindAt image entries n) (countAt image entries n), short, line-path-length image reader strings entries n)
 
   module _ {from : ℕ} {o : List ℕ} (some : from ≤ length order) where
     pub filling-none : Filling image reader strings entries order from o o from 0

@@ -16,8 +16,8 @@ use Rattle.aff_reader.specs.Reader.{noReader}
 use Rattle.aff_open.specs.Sections.{formFor}
 use Rattle.aff_reader.specs.declared.reader.Reader.{Reader}
 use Rattle.aff_listing.specs.declared.choice.Choice.{Choice}
-use Rattle.aff_read.specs.passes.Written.{Written}
-use Rattle.aff_read.proofs.WrittenLaws.{written-front, written-taken}
+use Rattle.aff_format.specs.passes.Written.{Written}
+use Rattle.aff_format.proofs.WrittenLaws.{written-front, written-taken}
 use Rattle.aff_list.specs.Lister.{inputLimit, isLong, Ready, Fills, Starts, judged, answerOfPrepared, linesBy, linesAfter, orderAfter, printedText, refusalLine, tooLongLine, listed, printed, rowsFrom}
 use Rattle.aff_list.specs.declared.blocks.Prepared.{Prepared}
 use Rattle.aff_list.proofs.PrintedLaws.{printed-long, printed-short, rows-end}

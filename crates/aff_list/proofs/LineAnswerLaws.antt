@@ -18,6 +18,7 @@ use Rattle.aff_reader.proofs.BelongsLaws.{belongs-record, record-belongs, none-
 use Rattle.aff_open.proofs.OpenedLaws.{opened-belongs}
 use Rattle.aff_nodes.specs.Answers.{existsChecks}
 use Rattle.aff_read.proofs.OutputLaws.{wrote, text-fits}
+use Rattle.aff_list.proofs.LineBytesLaws.{line-path, path-printable, line-spaces, line-feeds}
 use Rattle.aff_list.specs.Line.{lineAt, lineAnswer, LineAnswers, LineAfterOpening}
 
 module _ (image : List ℕ) (reader : Reader) (strings entries : List ℕ) where
@@ -59,6 +60,10 @@ module _ (image : List ℕ) (reader : Reader) (strings entries : List ℕ) where
         leaves = λ node out.
             wrote (lineAnswer image reader strings entries node (length out)) (lineAt image reader strings entries node) out
             (λ n h. text-fits (existsChecks image reader strings entries node) (length out) (length (lineAt image reader strings entries node)) h);
+        path-shown = line-path image reader strings entries;
+        path-printable = path-printable image reader strings entries;
+        two-spaces = line-spaces image reader strings entries;
+        no-feed = line-feeds image reader strings entries;
       }
 
 pub line-after-opening : LineAfterOpening

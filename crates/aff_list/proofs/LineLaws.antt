@@ -20,12 +20,13 @@ use Rattle.aff_format.proofs.ClimbLaws.{absurd-bool}
 use Rattle.aff_reader.specs.Belongs.{ReaderBelongs}
 use Rattle.aff_format.specs.Recorded.{recordedEntry}
 use Rattle.aff_reader.specs.declared.reader.Reader.{Reader}
-use Rattle.aff_read.specs.Paths.{frontWritten}
-use Rattle.aff_nodes.specs.Recall.{kindAt, countAt, pathAt}
-use Rattle.aff_read.specs.passes.Written.{Written, textAnswer}
+use Rattle.aff_read.specs.Paths.{spelledPathAt, frontWritten}
+use Rattle.aff_spelling.specs.declared.spelling.Spelling.the-variants.{Escaped}
+use Rattle.aff_nodes.specs.Recall.{kindAt, countAt}
+use Rattle.aff_format.specs.passes.Written.{Written, textAnswer}
 use Rattle.aff_nodes.proofs.ElementLaws.{void-count}
 use Rattle.aff_nodes.proofs.SpanLaws.{data-ends}
-use Rattle.aff_read.proofs.WrittenLaws.{written-length, written-more, written-front, written-taken, text-accepted, text-refused}
+use Rattle.aff_format.proofs.WrittenLaws.{written-length, written-more, written-front, written-taken, text-accepted, text-refused}
 use Rattle.aff_list.specs.Line.{kindWord, decimal, lineAt}
 use Rattle.aff_list.proofs.DigitLaws.{length-decimal, decimal-whole}
 
@@ -74,7 +75,7 @@ tail-length k n =
 
 pub line-is : (image : List ℕ) (reader : Reader) (strings entries : List ℕ) (node : ℕ) (e : Entry) {o p : List ℕ} {end : ℕ} → e ≡ recordedEntry image entries node
     → Written 0 (32 ∷ (kindWord (e .kind) ++ (32 ∷ decimal 10 (e .count)))) o p end
-    → pathAt image reader strings entries node ++ take end p ≡ lineAt image reader strings entries node
+    → spelledPathAt Escaped image reader strings entries node ++ take end p ≡ lineAt image reader strings entries node
 unfolding lineAt
 line-is image reader strings entries node e is w = rw (written-taken w, is)
 

@@ -28,6 +28,7 @@ use Rattle.aff_listing.specs.declared.choice.Choice.the-variants.{NotVoid}
 use Rattle.aff_listing.proofs.ListedLaws.{order-none}
 use Rattle.aff_list.specs.Lister.{inputLimit, rows, rowsFrom, Starts, FilledFrom, none, more, judged, withPaths, printedText, tooLongLine, listed, zeroArea, printed, Printing}
 use Rattle.aff_list.proofs.DigitLaws.{digits-enough}
+use Rattle.aff_list.proofs.LineBytesLaws.{row-bytes}
 
 pub printed-long : (choice : Choice) (input : List ℕ) → inputLimit < length input → printed choice input ≡ tooLongLine
 unfolding printed
@@ -135,6 +136,7 @@ printing =
       digits = digits-enough;
       long = printed-long;
       short = printed-short;
+      one-line = row-bytes;
       front = printed-front;
       nothing = printed-nothing;
       in-order = λ choice s g. blocks-in-order s g;

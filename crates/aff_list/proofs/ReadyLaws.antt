@@ -26,8 +26,8 @@ use Rattle.aff_open.proofs.OpenedLaws.{opened-belongs}
 use Rattle.aff_listing.specs.ListingOrder.{listingOrder, listedCount}
 use Rattle.aff_nodes.specs.Recall.{pathAt}
 use Rattle.aff_listing.specs.declared.choice.Choice.{Choice}
-use Rattle.aff_read.specs.passes.Capped.{capped}
-use Rattle.aff_read.proofs.CappedLaws.{capped-over, capped-exact}
+use Rattle.aff_format.specs.passes.Capped.{capped}
+use Rattle.aff_format.proofs.CappedLaws.{capped-over, capped-exact}
 use Rattle.aff_listing.proofs.ListedLaws.{order-exist, order-length, count-most}
 use Rattle.aff_list.specs.Lister.{pathLimit, pathTooLong, pathChecks, Ready, withPaths, judged, answerOfPrepared, linesBy, linesAfter, withOrder, orderAfter}
 use Rattle.aff_list.specs.declared.blocks.Prepared.{Prepared}

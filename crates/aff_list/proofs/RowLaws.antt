@@ -14,8 +14,8 @@ use Rattle.aff_format.specs.Bytes.{spliced}
 use Rattle.aff_format.specs.declared.refusal.RefusalCode.{RefusalCode}
 use Rattle.aff_format.proofs.BytesLaws.{length-spliced, set-spliced, spliced-more}
 use Rattle.aff_read.specs.Paths.{frontWritten}
-use Rattle.aff_read.specs.passes.Written.{textAnswer}
-use Rattle.aff_read.proofs.WrittenLaws.{text-accepted, text-refused}
+use Rattle.aff_format.specs.passes.Written.{textAnswer}
+use Rattle.aff_format.proofs.WrittenLaws.{text-accepted, text-refused}
 use Rattle.aff_list.specs.passes.Block.{endAfter, putAfter}
 
 -- Text that fits, and text that does not.

@@ -6,6 +6,7 @@ use Prim.Native.Nat.{ℕ, _+_, _≤_, _<_}
 use lib.Dec.{ltb}
 use lib.ListN.{length, getD, take, drop, replicate}
 use Rattle.aff_format.specs.Answer.{Answer, accepted, refused, Check, check, refusal, firstWrong}
+use Rattle.aff_format.specs.Bytes.{Octets}
 use Rattle.aff_format.specs.Kind.{isVoid}
 use Rattle.aff_format.specs.Lowest.{lowestFrom, isAt}
 use Rattle.aff_format.specs.declared.lowest.Lowest.the-variants.{Nothing}
@@ -15,6 +16,7 @@ use Rattle.aff_open.specs.Sections.{formFor}
 use Rattle.aff_reader.specs.declared.reader.Reader.{Reader}
 use Rattle.aff_read.specs.Paths.{frontWritten}
 use Rattle.aff_listing.specs.ListingOrder.{listingOrder, listedCount}
+use Rattle.aff_listing.specs.Once.{occurrences}
 use Rattle.aff_nodes.specs.Recall.{kindAt, pathAt}
 use Rattle.aff_listing.specs.declared.choice.Choice.{Choice}
 use Rattle.aff_listing.specs.declared.choice.Choice.the-variants.{NotVoid}
@@ -28,12 +30,13 @@ inputLimit = 65536
 abbrev pub isLong : List ℕ → Bool
 isLong input = ltb inputLimit (length input)
 
--- The longest path that is printed, and the longest line with its line feed: at most 19 bytes follow the path, then the line feed.
+-- The longest path of a node that is printed, in its own bytes, and the longest line with its line feed: four bytes at most are printed for a byte of the
+-- path, and at most 19 follow the path, then the line feed.
 abbrev pub pathLimit : ℕ
 pathLimit = 65536
 
 abbrev pub rowLimit : ℕ
-rowLimit = 65556
+rowLimit = 262164
 
 -- Some numbers are those of nodes.
 abbrev pub Exist : Reader → List ℕ → Type 0
@@ -180,6 +183,9 @@ pub record Printing : Type 0 where
   -- Any other: work areas of 2,048 numbers give the same text, whatever they hold before.
   pub short : (choice : Choice) (input strings entries : List ℕ) → length input ≤ inputLimit → length strings ≡ 2048 → length entries ≡ 2048
       → printed choice input ≡ listed input choice strings entries
+  -- A line that is printed, of an input of bytes: it has exactly two spaces, and its line feed, its last byte, is the only one.
+  pub one-line : (image : List ℕ) (reader : Reader) (strings entries : List ℕ) → Octets image → (node : ℕ)
+      → (occurrences 32 (row image reader strings entries node) ≡ 2) × (occurrences 10 (row image reader strings entries node) ≡ 1)
   -- Of an input only as many bytes need be read as fill a buffer above the limit.
   pub front : (choice : Choice) (input : List ℕ) (size : ℕ) → inputLimit < size → printed choice (take size input) ≡ printed choice input
   -- A file that opens and whose nodes are all Void: `list` prints nothing, and that is no refusal. Paths of any length are fine.

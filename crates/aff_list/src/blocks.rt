@@ -5,11 +5,13 @@ use crate::refusal_line;
 use aff_format::NumberAnswer;
 use aff_format::Refusal;
 use aff_format::Verdict;
+use aff_format::bytes;
 use aff_format::recorded;
 use aff_listing::Choice;
 use aff_listing::listing;
 use aff_read::paths;
 use aff_reader::Reader;
+use aff_spelling::Spelling;
 ghost use mathlib.Core.Path.{_≡_};
 ghost use mathlib.Core.Bool.{cond};
 ghost use Prim.Native.Nat.{_≤_};
@@ -38,7 +40,7 @@ fn measure(
     let mut k: usize = 0;
     while k < lines {
         let node = recorded::place(order, k);
-        if 65536 < paths::path_length(image, reader, strings, entries, node, 65536) {
+        if 65536 < paths::path_length(Spelling::Raw, image, reader, strings, entries, node, 65536) {
             return Verdict::Refused(Refusal::BufferTooSmall);
         }
         k += 1;
@@ -169,7 +171,7 @@ pub fn fill(
     order: &[u32; 2049],
     lines: usize,
     from: usize,
-    block: &mut [u8; 131072],
+    block: &mut [u8; 262164],
 ) -> Filled
     requires { ⌜ Ready (now image) reader (now strings) (now entries) (take lines (now order)) × (lines ≤ length (now order)) × (from ≤ lines) ⌝ }
     ensures { λ r. ⌜ Fills (now (image .entry)) reader (now (strings .entry)) (now (entries .entry)) (take lines (now (order .entry))) from (r .next) (r .used) (now (block .entry)) (now (block .exit)) ⌝ }
@@ -204,7 +206,7 @@ fn first_lines(
     strings: &mut [u32; 2048],
     entries: &mut [u32; 2048],
     order: &mut [u32; 2049],
-    block: &mut [u8; 131072],
+    block: &mut [u8; 262164],
 ) -> First
     requires { ⌜ length (now image) ≤ inputLimit ⌝ }
     ensures block { λ r. ⌜ Starts (now (image .entry)) (r .reader) (now (strings .exit)) (now (entries .exit)) (printed choice (now (image .entry))) (now (order .exit)) (r .lines) (r .next) (r .used) (now (block .entry)) (now (block .exit)) ⌝ }
@@ -245,7 +247,7 @@ pub fn first_block(
     strings: &mut [u32; 2048],
     entries: &mut [u32; 2048],
     order: &mut [u32; 2049],
-    block: &mut [u8; 131072],
+    block: &mut [u8; 262164],
 ) -> First
     ensures block { λ r. ⌜ Starts (now (image .entry)) (r .reader) (now (strings .exit)) (now (entries .exit)) (printed choice (now (image .entry))) (now (order .exit)) (r .lines) (r .next) (r .used) (now (block .entry)) (now (block .exit)) ⌝ }
     ensures record { λ r. ⌜ r .reader ≡ cond (isLong (now (image .entry))) noReader (readerAfter (judged (now (image .entry)) choice (now (strings .entry)) (now (entries .entry)))) ⌝ }
@@ -259,7 +261,7 @@ pub fn first_block(
             reader: Reader::none(),
             lines: 0,
             next: 0,
-            used: paths::put(b"too long\n", 0, block),
+            used: bytes::put_run(b"too long\n", 0, block),
         };
     }
     first_lines(image, choice, strings, entries, order, block)

@@ -3,7 +3,7 @@ ghost use mathlib.Core.Path.{_≡_};
 ghost use mathlib.Core.List.{[], _∷_};
 ghost use Prim.Native.Nat.{_+_, _%_, _≤_, _<_};
 ghost use lib.ListN.{length};
-ghost use Rattle.aff_read.specs.passes.Written.{Written};
+ghost use Rattle.aff_format.specs.passes.Written.{Written};
 ghost use Rattle.aff_list.specs.Line.{decimal};
 
 // Stores one byte, and returns the place after it.

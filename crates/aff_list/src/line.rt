@@ -4,19 +4,21 @@ use aff_format::Kind;
 use aff_format::NumberAnswer;
 use aff_format::Refusal;
 use aff_format::Verdict;
+use aff_format::bytes;
 use aff_format::recorded;
 use aff_nodes::node;
 use aff_read::paths;
 use aff_reader::Reader;
+use aff_spelling::Spelling;
 ghost use mathlib.Core.Path.{_≡_};
 ghost use mathlib.Core.List.{[], _∷_, _++_};
 ghost use Prim.Native.Nat.{_≤_};
 ghost use lib.ListN.{length};
 ghost use Rattle.aff_format.specs.Verdict.{answerOfNumber};
 ghost use Rattle.aff_reader.specs.Belongs.{ReaderBelongs};
-ghost use Rattle.aff_read.specs.Paths.{frontWritten};
-ghost use Rattle.aff_nodes.specs.Recall.{pathAt};
-ghost use Rattle.aff_read.specs.passes.Written.{Written, textAnswer};
+ghost use Rattle.aff_read.specs.Paths.{spelledPathAt, frontWritten};
+ghost use Rattle.aff_format.specs.passes.Written.{Written, textAnswer};
+ghost use Rattle.aff_spelling.specs.declared.spelling.Spelling.the-variants.{Escaped};
 ghost use Rattle.aff_list.specs.Line.{kindWord, decimal, lineAt, lineAnswer};
 
 // Writes the type word between two spaces at the front of an output. Returns where they end.
@@ -25,11 +27,11 @@ fn put_word(kind: Kind, out: &mut [u8]) -> usize
     ensures { λ r. ⌜ Written 0 (32 ∷ (kindWord kind ++ (32 ∷ []))) (now (out .entry)) (now (out .exit)) r ⌝ }
 {
     match kind {
-        Kind::Void => paths::put(b" void ", 0, out),
-        Kind::Char => paths::put(b" char ", 0, out),
-        Kind::Int => paths::put(b" int ", 0, out),
-        Kind::Double => paths::put(b" double ", 0, out),
-        Kind::Complex => paths::put(b" complex ", 0, out),
+        Kind::Void => bytes::put_run(b" void ", 0, out),
+        Kind::Char => bytes::put_run(b" char ", 0, out),
+        Kind::Int => bytes::put_run(b" int ", 0, out),
+        Kind::Double => bytes::put_run(b" double ", 0, out),
+        Kind::Complex => bytes::put_run(b" complex ", 0, out),
     }
 }
 
@@ -42,7 +44,7 @@ fn put_tail(kind: Kind, count: u32, out: &mut [u8]) -> usize
     decimal::put_decimal(count as usize, 10, end, out)
 }
 
-// Writes a node's path and a text after it at the front of an output, for a record that belongs: 21. The passes of the path, and one over the text.
+// Writes a node's path, escaped, and a text after it at the front of an output, for a record that belongs: 21. The passes of the path, and one over the text.
 fn with_path(
     image: &[u8],
     reader: Reader,
@@ -53,16 +55,24 @@ fn with_path(
     out: &mut [u8],
 ) -> NumberAnswer
     requires { ⌜ ReaderBelongs (now image) reader (now strings) (now entries) × (node ≤ reader .nodes) ⌝ }
-    ensures answer { λ r. ⌜ answerOfNumber r ≡ textAnswer (length (now (out .entry))) (pathAt (now (image .entry)) reader (now (strings .entry)) (now (entries .entry)) node ++ now (text .entry)) ⌝ }
-    ensures output { λ r. ⌜ now (out .exit) ≡ frontWritten (answerOfNumber r) (pathAt (now (image .entry)) reader (now (strings .entry)) (now (entries .entry)) node ++ now (text .entry)) (now (out .entry)) ⌝ }
+    ensures answer { λ r. ⌜ answerOfNumber r ≡ textAnswer (length (now (out .entry))) (spelledPathAt Escaped (now (image .entry)) reader (now (strings .entry)) (now (entries .entry)) node ++ now (text .entry)) ⌝ }
+    ensures output { λ r. ⌜ now (out .exit) ≡ frontWritten (answerOfNumber r) (spelledPathAt Escaped (now (image .entry)) reader (now (strings .entry)) (now (entries .entry)) node ++ now (text .entry)) (now (out .entry)) ⌝ }
 {
     if out.len() < text.len() {
         return NumberAnswer::Refused(Refusal::BufferTooSmall);
     }
     let free = out.len() - text.len();
-    match paths::path_of(image, reader, strings, entries, node, &mut out[..free]) {
+    match paths::path_of(
+        Spelling::Escaped,
+        image,
+        reader,
+        strings,
+        entries,
+        node,
+        &mut out[..free],
+    ) {
         NumberAnswer::Refused(refusal) => NumberAnswer::Refused(refusal),
-        NumberAnswer::Value(length) => NumberAnswer::Value(paths::put(text, length, out)),
+        NumberAnswer::Value(length) => NumberAnswer::Value(bytes::put_run(text, length, out)),
     }
 }
 

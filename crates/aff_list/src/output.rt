@@ -12,7 +12,7 @@ fn print(input: &[u8], choice: Choice) {
     let mut strings = [0u32; 2048];
     let mut entries = [0u32; 2048];
     let mut order = [0u32; 2049];
-    let mut block = [0u8; 131072];
+    let mut block = [0u8; 262164];
     let first = blocks::first_block(
         input,
         choice,

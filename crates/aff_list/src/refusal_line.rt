@@ -1,12 +1,12 @@
 // The line `refused N P`.
 use crate::decimal;
 use aff_format::Refusal;
-use aff_read::paths;
+use aff_format::bytes;
 ghost use mathlib.Core.List.{[], _∷_, _++_};
 ghost use Prim.Native.Nat.{_+_, _≤_};
 ghost use lib.ListN.{length};
 ghost use Rattle.aff_format.specs.Refusal.{numberOf, placeOf};
-ghost use Rattle.aff_read.specs.passes.Written.{Written};
+ghost use Rattle.aff_format.specs.passes.Written.{Written};
 ghost use Rattle.aff_list.specs.Lister.{inDecimal, refusalLine};
 
 // Stores a number in decimal and one byte after it, and returns the place after both. A usize has at most 20 digits.
@@ -23,7 +23,7 @@ fn put_line(number: usize, place: usize, block: &mut [u8]) -> usize
     requires { ⌜ 50 ≤ length (now block) ⌝ }
     ensures { λ r. ⌜ Written 0 (refusalLine number place) (now (block .entry)) (now (block .exit)) r ⌝ }
 {
-    let word = paths::put(b"refused ", 0, block);
+    let word = bytes::put_run(b"refused ", 0, block);
     let end = put_field(number, b' ', word, block);
     put_field(place, b'\n', end, block)
 }

@@ -19,11 +19,11 @@ use Rattle.aff_nodes.specs.Recall.{parentAt}
 use Rattle.aff_listing.specs.declared.choice.Choice.{Choice}
 use Rattle.aff_listing.specs.declared.choice.Choice.the-variants.{AllNodes}
 use Rattle.aff_listing.specs.passes.Children.{ParentsWithin}
-use Rattle.aff_read.specs.passes.Written.{Written}
+use Rattle.aff_format.specs.passes.Written.{Written}
 use Rattle.aff_listing.proofs.KeptLaws.{preorder-kept, kept-count, kept-length, kept-none, kept-most, every-below}
 use Rattle.aff_listing.proofs.ListingLaws.{preorder-same}
 use Rattle.aff_listing.proofs.OnceLaws.{occurs, cond-zero, all-once, all-only}
-use Rattle.aff_read.proofs.WrittenLaws.{written-same, written-length, written-front, written-taken}
+use Rattle.aff_format.proofs.WrittenLaws.{written-same, written-length, written-front, written-taken}
 
 module _ {image : List ℕ} {reader : Reader} {strings entries : List ℕ} (b : ReaderBelongs image reader strings entries) (choice : Choice) where
   abbrev keep : ℕ → Bool

@@ -11,8 +11,8 @@ use borrow.Author.Tests.{eq-eqb, ne-eqb}
 use lib.ListN.{length, length-append}
 use Rattle.aff_listing.specs.ListingOrder.{own, every, childOf, childrenTo, preorder}
 use Rattle.aff_listing.specs.passes.Children.{NextChild}
-use Rattle.aff_read.specs.passes.Written.{Written}
-use Rattle.aff_read.proofs.WrittenLaws.{written-none, written-same, written-more, written-length}
+use Rattle.aff_format.specs.passes.Written.{Written}
+use Rattle.aff_format.proofs.WrittenLaws.{written-none, written-same, written-more, written-length}
 
 pub own-yes : (keep : ℕ → Bool) (n : ℕ) → keep n ≡ true → own keep n ≡ n ∷ []
 unfolding own

@@ -21,7 +21,7 @@ ghost use Rattle.aff_read.specs.Paths.{frontWritten};
 ghost use Rattle.aff_listing.specs.ListingOrder.{own, every, childrenTo, preorder, kept, keptBelow, isListed, listingOrder, listedCount, listingAnswer};
 ghost use Rattle.aff_listing.specs.declared.choice.Choice.the-variants.{AllNodes};
 ghost use Rattle.aff_listing.specs.passes.Children.{ChildTables};
-ghost use Rattle.aff_read.specs.passes.Written.{Written};
+ghost use Rattle.aff_format.specs.passes.Written.{Written};
 
 // Whether a choice lists a node.
 fn is_listed(image: &[u8], entries: &[u32], choice: Choice, node: usize) -> bool

@@ -1,16 +1,20 @@
 -- Where name and data of a node are, and that they lie inside the image. Assumes nothing.
 use mathlib.Core.Path.{_≡_, refl, sym, ap, _∙_}
-use mathlib.Core.Bool.{Bool, true, false}
-use mathlib.Core.List.{List}
+use mathlib.Core.Bool.{Bool, true, false, cond}
+use mathlib.Core.List.{List, []}
 use Prim.Native.Nat.{ℕ, _+_, _-_, _*_, _^_, _≤_, _<_}
 use native.Mathlib.Omega.{arith}
+use lib.Dec.{eqb}
 use lib.ListN.{length, getD}
 use borrow.Author.Tests.{eq-eqb, ne-eqb}
 use mathlib.Core.Logic.{⊎-elim}
 use Rattle.aff_format.proofs.ClimbLaws.{absurd-bool, at-zero}
 use Rattle.aff_format.specs.Recorded.{nameFrom, recordedEntry}
 use Rattle.aff_reader.proofs.BelongsLaws.{string-within}
-use Rattle.aff_format.specs.Bytes.{part}
+use Rattle.aff_format.specs.Bytes.{Octets, part}
+use Rattle.aff_format.specs.Strings.{upToZero}
+use Rattle.aff_format.proofs.BytesLaws.{octets-nil, octets-take, octets-part}
+use Rattle.aff_format.proofs.StringsLaws.{take-upToZero}
 use Rattle.aff_format.specs.Kind.{elementSize, isVoid}
 use Rattle.aff_format.specs.declared.entry.Entry.{Entry}
 use Rattle.aff_reader.specs.Belongs.{ReaderBelongs}
@@ -21,6 +25,21 @@ use Rattle.aff_nodes.specs.Recall.{symbolsEnd, nameAt, nameSpan, dataSpa
 
 pub part-between : (image : List ℕ) (from size : ℕ) → part from (from + size - from) image ≡ part from size image
 part-between image from size = let e : from + size - from ≡ size = omega arith in rw e
+
+-- The name of a node of an image of bytes is bytes.
+pub name-octets : (image : List ℕ) (reader : Reader) (strings entries : List ℕ) → Octets image → (k : ℕ) → Octets (nameAt image reader strings entries k)
+unfolding nameAt nameFrom
+name-octets image reader strings entries o k = go (eqb k 0)
+  where
+    from : ℕ
+    from = getD strings (recordedEntry image entries k .string) 0
+
+    run : List ℕ
+    run = part from (symbolsEnd reader - from) image
+
+    go : (b : Bool) → Octets (cond b [] (upToZero run))
+    go true = octets-nil
+    go false = rw (take-upToZero run) at (octets-take (length (upToZero run)) run (octets-part from (symbolsEnd reader - from) image o))
 
 module _ (image entries : List ℕ) (node : ℕ) (e : Entry) (is : e ≡ recordedEntry image entries node) where
   pub data-void : {s : Span} → isVoid (e .kind) ≡ true → s ≡ noSpan → s ≡ dataSpan image entries node

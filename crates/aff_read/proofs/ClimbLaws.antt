@@ -19,7 +19,9 @@ use Rattle.aff_reader.specs.declared.reader.Reader.{Reader}
 use Rattle.aff_reader.proofs.BelongsLaws.{parent-within}
 use Rattle.aff_read.specs.passes.Climb.{above, tableParent, tableFrom, tableEnd, tableFront, TableInside, Noted, NotedMore, ClimbNoted}
 use Rattle.aff_nodes.specs.Recall.{parentAt, nameAt, nameSpan}
-use Rattle.aff_read.proofs.FrontLaws.{frontAt, name-size, name-bytes}
+use Rattle.aff_read.proofs.FrontLaws.{writtenName, frontAt, name-size, name-bytes}
+use Rattle.aff_spelling.specs.declared.spelling.Spelling.{Spelling}
+use Rattle.aff_spelling.specs.declared.spelling.Spelling.the-variants.{Raw}
 use Rattle.aff_nodes.proofs.SpanLaws.{name-within}
 
 -- A table of zeros.
@@ -149,11 +151,11 @@ module _ {image : List ℕ} {reader : Reader} {strings entries : List ℕ} {node
   climbing-done z = record { inside = c .inside; steps = c .steps; ends = c .is ∙ z; noted = c .noted }
 
   module _ (b : ReaderBelongs image reader strings entries) (other : at ≡ 0 → ⊥) (p : ℕ) (up : p ≡ parentAt image entries at) where
-    pub climbing-less : length (frontAt image reader strings entries p) < length (frontAt image reader strings entries at)
+    pub climbing-less : length (frontAt Raw image reader strings entries p) < length (frontAt Raw image reader strings entries at)
     climbing-less =
         let q =
         ap length (front-step (parentAt image entries) (nameAt image reader strings entries) (reader .nodes) at other (b .climb-ends at (omega arith) (c .there)))
-        ∙ length-append (frontAt image reader strings entries (parentAt image entries at)) (47 ∷ nameAt image reader strings entries at) in
+        ∙ length-append (frontAt Raw image reader strings entries (parentAt image entries at)) (47 ∷ nameAt image reader strings entries at) in
         rw up (omega arith)
 
     module _ {after : List ℕ} (more : NotedMore image reader strings entries table after at) where
@@ -174,16 +176,16 @@ module _ {image : List ℕ} {reader : Reader} {strings entries : List ℕ} {node
 
 -- The front by the table of a climb is the front by the record.
 module _ {image : List ℕ} {reader : Reader} {strings entries table : List ℕ} where
-  front-by : (left steps n : ℕ) → above (parentAt image entries) steps n ≡ 0
+  front-by : (s : Spelling) (left steps n : ℕ) → above (parentAt image entries) steps n ≡ 0
       → ((j : ℕ) → j < steps → Noted image reader strings entries table (above (parentAt image entries) j n))
-      → tableFront image table left n ≡ frontBy (parentAt image entries) (nameAt image reader strings entries) left n
+      → tableFront s image table left n ≡ frontBy (parentAt image entries) (writtenName s image reader strings entries) left n
   unfolding above frontBy
-  front-by zero steps n z h = refl
-  front-by (suc left) zero n z h = rw z
-  front-by (suc left) (suc steps) n z h =
+  front-by s zero steps n z h = refl
+  front-by s (suc left) zero n z h = rw z
+  front-by s (suc left) (suc steps) n z h =
       let here = h 0 (omega arith) in
-      rw (here .parent, here .name, front-by left steps (parentAt image entries n) z (λ j l. h (suc j) (omega arith)))
+      rw (here .parent, here .name, front-by s left steps (parentAt image entries n) z (λ j l. h (suc j) (omega arith)))
 
   pub table-front : {node : ℕ} → ClimbNoted image reader strings entries table node
-      → (left : ℕ) → tableFront image table left node ≡ frontBy (parentAt image entries) (nameAt image reader strings entries) left node
-  table-front {node} c left = front-by left (c .steps) node (c .ends) (c .noted)
+      → (s : Spelling) (left : ℕ) → tableFront s image table left node ≡ frontBy (parentAt image entries) (writtenName s image reader strings entries) left node
+  table-front {node} c s left = front-by s left (c .steps) node (c .ends) (c .noted)

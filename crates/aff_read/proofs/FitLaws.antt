@@ -23,6 +23,7 @@ use Rattle.aff_reader.specs.declared.reader.Reader.{Reader}
 use Rattle.aff_read.specs.passes.Fit.{fitFrom, fitAt, FitsSettled}
 use Rattle.aff_nodes.specs.Recall.{parentAt, nameAt, pathAt}
 use Rattle.aff_read.proofs.FrontLaws.{frontAt, path-other}
+use Rattle.aff_spelling.specs.declared.spelling.Spelling.the-variants.{Raw}
 
 -- A text fits or it does not, and so does what begins with it.
 data Fit (text path : List ℕ) (n : ℕ) : Type 0 where
@@ -132,7 +133,7 @@ module _ {image : List ℕ} {reader : Reader} {strings entries : List ℕ} (b : 
     (path : List ℕ) (node : ℕ) (there : node ≤ reader .nodes) (other-node : 0 < node) (above : ℕ)
     (reported : above ≡ fitAt image reader strings entries path (parentAt image entries node)) where
   abbrev front : List ℕ
-  front = frontAt image reader strings entries (parentAt image entries node)
+  front = frontAt Raw image reader strings entries (parentAt image entries node)
 
   abbrev own : List ℕ
   own = nameAt image reader strings entries node
@@ -194,7 +195,7 @@ module _ (image : List ℕ) (reader : Reader) (strings entries path : List ℕ) 
       → eqb fit (length path + 2) ≡ sameBytes (pathAt image reader strings entries node) path
   unfolding fitAt
   other-has node fit n is =
-      rw (is, path-other image reader strings entries node n) (fits-whole (frontAt image reader strings entries node) path 0 (length path + 2) (omega arith))
+      rw (is, path-other Raw image reader strings entries node n) (fits-whole (frontAt Raw image reader strings entries node) path 0 (length path + 2) (omega arith))
 
   -- At first the root alone is settled.
   pub settled-first : (n : ℕ) → reader .nodes < n → FitsSettled image reader strings entries path (set (replicate n 0) 0 2)

@@ -10,14 +10,22 @@ use Rattle.aff_format.specs.Edition.{editionBy}
 use Rattle.aff_format.specs.Lowest.{lowestFrom, isAt}
 use Rattle.aff_format.specs.Path.{pathGrammar}
 use Rattle.aff_format.specs.Subkey.{checkGrammar}
+use Rattle.aff_format.specs.Tree.{pathBy}
 use Rattle.aff_format.specs.declared.lowest.Lowest.{Lowest}
 use Rattle.aff_format.specs.declared.lowest.Lowest.the-variants.{Nothing, At}
 use Rattle.aff_reader.specs.Belongs.{readerBelongs}
 use Rattle.aff_reader.specs.declared.reader.Reader.{Reader}
 use Rattle.aff_nodes.specs.Answers.{existsChecks}
-use Rattle.aff_nodes.specs.Recall.{pathAt}
+use Rattle.aff_nodes.specs.Recall.{parentAt, nameAt, pathAt}
+use Rattle.aff_spelling.specs.Spelling.{spelled}
+use Rattle.aff_spelling.specs.declared.spelling.Spelling.{Spelling}
 use mathlib.Core.Path.{_≡_}
 use Rattle.aff_format.specs.declared.refusal.RefusalCode.{RefusalCode}
+
+-- The path of node k as it is written: by parents, with each name in a spelling (request C-15). In the raw spelling it is the path itself, `pathAt`.
+abbrev pub spelledPathAt : Spelling → List ℕ → Reader → List ℕ → List ℕ → ℕ → List ℕ
+spelledPathAt s image reader strings entries k =
+    pathBy (parentAt image entries) (λ n. spelled s (nameAt image reader strings entries n)) (reader .nodes) k
 
 -- An output with text written at its front; the rest stays. A refusal leaves it as it was.
 abbrev pub frontWritten : Answer ℕ → List ℕ → List ℕ → List ℕ

@@ -1,5 +1,3 @@
 -- What only the contracts of inner passes cite; a user of the library needs none of it.
-pub mod Written
-pub mod Capped
 pub mod Climb
 pub mod Fit

@@ -10,31 +10,34 @@ use aff_format::recorded;
 use aff_nodes::node;
 use aff_reader::Reader;
 use aff_reader::belongs;
+use aff_spelling::Spelling;
+use aff_spelling::spelling;
 ghost use mathlib.Core.Path.{_≡_};
 ghost use mathlib.Core.List.{[], _∷_};
 ghost use Prim.Native.Nat.{_+_, _-_, _^_, _≤_, _<_};
-ghost use lib.ListN.{length, getD, drop};
-ghost use Rattle.aff_format.specs.Bytes.{sameBytes};
+ghost use lib.ListN.{length, getD, take, drop};
+ghost use Rattle.aff_format.specs.Bytes.{sameBytes, part};
 ghost use Rattle.aff_format.specs.Limits.{nodeLimit};
 ghost use Rattle.aff_reader.specs.Belongs.{ReaderBelongs};
 ghost use Rattle.aff_format.specs.Recorded.{recordedEntry, nameFrom};
 ghost use Rattle.aff_format.specs.Verdict.{answerOfNumber};
-ghost use Rattle.aff_read.specs.Paths.{pathAnswer, frontWritten, found, lookupAnswer, lookupOfAnswer};
-ghost use Rattle.aff_read.specs.passes.Capped.{capped};
+ghost use Rattle.aff_read.specs.Paths.{spelledPathAt, pathAnswer, frontWritten, found, lookupAnswer, lookupOfAnswer};
+ghost use Rattle.aff_format.specs.passes.Capped.{capped};
 ghost use Rattle.aff_read.specs.passes.Climb.{tableParent, tableName, tableFront, TableInside, NotedMore, ClimbNoted};
 ghost use Rattle.aff_read.specs.passes.Fit.{fitFrom, fitAt, FitsSettled, Climbable, Chain};
 ghost use Rattle.aff_nodes.specs.Recall.{parentAt, nameAt, nameSpan, pathAt};
-ghost use Rattle.aff_read.specs.passes.Written.{Written, textAnswer};
+ghost use Rattle.aff_format.specs.passes.Written.{Written, textAnswer};
+ghost use Rattle.aff_spelling.specs.Spelling.{spelled};
 
-// The length of the string that begins at a place, counted no further than one past a limit. At most that many bytes are read.
-fn name_length(image: &[u8], from: usize, end: usize, limit: usize) -> usize
+// Where the string that begins at a place ends, or, where it is longer than a limit, the place one byte past the limit. No byte after that is read.
+fn name_stop(image: &[u8], from: usize, end: usize, limit: usize) -> usize
     requires { ⌜ (from ≤ end) × (end ≤ length (now image)) × (limit < 2 ^ 63) ⌝ }
-    ensures { λ r. ⌜ r ≡ capped limit (length (nameFrom (now (image .entry)) end from)) ⌝ }
+    ensures { λ r. ⌜ (from ≤ r) × (r ≤ end) × (part from (r - from) (now (image .entry)) ≡ take (limit + 1) (nameFrom (now (image .entry)) end from)) ⌝ }
 {
     if end - from <= limit {
-        return recorded::name_end(image, from, end) - from;
+        return recorded::name_end(image, from, end);
     }
-    recorded::name_end(image, from, from + limit + 1) - from
+    recorded::name_end(image, from, from + limit + 1)
 }
 
 // The parent of a node; the root is its own.
@@ -56,8 +59,9 @@ fn name_place(image: &[u8], reader: Reader, strings: &[u32], entries: &[u32], no
     recorded::place(strings, entry.string as usize)
 }
 
-// The length of a slash and a node's name, counted no further than one past a limit.
+// The length of a slash and a node's name as it is written, counted no further than one past a limit. No byte of the name is read past the limit.
 fn own_length(
+    spelling: Spelling,
     image: &[u8],
     reader: Reader,
     strings: &[u32],
@@ -66,7 +70,7 @@ fn own_length(
     limit: usize,
 ) -> usize
     requires { ⌜ ReaderBelongs (now image) reader (now strings) (now entries) × (node ≤ reader .nodes) × (limit < 2 ^ 63) ⌝ }
-    ensures { λ r. ⌜ r ≡ capped limit (length (nameAt (now (image .entry)) reader (now (strings .entry)) (now (entries .entry)) node) + 1) ⌝ }
+    ensures { λ r. ⌜ r ≡ capped limit (length (spelled spelling (nameAt (now (image .entry)) reader (now (strings .entry)) (now (entries .entry)) node)) + 1) ⌝ }
 {
     if node == 0 {
         return 1;
@@ -76,12 +80,14 @@ fn own_length(
     }
     let symbols = reader.symbols;
     let from = name_place(image, reader, strings, entries, node);
-    name_length(image, from, symbols.offset + symbols.size, limit - 1) + 1
+    let stop = name_stop(image, from, symbols.offset + symbols.size, limit - 1);
+    spelling::spelled_length(spelling, &image[from..stop], limit - 1) + 1
 }
 
-// The length of a node's path, counted no further than one past a limit. Each step of the climb counts a byte at least, and no name is read
+// The length of a node's path as it is written, counted no further than one past a limit. Each step of the climb counts a byte at least, and no name is read
 // past the limit: at most `limit` bytes, and `limit` + 1 steps.
 pub fn path_length(
+    spelling: Spelling,
     image: &[u8],
     reader: Reader,
     strings: &[u32],
@@ -90,12 +96,12 @@ pub fn path_length(
     limit: usize,
 ) -> usize
     requires { ⌜ ReaderBelongs (now image) reader (now strings) (now entries) × (node ≤ reader .nodes) × (limit < 2 ^ 63) ⌝ }
-    ensures { λ r. ⌜ r ≡ capped limit (length (pathAt (now (image .entry)) reader (now (strings .entry)) (now (entries .entry)) node)) ⌝ }
+    ensures { λ r. ⌜ r ≡ capped limit (length (spelledPathAt spelling (now (image .entry)) reader (now (strings .entry)) (now (entries .entry)) node)) ⌝ }
 {
     let mut left = limit;
     let mut at = node;
     loop {
-        let own = own_length(image, reader, strings, entries, at, left);
+        let own = own_length(spelling, image, reader, strings, entries, at, left);
         if left < own {
             return limit + 1;
         }
@@ -105,15 +111,6 @@ pub fn path_length(
             return limit - left;
         }
     }
-}
-
-// Copies a text into an output from a place on, and returns where it ends. One pass over the text.
-pub fn put(text: &[u8], at: usize, out: &mut [u8]) -> usize
-    requires { ⌜ at + length (now text) ≤ length (now out) ⌝ }
-    ensures { λ r. ⌜ Written at (now (text .entry)) (now (out .entry)) (now (out .exit)) r ⌝ }
-{
-    bytes::put(out, at, text);
-    at + text.len()
 }
 
 // Stores a node other than the root in the table of a climb, for a record that belongs: its parent, and where its name begins and ends in the
@@ -169,25 +166,39 @@ fn noted_parent(table: &[u32; 6147], node: usize) -> usize
     recorded::place(table, 3 * node)
 }
 
-// Writes a slash and a node's name from a place on, by the table of a climb. Returns where the name ends.
-fn put_own(image: &[u8], table: &[u32; 6147], node: usize, at: usize, out: &mut [u8]) -> usize
+// Writes a slash and a node's name in a spelling from a place on, by the table of a climb. Returns where the name ends.
+fn put_own(
+    spelling: Spelling,
+    image: &[u8],
+    table: &[u32; 6147],
+    node: usize,
+    at: usize,
+    out: &mut [u8],
+) -> usize
     requires { ⌜ TableInside (now image) (now table) × (node ≤ nodeLimit) ⌝ }
-    requires { ⌜ at + length (47 ∷ tableName (now image) (now table) node) ≤ length (now out) ⌝ }
-    ensures { λ r. ⌜ Written at (47 ∷ tableName (now (image .entry)) (now (table .entry)) node) (now (out .entry)) (now (out .exit)) r ⌝ }
+    requires { ⌜ at + length (47 ∷ spelled spelling (tableName (now image) (now table) node)) ≤ length (now out) ⌝ }
+    ensures { λ r. ⌜ Written at (47 ∷ spelled spelling (tableName (now (image .entry)) (now (table .entry)) node)) (now (out .entry)) (now (out .exit)) r ⌝ }
 {
     let from = recorded::place(table, 3 * node + 1);
     let end = recorded::place(table, 3 * node + 2);
     out[at] = b'/';
-    put(&image[from..end], at + 1, out)
+    spelling::put_spelled(spelling, &image[from..end], at + 1, out)
 }
 
-// Writes what precedes the slash of a node's children, by the table of a climb: first that of its parent, then a slash and the node's own name. At
-// most `left` steps up. Returns where it ends. Recursion depth is at most 2,048, and a frame is 64 bytes as compiled for x86-64: a level keeps no
-// record, only what the table is read with.
-fn write_front(image: &[u8], table: &[u32; 6147], node: usize, left: usize, out: &mut [u8]) -> usize
+// Writes what precedes the slash of a node's children, names in a spelling, by the table of a climb: first that of its parent, then a slash and the node's own name. At
+// most `left` steps up. Returns where it ends. Recursion depth is at most 2,048, and a frame is 80 bytes as compiled for x86-64: a level keeps no
+// record, only the spelling and what the table is read with.
+fn write_front(
+    spelling: Spelling,
+    image: &[u8],
+    table: &[u32; 6147],
+    node: usize,
+    left: usize,
+    out: &mut [u8],
+) -> usize
     requires { ⌜ TableInside (now image) (now table) × (node ≤ nodeLimit) ⌝ }
-    requires { ⌜ length (tableFront (now image) (now table) left node) ≤ length (now out) ⌝ }
-    ensures { λ r. ⌜ Written 0 (tableFront (now (image .entry)) (now (table .entry)) left node) (now (out .entry)) (now (out .exit)) r ⌝ }
+    requires { ⌜ length (tableFront spelling (now image) (now table) left node) ≤ length (now out) ⌝ }
+    ensures { λ r. ⌜ Written 0 (tableFront spelling (now (image .entry)) (now (table .entry)) left node) (now (out .entry)) (now (out .exit)) r ⌝ }
 {
     if left == 0 {
         return 0;
@@ -196,14 +207,15 @@ fn write_front(image: &[u8], table: &[u32; 6147], node: usize, left: usize, out:
         return 0;
     }
     let parent = noted_parent(table, node);
-    let at = write_front(image, table, parent, left - 1, out);
-    put_own(image, table, node, at, out)
+    let at = write_front(spelling, image, table, parent, left - 1, out);
+    put_own(spelling, image, table, node, at, out)
 }
 
-// Writes the path of a node, for a record that belongs: 21. It measures first, so that at most three times the output's length is read: to measure,
-// to find each name's end, to copy. The stack holds the table of the climb, 24,588 bytes, and the frames of `write_front`: about 156,000 bytes for
-// a climb of 2,048 nodes.
+// Writes the path of a node in a spelling, for a record that belongs: 21. It measures first, so that at most three times the output's length is read: to measure,
+// to find each name's end, to copy; four times where names are escaped, since a name is then read twice to measure it. The stack holds the table of the climb,
+// 24,588 bytes, and the frames of `write_front`: about 189,000 bytes for a climb of 2,048 nodes.
 pub fn path_of(
+    spelling: Spelling,
     image: &[u8],
     reader: Reader,
     strings: &[u32],
@@ -212,19 +224,19 @@ pub fn path_of(
     out: &mut [u8],
 ) -> NumberAnswer
     requires { ⌜ ReaderBelongs (now image) reader (now strings) (now entries) × (node ≤ reader .nodes) ⌝ }
-    ensures answer { λ r. ⌜ answerOfNumber r ≡ textAnswer (length (now (out .entry))) (pathAt (now (image .entry)) reader (now (strings .entry)) (now (entries .entry)) node) ⌝ }
-    ensures output { λ r. ⌜ now (out .exit) ≡ frontWritten (answerOfNumber r) (pathAt (now (image .entry)) reader (now (strings .entry)) (now (entries .entry)) node) (now (out .entry)) ⌝ }
+    ensures answer { λ r. ⌜ answerOfNumber r ≡ textAnswer (length (now (out .entry))) (spelledPathAt spelling (now (image .entry)) reader (now (strings .entry)) (now (entries .entry)) node) ⌝ }
+    ensures output { λ r. ⌜ now (out .exit) ≡ frontWritten (answerOfNumber r) (spelledPathAt spelling (now (image .entry)) reader (now (strings .entry)) (now (entries .entry)) node) (now (out .entry)) ⌝ }
 {
     let limit = out.len();
-    if limit < path_length(image, reader, strings, entries, node, limit) {
+    if limit < path_length(spelling, image, reader, strings, entries, node, limit) {
         return NumberAnswer::Refused(Refusal::BufferTooSmall);
     }
     if node == 0 {
-        return NumberAnswer::Value(put(b"/", 0, out));
+        return NumberAnswer::Value(bytes::put_run(b"/", 0, out));
     }
     let mut table = [0u32; 6147];
     note_climb(image, reader, strings, entries, node, &mut table);
-    NumberAnswer::Value(write_front(image, &table, node, reader.nodes, out))
+    NumberAnswer::Value(write_front(spelling, image, &table, node, reader.nodes, out))
 }
 
 // Writes the path of a node, root first, at the front of an output; the rest of it stays: 24, 15, 21. Returns the path's length.
@@ -241,7 +253,7 @@ pub fn path(
 {
     match node::judge(image, reader, strings, entries, node) {
         Verdict::Refused(refusal) => NumberAnswer::Refused(refusal),
-        Verdict::Accepted => path_of(image, reader, strings, entries, node, out),
+        Verdict::Accepted => path_of(Spelling::Raw, image, reader, strings, entries, node, out),
     }
 }
 

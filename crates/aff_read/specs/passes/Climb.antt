@@ -8,6 +8,8 @@ use Rattle.aff_format.specs.Limits.{nodeLimit}
 use Rattle.aff_format.specs.Tree.{frontBy}
 use Rattle.aff_reader.specs.declared.reader.Reader.{Reader}
 use Rattle.aff_nodes.specs.Recall.{parentAt, nameAt}
+use Rattle.aff_spelling.specs.Spelling.{spelled}
+use Rattle.aff_spelling.specs.declared.spelling.Spelling.{Spelling}
 
 -- The node that a climb has reached after so many steps.
 unfoldable pub above : (ℕ → ℕ) → ℕ → ℕ → ℕ
@@ -27,9 +29,9 @@ tableEnd table k = getD table (3 * k + 2) 0
 abbrev pub tableName : List ℕ → List ℕ → ℕ → List ℕ
 tableName image table k = part (tableFrom table k) (tableEnd table k - tableFrom table k) image
 
--- The bytes before a child's slash, by the table.
-abbrev pub tableFront : List ℕ → List ℕ → ℕ → ℕ → List ℕ
-tableFront image table = frontBy (tableParent table) (tableName image table)
+-- The bytes before a child's slash, by the table, with each name in a spelling.
+abbrev pub tableFront : Spelling → List ℕ → List ℕ → ℕ → ℕ → List ℕ
+tableFront s image table = frontBy (tableParent table) (λ k. spelled s (tableName image table k))
 
 -- A whole table, in which each parent is the number of a node and each name lies inside the image. A table of zeros is such a one.
 pub record TableInside (image table : List ℕ) : Type 0 where

@@ -15,7 +15,7 @@ first-block-spec =
     (λ c.
     let a = c .before .before .before .before .before .before .args in
     let long : inputLimit < length (a .image .now) = omega (arith, c .before .before .before .before .if1 .taken) in
-    first-long _ _ _ _ _ long (c .before .before .before .none .ensures) (c .put .ensures))
+    first-long _ _ _ _ _ long (c .before .before .before .none .ensures) (c .put-run .ensures))
     (λ c κs. search needs)
     (λ c.
     (c .first-lines .ensures .0, first-short _ _ _ _ _ (c .before .before .before .before .before .if1 .left) (c .first-lines .ensures .1))))

@@ -4,7 +4,7 @@ use mathlib.Core.Path.{_≡_, _∙_}
 use Prim.Native.Nat.{ℕ, _<_}
 use native.Mathlib.Omega.{arith}
 use borrow.Fn.PlainCycle.{Measures}
-use Rattle.aff_read.proofs.WrittenLaws.{written-none}
+use Rattle.aff_format.proofs.WrittenLaws.{written-none}
 use Rattle.aff_list.proofs.DigitLaws.{decimal-none, one-digit, last-fits, last-digit}
 use Rattle.aff_list.proofs.decimal.put_decimal.Reads as put-decimal
 use Rattle.aff_list.proofs.decimal.put_decimal.Kinds as put-decimal-kinds

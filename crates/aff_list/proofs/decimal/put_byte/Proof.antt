@@ -1,6 +1,6 @@
 -- `put_byte` stores one byte. Assumes nothing.
 use borrow.Author.Needs.{needs}
-use Rattle.aff_read.proofs.WrittenLaws.{written-one}
+use Rattle.aff_format.proofs.WrittenLaws.{written-one}
 use Rattle.aff_list.proofs.decimal.put_byte.Statement.{statement}
 use Rattle.aff_list.proofs.decimal.put_byte.Tie as tie
 

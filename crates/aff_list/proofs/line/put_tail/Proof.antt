@@ -6,7 +6,7 @@ use Prim.Native.Nat.{_+_, _≤_}
 use lib.ListN.{length}
 use Rattle.aff_list.specs.Line.{kindWord, decimal}
 use Rattle.aff_list.proofs.LineLaws.{word-length, word-before}
-use Rattle.aff_read.proofs.WrittenLaws.{written-same, written-more}
+use Rattle.aff_format.proofs.WrittenLaws.{written-same, written-more}
 use Rattle.aff_list.proofs.line.put_tail.Statement.{statement}
 use Rattle.aff_list.proofs.line.put_tail.Tie as tie
 

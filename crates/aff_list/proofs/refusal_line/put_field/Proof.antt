@@ -7,7 +7,7 @@ use native.Mathlib.Omega.{arith}
 use lib.ListN.{length}
 use Rattle.aff_list.specs.Line.{decimal}
 use Rattle.aff_list.proofs.DigitLaws.{length-decimal, twenty-digits}
-use Rattle.aff_read.proofs.WrittenLaws.{written-same, written-more}
+use Rattle.aff_format.proofs.WrittenLaws.{written-same, written-more}
 use Rattle.aff_list.proofs.refusal_line.put_field.Statement.{statement}
 use Rattle.aff_list.proofs.refusal_line.put_field.Tie as tie
 

@@ -10,8 +10,8 @@ put-line-spec =
     (tie.spec (λ c. search needs) (λ c κs. search needs) (λ c κs. search needs)
     (λ c κs.
     let z = c .before .before .before .before .before .before .before .before .before .before .before in
-    place-fits (z .args .number) (z .fits .number .fits) (z .pre) (c .before .before .before .before .before .before .before .put .ensures) (c .before .before .before .put-field .ensures))
+    place-fits (z .args .number) (z .fits .number .fits) (z .pre) (c .before .before .before .before .before .before .before .put-run .ensures) (c .before .before .before .put-field .ensures))
     (λ c. search needs)
     (λ c.
     let z = c .before .before .before .before .before .before .before .before .before .before .before .before .before .before in
-    line-written (z .args .number) (z .fits .number .fits) (z .pre) (c .before .before .before .before .before .before .before .before .before .before .put .ensures) (c .before .before .before .before .before .before .put-field .ensures) (z .args .place) (c .before .before .put-field2 .ensures)))
+    line-written (z .args .number) (z .fits .number .fits) (z .pre) (c .before .before .before .before .before .before .before .before .before .before .put-run .ensures) (c .before .before .before .before .before .before .put-field .ensures) (z .args .place) (c .before .before .put-field2 .ensures)))

@@ -10,9 +10,9 @@ use Rattle.aff_tables.specs.passes.Climb.{copiedParent as parentIn}
 use Rattle.aff_format.proofs.recorded.place.Reads as place-reads
 use Rattle.aff_listing.specs.ListingOrder.{every, childrenTo, preorder}
 use Rattle.aff_listing.specs.passes.Children.{NextChild}
-use Rattle.aff_read.specs.passes.Written.{Written}
+use Rattle.aff_format.specs.passes.Written.{Written}
 use Rattle.aff_listing.proofs.ListingLaws.{siblings-start, sibling-fits, siblings-next, preorder-ended, node-fits, below-fits, node-next}
-use Rattle.aff_read.proofs.WrittenLaws.{written-none}
+use Rattle.aff_format.proofs.WrittenLaws.{written-none}
 use Rattle.aff_listing.proofs.listing.list_children.Reads as list-children
 use Rattle.aff_listing.proofs.listing.list_children.Kinds as list-children-kinds
 use Rattle.aff_listing.proofs.listing.+list_children+list_node.Lts-list_children as list-children-lts

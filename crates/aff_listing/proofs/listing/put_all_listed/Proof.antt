@@ -5,9 +5,9 @@ use Prim.Native.Nat.{_+_, _-_, _≤_, _<_}
 use native.Mathlib.Omega.{arith}
 use lib.ListN.{length, take}
 use Rattle.aff_listing.specs.ListingOrder.{kept, isListed}
-use Rattle.aff_read.specs.passes.Written.{Written}
+use Rattle.aff_format.specs.passes.Written.{Written}
 use Rattle.aff_listing.proofs.KeptLaws.{kept-next, kept-fit}
-use Rattle.aff_read.proofs.WrittenLaws.{written-none, written-same, written-more}
+use Rattle.aff_format.proofs.WrittenLaws.{written-none, written-same, written-more}
 use Rattle.aff_listing.proofs.listing.put_all_listed.Statement.{statement}
 use Rattle.aff_listing.proofs.listing.put_all_listed.Tie as tie
 

@@ -7,7 +7,7 @@ use native.Mathlib.Omega.{arith}
 use lib.ListN.{length}
 use Rattle.aff_listing.specs.ListingOrder.{own, isListed}
 use Rattle.aff_listing.proofs.ListingLaws.{own-yes, own-no}
-use Rattle.aff_read.proofs.WrittenLaws.{written-none, written-same, written-one}
+use Rattle.aff_format.proofs.WrittenLaws.{written-none, written-same, written-one}
 use Rattle.aff_listing.proofs.listing.put_listed.Statement.{statement}
 use Rattle.aff_listing.proofs.listing.put_listed.Tie as tie
 

@@ -1,6 +1,6 @@
 -- `put_number` stores one number. Assumes nothing.
 use borrow.Author.Needs.{needs}
-use Rattle.aff_read.proofs.WrittenLaws.{written-one}
+use Rattle.aff_format.proofs.WrittenLaws.{written-one}
 use Rattle.aff_listing.proofs.listing.put_number.Statement.{statement}
 use Rattle.aff_listing.proofs.listing.put_number.Tie as tie
 

@@ -5,7 +5,7 @@ use Prim.Native.Nat.{ℕ, _<_}
 use native.Mathlib.Omega.{arith}
 use borrow.Fn.PlainCycle.{Measures}
 use Rattle.aff_read.proofs.FrontLaws.{front-none, front-root-at, front-parted}
-use Rattle.aff_read.proofs.WrittenLaws.{written-none, first-fits, other-fits, both-written}
+use Rattle.aff_format.proofs.WrittenLaws.{written-none, first-fits, other-fits, both-written}
 use Rattle.aff_read.proofs.paths.write_front.Reads as write-front
 use Rattle.aff_read.proofs.paths.write_front.Kinds as write-front-kinds
 use Rattle.aff_read.proofs.paths.+write_front.Lts-write_front as write-front-lts
@@ -15,7 +15,7 @@ use Rattle.aff_read.proofs.paths.+write_front.{statement}
 use Rattle.aff_read.proofs.paths.+write_front.Tie.{close}
 
 abbrev μ-write-front : Measures 3 write-front-kinds.ps ℕ
-μ-write-front κs a = a .1 .1 .1 .0
+μ-write-front κs a = a .1 .1 .1 .1 .0
 
 pub +write-front-spec : {M : Type 1} → statement M
 +write-front-spec = close μ-write-front λ t. write-front-lts.spec (
@@ -44,8 +44,8 @@ pub +write-front-spec : {M : Type 1} → statement M
     let i = p .before .before in
     let s = i .before .before .before in
     let f = front-parted _ _ _ _ _ (p .noted-parent .ensures) (i .if1 .left) (p .before .if2 .left) (s .args .out .now) (s .pre .1 .1) in
-    (s .pre .1 .0, other-fits f (w .write-front .ensures) (w .write-front .kept .1 .1 .1 .1 .0)))
-    (λ c. c .before .before .put-own .kept .1 .1 .1 .1 .0 ∙ c .before .before .before .before .before .before .write-front .kept .1 .1 .1 .1 .0)
+    (s .pre .1 .0, other-fits f (w .write-front .ensures) (w .write-front .kept .1 .1 .1 .1 .1 .0)))
+    (λ c. c .before .before .put-own .kept .1 .1 .1 .1 .1 .0 ∙ c .before .before .before .before .before .before .write-front .kept .1 .1 .1 .1 .1 .0)
     (λ c.
     let q = c .before .before in
     let w = q .before .before .before .before in

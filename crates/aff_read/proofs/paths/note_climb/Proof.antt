@@ -3,6 +3,7 @@ use native.Mathlib.Omega.{arith}
 use lib.ListN.{length}
 use Rattle.aff_read.proofs.ClimbLaws.{Climbing, climbing-start, climbing-less, climbing-next, climbing-done}
 use Rattle.aff_read.proofs.FrontLaws.{frontAt}
+use Rattle.aff_spelling.specs.declared.spelling.Spelling.the-variants.{Raw}
 use Rattle.aff_read.proofs.paths.note_climb.Statement.{statement}
 use Rattle.aff_read.proofs.paths.note_climb.Tie as tie
 
@@ -10,7 +11,7 @@ abbrev Inv-loop : tie.InvT-loop
 Inv-loop image reader strings entries node table₀ at₀ table at = Climbing image reader strings entries node table at
 
 abbrev μ-loop : tie.MeasureT-loop
-μ-loop image reader strings entries node table₀ at₀ table at = length (frontAt image reader strings entries at)
+μ-loop image reader strings entries node table₀ at₀ table at = length (frontAt Raw image reader strings entries at)
 
 pub note-climb-spec : {M : Type 1} → statement M
 note-climb-spec =

@@ -2,16 +2,16 @@
 use borrow.Author.Needs.{needs}
 use native.Mathlib.Omega.{arith}
 use lib.ListN.{length}
-use Rattle.aff_nodes.specs.Recall.{pathAt}
+use Rattle.aff_read.specs.Paths.{spelledPathAt}
 use Rattle.aff_read.proofs.StepLaws.{Measured, measure-start, measure-past, measure-done, measure-less, measure-on}
 use Rattle.aff_read.proofs.paths.path_length.Statement.{statement}
 use Rattle.aff_read.proofs.paths.path_length.Tie as tie
 
 abbrev Inv-loop : tie.InvT-loop
-Inv-loop image reader strings entries node limit left₀ at₀ left at = Measured image reader strings entries node limit left at
+Inv-loop spelling image reader strings entries node limit left₀ at₀ left at = Measured spelling image reader strings entries node limit left at
 
 abbrev μ-loop : tie.MeasureT-loop
-μ-loop image reader strings entries node limit left₀ at₀ left at = length (pathAt image reader strings entries at)
+μ-loop spelling image reader strings entries node limit left₀ at₀ left at = length (spelledPathAt spelling image reader strings entries at)
 
 pub path-length-spec : {M : Type 1} → statement M
 path-length-spec =

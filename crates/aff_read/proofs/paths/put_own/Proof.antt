@@ -1,12 +1,13 @@
 -- `put_own` meets its contract: a slash stored, then the name copied after it.
 use borrow.Author.Needs.{needs}
-use mathlib.Core.Path.{_≡_}
+use mathlib.Core.Path.{_≡_, ap}
 use Prim.Native.Nat.{_-_, _≤_}
 use native.Mathlib.Omega.{arith}
 use lib.ListN.{length, length-set}
 use Rattle.aff_format.specs.Bytes.{part}
 use Rattle.aff_read.specs.passes.Climb.{tableName}
-use Rattle.aff_read.proofs.WrittenLaws.{written-same, written-cons}
+use Rattle.aff_spelling.specs.Spelling.{spelled}
+use Rattle.aff_format.proofs.WrittenLaws.{written-same, written-cons}
 use Rattle.aff_read.proofs.paths.put_own.Statement.{statement}
 use Rattle.aff_read.proofs.paths.put_own.Tie as tie
 
@@ -31,8 +32,8 @@ put-own-spec =
     (λ c.
     let p = c .before .before in
     let a = p .before .before .before .before .before .before .before .before .before .args in
-    omega (arith, p .put .kept, length-set (a .out .now) (a .at) 47))
+    omega (arith, p .put-spelled .kept, length-set (a .out .now) (a .at) 47))
     (λ c.
     let p = c .before .before in
     let n = p .before .before .before in
-    written-cons _ _ _ _ (n .before .before .before .before .before .before .pre .1) (written-same (text n) (p .put .ensures))))
+    written-cons _ _ _ _ (n .before .before .before .before .before .before .pre .1) (written-same (ap (spelled (n .before .before .before .before .before .before .args .spelling)) (text n)) (p .put-spelled .ensures))))

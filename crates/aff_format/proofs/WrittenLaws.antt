@@ -9,12 +9,12 @@ use lib.Dec.{ltb}
 use lib.ListN.{length, take, drop, set, length-append}
 use lib.Seq.{take-at}
 use borrow.Author.Tests.{le-ltb, ltb-true, ltb-false}
 use Rattle.aff_format.specs.Answer.{accepted, refused, check, refusal, unless}
 use Rattle.aff_format.specs.Bytes.{spliced}
 use Rattle.aff_format.specs.declared.refusal.RefusalCode.{RefusalCode}
 use Rattle.aff_format.proofs.AnswerLaws.{not-both, passed, passed-value}
 use Rattle.aff_format.proofs.BytesLaws.{length-spliced, spliced-nil, spliced-next, set-spliced}
-use Rattle.aff_read.specs.passes.Written.{Written, textAnswer}
+use Rattle.aff_format.specs.passes.Written.{Written, textAnswer}
 
 pub written-none : (at : ℕ) (x o : List ℕ) → x ≡ [] → Written at x o o at
 written-none at x o e = rw e (record { ends = sym (add-zero at); area = sym (spliced-nil at o) })

@@ -1,0 +1,2 @@
+-- How a name is written (request C-15).
+pub mod Spelling
