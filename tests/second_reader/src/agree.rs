@@ -1,7 +1,7 @@
 //! Compares the library with this reader, call by call, over images and over altered memory.
 
 use crate::answers::{decoded, judged, Choice, Element, Passed, Reader};
-use crate::format::{form_for, Kind, MOST};
+use crate::format::{form_for, Edition, Kind, MOST};
 use crate::images::{image, Image};
 use crate::kinds;
 use crate::library;
@@ -17,6 +17,7 @@ pub fn compare(seed: u64, number: u64, report: &mut Report) {
     report.begin(seed, number, &image);
     let form = form_for(&image.bytes);
     report.same("form", &form, &library::form_for(&image.bytes));
+    form_of(&random, report);
     decode(&random, report);
     if random.one_in(4) {
         wrongly_lent(&random, &image, report);
@@ -50,7 +51,11 @@ fn opened(
     let (mut first, mut second) = (vec![77; strings], vec![78; entries]);
     let (reported, record) = library::open(image, form, &mut first, &mut second);
     let ours = open_lent(image, form, strings, entries);
-    report.same("opening", &ours.as_ref().map(|_| ()).map_err(|r| *r), &reported);
+    report.same(
+        "opening",
+        &ours.as_ref().map(|_| ()).map_err(|r| *r),
+        &reported,
+    );
     match ours {
         Ok(opened) => {
             report.same("record", &opened.record, &record);
@@ -101,7 +106,8 @@ fn here<T>(
 /// Every call over what is passed, refused by 24 or not.
 fn answers(random: &Random, passed: &Passed, report: &mut Report) {
     let reader = judged(passed);
-    report.judged(reader.is_ok());
+    let edition = Edition::from_number(passed.record.edition);
+    report.judged(reader.is_ok(), edition);
     let nodes = reader.as_ref().map_or(passed.record.nodes, Reader::nodes);
     for node in asked(random, nodes) {
         node_answers(random, passed, &reader, node, report);
@@ -176,14 +182,22 @@ fn path(
     let buffer = random.pick(&[length, length + 5, length, length - 1, 0]);
     let (mut first, mut second) = (vec![0xaa; buffer], vec![0xaa; buffer]);
     let ours = here(reader, |r| r.path_into(node, &mut first));
-    report.same("path", &ours, &library::path_into(passed, node, &mut second));
+    report.same(
+        "path",
+        &ours,
+        &library::path_into(passed, node, &mut second),
+    );
     report.same("path bytes", &first, &second);
     let Ok(path) = here(reader, |r| r.path(node)) else {
         return;
     };
     lookup(passed, reader, &path, report);
     lookup(passed, reader, &paths::near(random, &path), report);
-    lookup(passed, reader, &paths::malformed(random, &path), report);
+    let edition = reader.as_ref().map_or(Edition::Two, Reader::edition);
+    for edition in [edition, random.pick(&Edition::ALL)] {
+        let malformed = paths::malformed(random, edition, &path);
+        lookup(passed, reader, &malformed, report);
+    }
 }
 
 /// The node, or number and place of the refusal; 24 reports 0.
@@ -194,7 +208,8 @@ fn lookup(passed: &Passed, reader: &Result<Reader, u32>, path: &[u8], report: &m
     };
     report.same("lookup", &ours, &library::lookup(passed, path));
     if let Err((14, place)) = ours {
-        report.met(14, kinds::of_path(path, place));
+        let edition = reader.as_ref().map(Reader::edition).ok();
+        report.met(14, kinds::of_path(path, place), edition);
     }
 }
 
@@ -208,7 +223,13 @@ fn indices(random: &Random, count: u64) -> Vec<u64> {
     indices
 }
 
-fn element(passed: &Passed, reader: &Result<Reader, u32>, node: u64, index: u64, report: &mut Report) {
+fn element(
+    passed: &Passed,
+    reader: &Result<Reader, u32>,
+    node: u64,
+    index: u64,
+    report: &mut Report,
+) {
     let ours = here(reader, |r| r.element(node, index));
     let theirs = library::element(passed, node, index);
     same_element(&ours, &theirs, report);
@@ -243,6 +264,21 @@ fn same_element(
     });
     let theirs = theirs.map(|(real, imaginary)| (bits(real), bits(imaginary)));
     report.same("element", &ours, &theirs);
+}
+
+/// The 12 bytes of an edition by its number, into an output of some length: none where there is no such edition, or fewer than 12 bytes. The rest of the
+/// output stays.
+fn form_of(random: &Random, report: &mut Report) {
+    let number = random.pick(&[0, 1, 2, 3, 4, 256 + 1, u32::MAX, random.next() as u32]);
+    let length = random.pick(&[0, 11, 12, 12, 12, 13, 40]);
+    let (mut first, mut second) = (vec![0xaa; length], vec![0xaa; length]);
+    let edition = Edition::from_number(number.into()).filter(|_| length >= 12);
+    if let Some(edition) = edition {
+        first[..12].copy_from_slice(&edition.form());
+    }
+    let done = library::form(number, &mut second);
+    report.same("form of an edition", &edition.is_some(), &done);
+    report.same("form of an edition: bytes", &first, &second);
 }
 
 /// An element of bytes that the caller holds: 16 past the last, 255 for a code of no kind.
@@ -329,6 +365,12 @@ fn alter_number(random: &Random, number: u64) -> u64 {
 }
 
 fn alter_record(random: &Random, record: &mut Record) {
+    if random.one_in(4) {
+        // One that exists, mostly: another rule for names in lookup.
+        let none = random.pick(&[0, 4, 256 + 2, 1 << 32 | 2, 1 << 32 | 3, u64::MAX]);
+        record.edition = random.pick(&[1, 2, 3, 3, none]);
+        return;
+    }
     let field = match random.below(11) {
         0 => &mut record.length,
         1 => &mut record.edition,
@@ -419,7 +461,7 @@ fn alter_end(random: &Random, image: &mut [u8], symbols: Span) {
     };
     let last = random.between(1, 3);
     for place in image[start..end].iter_mut().rev().take(last) {
-        *place = random.pick(b"ab9.-:/ \0");
+        *place = random.pick(b"ab9.-:/ \0\n\\\xff");
     }
     for place in image[end..].iter_mut().take(random.below(4)) {
         *place = random.pick(b"ab/\0");
@@ -477,20 +519,23 @@ pub fn limits(report: &mut Report) {
         let areas = vec![0u32; MOST];
         report.begin_limit(length);
         opened(&image, &[0; 12], MOST, MOST, report);
-        let record = Record {
-            length: length as u64,
-            edition: 2,
-            ..Record::default()
-        };
-        let passed = Passed {
-            image: &image,
-            record,
-            strings: &areas,
-            entries: &areas,
-        };
-        let reader = judged(&passed);
-        lookup(&passed, &reader, b"/", report);
-        lookup(&passed, &reader, b"/a", report);
+        for edition in 0..=4 {
+            let record = Record {
+                length: length as u64,
+                edition,
+                ..Record::default()
+            };
+            let passed = Passed {
+                image: &image,
+                record,
+                strings: &areas,
+                entries: &areas,
+            };
+            let reader = judged(&passed);
+            for path in [b"/".as_slice(), b"/a", b"/ "] {
+                lookup(&passed, &reader, path, report);
+            }
+        }
         report.end(&[]);
     }
 }

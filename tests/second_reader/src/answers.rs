@@ -1,9 +1,7 @@
-//! The answers of an opened image, from document 01, "Reading keys", "Numbers handed back" and "The lister", and requests C-12, C-13
+//! The answers of an opened image, from document 01, "Reading keys", "Numbers handed back" and "The lister", and requests C-12, C-13, C-15
 //! and C-18.
 
-use crate::format::{
-    big, form_for, path_fault, Edition, Entry, Kind, Refusal, LONGEST_IMAGE, MOST,
-};
+use crate::format::{big, form_for, Edition, Entry, Kind, Refusal, LONGEST_IMAGE, MOST};
 use crate::open::{open, reaches_root, until_zero, Record, Span};
 
 /// What a caller passes to a reading call.
@@ -34,23 +32,30 @@ pub enum Choice {
 /// What is passed, after 24 has been judged.
 pub struct Reader<'a> {
     image: &'a [u8],
+    edition: Edition,
     names: Vec<Span>,
     nodes: Vec<Entry>,
 }
 
-/// "24 is judged over all that is recorded, whether or not the call comes to it." The calls stand on what passes.
+/// "24 is judged over all that is recorded, whether or not the call comes to it." The calls stand on what passes. "the recorded edition does not exist":
+/// editions 1 to 3 do.
 pub fn judged<'a>(passed: &Passed<'a>) -> Result<Reader<'a>, u32> {
-    let fits = sizes_fit(passed) && sections_fit(passed);
-    let names = if fits { names_of(passed) } else { None };
-    let nodes = if fits { nodes_of(passed) } else { None };
-    match (names, nodes) {
-        (Some(names), Some(nodes)) if climbs_fit(&nodes) => Ok(Reader {
-            image: passed.image,
-            names,
-            nodes,
-        }),
-        _ => Err(24),
+    belonging(passed).ok_or(24)
+}
+
+fn belonging<'a>(passed: &Passed<'a>) -> Option<Reader<'a>> {
+    let edition = Edition::from_number(passed.record.edition)?;
+    if !sizes_fit(passed) || !sections_fit(passed) {
+        return None;
     }
+    let names = names_of(passed)?;
+    let nodes = nodes_of(passed)?;
+    climbs_fit(&nodes).then_some(Reader {
+        image: passed.image,
+        edition,
+        names,
+        nodes,
+    })
 }
 
 /// "the image's length is not the recorded one, an area's not its size, or a count passes its size"; an image has at most
@@ -65,14 +70,13 @@ fn sizes_fit(passed: &Passed) -> bool {
         && record.nodes <= MOST as u64
 }
 
-/// "the recorded edition does not exist; a section ... falls outside the image".
+/// "a section ... falls outside the image".
 fn sections_fit(passed: &Passed) -> bool {
     let record = &passed.record;
     let sections = [record.symbols, record.tree, record.data];
-    let inside = sections
+    sections
         .iter()
-        .all(|part| whole(passed.image).holds(part.offset, part.size));
-    Edition::from_number(record.edition).is_some() && inside
+        .all(|part| whole(passed.image).holds(part.offset, part.size))
 }
 
 fn whole(image: &[u8]) -> Span {
@@ -127,6 +131,12 @@ enum Node<'a> {
 impl<'a> Reader<'a> {
     pub fn nodes(&self) -> u64 {
         self.nodes.len() as u64
+    }
+
+    /// The recorded edition, whose rule for names lookup goes by.
+    #[cfg(feature = "library")]
+    pub fn edition(&self) -> Edition {
+        self.edition
     }
 
     fn node(&self, number: u64) -> Result<Node<'_>, u32> {
@@ -240,9 +250,10 @@ impl<'a> Reader<'a> {
         Ok(length)
     }
 
-    /// "A lookup names the lowest node there"; 14 for a malformed path, reported the place in the path (C-18), 15 where there is none.
+    /// "A lookup names the lowest node there"; 14 for a path malformed in the recorded edition, reported the place in the path (C-18), 15 where there is
+    /// none.
     pub fn lookup(&self, path: &[u8]) -> Result<u64, Refusal> {
-        if let Some(place) = path_fault(path) {
+        if let Some(place) = self.edition.path_fault(path) {
             return Err((14, place));
         }
         let there = |number: &u64| {
@@ -325,7 +336,29 @@ fn refused(number: u32, place: u64) -> Vec<u8> {
     format!("refused {number} {place}\n").into_bytes()
 }
 
-/// "path, a space, type word, a space, count"; 21 for a path above 65,536 bytes, which "looks only at the nodes listed".
+/// How the listers print a path (C-15): "a name's byte below 33, above 126 or equal to 92 as `\x` with two small hex digits", any other as it is. The slash
+/// between two names is none of these bytes.
+pub fn shown(path: &[u8]) -> Vec<u8> {
+    let mut shown = Vec::new();
+    for byte in path {
+        match byte {
+            33..=91 | 93..=126 => shown.push(*byte),
+            _ => shown.extend(format!("\\x{byte:02x}").into_bytes()),
+        }
+    }
+    shown
+}
+
+/// "path, a space, type word, a space, count", without the line feed.
+pub fn line(reader: &Reader, number: u64) -> Result<Vec<u8>, u32> {
+    let mut line = shown(&reader.path(number)?);
+    let word = reader.kind(number)?.word();
+    line.extend(format!(" {word} {}", reader.count(number)?).into_bytes());
+    Ok(line)
+}
+
+/// The lines of the nodes listed; 21 for a path above 65,536 bytes, which "looks only at the nodes listed" and counts the path itself, not what is
+/// printed of it.
 fn lines(passed: &Passed, choice: Choice) -> Result<Vec<u8>, u32> {
     let reader = judged(passed)?;
     let listed = reader.listed(choice);
@@ -336,9 +369,8 @@ fn lines(passed: &Passed, choice: Choice) -> Result<Vec<u8>, u32> {
         }
     }
     for number in listed {
-        output.extend(reader.path(number)?);
-        let word = reader.kind(number)?.word();
-        output.extend(format!(" {word} {}\n", reader.count(number)?).into_bytes());
+        output.extend(line(&reader, number)?);
+        output.push(b'\n');
     }
     Ok(output)
 }

@@ -11,6 +11,9 @@ const LARGEST: usize = 3000;
 /// At most so many elements of a node are written.
 const ELEMENTS: u64 = 8;
 
+/// Bytes of the area that the program writes a line to. It then looks up all of it, so a zero comes after the line.
+const LINE: usize = 131_072;
+
 /// Images one after another, each after its length in 4 bytes, and the answers.
 pub struct Sample {
     pub input: Vec<u8>,
@@ -33,7 +36,7 @@ pub fn sample(seed: u64, count: usize) -> Result<Sample, u32> {
 }
 
 /// The refusal with both its places, or a line for each node in listing order, as `listall` prints it; after it the first elements, and what lookup
-/// answers to that line.
+/// answers to that line with a zero after it.
 fn answer(image: &[u8]) -> Result<Vec<u8>, u32> {
     match open(image, &form_for(image)) {
         Err(refused) => {
@@ -53,20 +56,23 @@ fn nodes(passed: &Passed) -> Result<Vec<u8>, u32> {
     let reader = answers::judged(passed)?;
     let mut output = Vec::new();
     for number in reader.order() {
-        let count = reader.count(number)?;
-        let mut line = reader.path(number)?;
-        line.extend(format!(" {} {count}", reader.kind(number)?.word()).into_bytes());
+        let mut line = answers::line(&reader, number)?;
+        assert!(
+            line.len() < LINE,
+            "the program has an area of so many bytes"
+        );
         output.extend(&line);
-        for index in 0..count.min(ELEMENTS) {
+        for index in 0..reader.count(number)?.min(ELEMENTS) {
             output.extend(element(reader.element(number, index)?).into_bytes());
         }
+        line.push(0);
         output.extend(found(reader.lookup(&line)).into_bytes());
         output.push(b'\n');
     }
     Ok(output)
 }
 
-/// The line of a node is no path: 14, reported the place of its first blank.
+/// The line of a node and a zero are no path: 14, reported the place of the first blank, in edition 3 that of the zero.
 fn found(reported: Result<u64, Refusal>) -> String {
     match reported {
         Ok(node) => format!(" {node}"),

@@ -2,11 +2,9 @@
 //! the fault lies after them. The base is a lawful image whose sections do not overlap, so that number and place are known beforehand.
 //! A symbol table that lost its last zero may still be lawful (request C-13); then the image is aimed at being accepted.
 
-use crate::format::{big, is_subkey, Edition, Kind, MOST, SIGNATURE, TEXT};
-use crate::images::{apart, image, Aim, Draft, Image, Node, DATA, SYMBOLS, TREE};
-use crate::images::{
-    draft, insert_string, malformed, new_name, plain, sum_again, sum_header, tables, with_data,
-};
+use crate::format::{big, Edition, Kind, DATA, MOST, SIGNATURE, SYMBOLS, TEXT, TREE};
+use crate::images::{apart, draft, image, insert_string, malformed, new_name, plain, sum_again};
+use crate::images::{sum_header, tables, tables_of, with_data, Aim, Draft, Image, Node};
 use crate::md5::md5;
 use crate::open::{Refused, Span};
 use crate::random::Random;
@@ -14,12 +12,13 @@ use std::collections::HashSet;
 
 type Damage = fn(&Random) -> Image;
 
-const DAMAGES: [(&str, Damage); 21] = [
+const DAMAGES: [(&str, Damage); 22] = [
     ("short", short),
     ("text", text),
     ("form", form),
     ("header byte", header_byte),
     ("header sum", header_sum),
+    ("header order", header_order),
     ("section outside", outside),
     ("section sum", section_sum),
     ("last zero", last_zero),
@@ -90,7 +89,7 @@ fn change(random: &Random, bytes: &mut [u8], place: usize) {
     bytes[place] ^= 1 + random.below(255) as u8;
 }
 
-/// 2: "shorter than 144, or than 168 in edition 2"; with the first byte zero, 3 from 144 on.
+/// 2: "shorter than 144, or than 168 in edition 2", and in edition 3; with the first byte zero, 3 from 144 on.
 fn short(random: &Random) -> Image {
     let draft = plain(random);
     let edition = draft.edition;
@@ -114,30 +113,37 @@ fn short(random: &Random) -> Image {
     unknown(bytes, &format!("{length} bytes"))
 }
 
-/// 3: "unknown signature text". Another edition's text is known.
+/// 3: "unknown signature text". Another edition's text is known; some of those images have its header sum.
 fn text(random: &Random) -> Image {
     let mut bytes = plain(random).finish();
-    let place = match random.one_in(4) {
-        true => 17,
-        false => random.below(TEXT),
-    };
-    match random.one_in(3) {
-        true => bytes[place] = random.pick(&[0, b'1', b'2', b' ', b'3', b'L']),
+    let place = random.pick(&[17, 17, 19, random.below(TEXT), random.below(TEXT)]);
+    match random.one_in(2) {
+        true => bytes[place] = random.pick(b"01234 L\0"),
         false => change(random, &mut bytes, place),
     }
+    let what = format!("byte {place} is {}", bytes[place]);
     match Edition::from_text(&bytes) {
-        None => aimed(bytes, 3, 0, &format!("byte {place}")),
-        Some(_) => unknown(bytes, &format!("byte {place}")),
+        None => aimed(bytes, 3, 0, &what),
+        Some(edition) => {
+            if bytes.len() >= edition.header() && random.one_in(2) {
+                sum_header(&mut bytes, edition);
+            }
+            unknown(bytes, &what)
+        }
     }
 }
 
-/// 4: "the other 12 signature bytes differ from those lent", with the header sum right or wrong.
+/// 4: "the other 12 signature bytes differ from those lent", with the header sum right or wrong. The first of them is the zero that ends the text.
 fn form(random: &Random) -> Image {
     let draft = plain(random);
     let edition = draft.edition;
     let mut bytes = draft.finish();
-    let place = random.between(TEXT, SIGNATURE - 1);
-    change(random, &mut bytes, place);
+    let any = random.between(TEXT, SIGNATURE - 1);
+    let place = random.pick(&[TEXT, any, any, any]);
+    match place == TEXT && random.one_in(2) {
+        true => bytes[place] = b'.',
+        false => change(random, &mut bytes, place),
+    }
     if random.one_in(2) {
         sum_header(&mut bytes, edition);
     }
@@ -182,6 +188,38 @@ fn header_sum(random: &Random) -> Image {
     aimed(bytes, 5, 0, &format!("way {way}"))
 }
 
+/// The section headers in another order than the edition's, mostly that of edition 3 in the others and theirs in edition 3, with right sums. Then edition
+/// 3 takes the tree table for the symbol table. Each entry has six zeros or more in its parent's number, so there are more strings than entries: 25 or 26.
+fn header_order(random: &Random) -> Image {
+    let draft = plain(random);
+    let (edition, nodes) = (draft.edition, draft.nodes.len());
+    let tree = draft.tree();
+    let mut bytes = draft.finish();
+    let (exchanged, turned) = match edition {
+        Edition::Three => ([1, 2, 0], [2, 0, 1]),
+        Edition::One | Edition::Two => ([2, 0, 1], [1, 2, 0]),
+    };
+    let any = random.pick(&[turned, [0, 2, 1], [1, 0, 2], [2, 1, 0]]);
+    let order = random.pick(&[exchanged, exchanged, any]);
+    let size = edition.section_header();
+    let headers = bytes[SIGNATURE..edition.summed()].to_vec();
+    for (rank, from) in order.into_iter().enumerate() {
+        let header = &headers[from * size..][..size];
+        bytes[SIGNATURE + rank * size..][..size].copy_from_slice(header);
+    }
+    sum_header(&mut bytes, edition);
+    let what = format!("edition {}: {order:?}, {nodes} nodes", edition.number());
+    if edition != Edition::Three || order != exchanged || nodes == 0 {
+        return unknown(bytes, &what);
+    }
+    let zeros = tree.iter().filter(|byte| **byte == 0).count();
+    let strings = zeros + usize::from(!tree.ends_with(&[0]));
+    match strings > MOST {
+        true => aimed(bytes, 25, MOST as u64, &what),
+        false => aimed(bytes, 26, 0, &what),
+    }
+}
+
 /// A section that ends past an image of the given length. The sum of some of them wraps at 2^64 or at 2^32.
 fn far(random: &Random, length: u64, old: Span) -> Span {
     let small = random.below(length as usize) as u64;
@@ -205,7 +243,7 @@ fn far(random: &Random, length: u64, old: Span) -> Span {
     Span { offset, size }
 }
 
-/// 6: "a section ends past the image", reported the first of them.
+/// 6: "a section ends past the image", reported the first of them in the order symbol, tree, data.
 fn outside(random: &Random) -> Image {
     let mut draft = plain(random);
     let sections = random.some_of(3);
@@ -223,7 +261,7 @@ fn outside(random: &Random) -> Image {
     aimed(draft.bytes, 6, sections[0] as u64 + 1, &what)
 }
 
-/// 7: "a section's sum wrong", reported the first of them: a byte of the sum or of the section is another. Faults of the tables are
+/// 7: "a section's sum wrong", reported the first of them in that order: a byte of the sum or of the section is another. Faults of the tables are
 /// checked later.
 fn section_sum(random: &Random) -> Image {
     let mut draft = tables(random);
@@ -253,6 +291,9 @@ fn placed(random: &Random, mut draft: Draft) -> Draft {
     with_data(random, &mut draft);
     draft
 }
+
+/// The editions that have counts.
+const COUNTED: [Edition; 2] = [Edition::Two, Edition::Three];
 
 /// A count that differs from the right one.
 fn other_count(random: &Random, right: u64) -> u64 {
@@ -296,7 +337,7 @@ fn no_numbers(random: &Random, draft: &mut Draft) {
 }
 
 /// The last zero of a whole table is taken away. The section is one byte shorter: then the last string has no zero or, where it was the
-/// empty one, it is gone, and edition 2's count differs: 26. Or the zero is another byte, which the last string then has at its end: it may be an
+/// empty one, it is gone, and the count differs: 26. Or the zero is another byte, which the last string then has at its end: it may be an
 /// earlier string, 27, or no subkey, 10 if a node has it, which then had a subkey: the new byte is the first that breaks the rule. The counts are
 /// those of the table before.
 fn last_zero(random: &Random) -> Image {
@@ -307,7 +348,7 @@ fn last_zero(random: &Random) -> Image {
         let string = if empty {
             Vec::new()
         } else {
-            new_name(random, &draft.strings)
+            new_name(random, draft.edition, &draft.strings)
         };
         draft.strings.push(string);
         draft.records[SYMBOLS] = draft.strings.len() as u64;
@@ -316,7 +357,7 @@ fn last_zero(random: &Random) -> Image {
     let (edition, last) = (draft.edition, draft.strings.len() - 1);
     if random.one_in(2) {
         draft.spans[SYMBOLS].size -= 1;
-        if draft.strings[last].is_empty() && edition == Edition::Two {
+        if draft.strings[last].is_empty() && edition.has_counts() {
             return aimed(draft.finish(), 26, 0, "shorter by the last, empty string");
         }
         return accepted(draft, "shorter by one");
@@ -344,7 +385,7 @@ fn last_zero(random: &Random) -> Image {
     let what = format!("{byte} in its place");
     match user {
         _ if earlier => aimed(bytes, 27, last as u64, &what),
-        Some(node) if !is_subkey(&string) => {
+        Some(node) if !edition.is_subkey(&string) => {
             aimed_at_node(bytes, node, string.len() as u64 - 1, &what)
         }
         _ => Image {
@@ -372,13 +413,14 @@ fn name_not_ended(random: &Random) -> Image {
     if draft.strings.len() == MOST {
         return accepted(placed(random, draft), "2,048 strings");
     }
-    let (no_subkey, place) = malformed(random);
+    let edition = draft.edition;
+    let (no_subkey, place) = malformed(random, edition);
     let way = random.below(5);
     let string = match way {
         1..=2 if !draft.strings.contains(&no_subkey) => no_subkey,
-        _ => new_name(random, &draft.strings),
+        _ => new_name(random, edition, &draft.strings),
     };
-    let lawful = is_subkey(&string);
+    let lawful = edition.is_subkey(&string);
     let last = draft.strings.len() as u32;
     draft.strings.push(string);
     draft.records[SYMBOLS] = u64::from(last) + 1;
@@ -432,7 +474,7 @@ fn grow(random: &Random, draft: &mut Draft) {
         0 => draft.strings.resize(size, Vec::new()),
         1 => {
             draft.strings.resize(size - 1, Vec::new());
-            draft.strings.push(new_name(random, &[]));
+            draft.strings.push(new_name(random, draft.edition, &[]));
         }
         2..=3 => fill(draft, size),
         _ => {
@@ -451,11 +493,10 @@ fn fill(draft: &mut Draft, size: usize) {
     draft.strings.extend(new.take(more));
 }
 
-/// 26: "count differs", reported 0; only edition 2 has a count. A repeated string is checked later.
+/// 26: "count differs", reported 0; edition 1 has no count. A repeated string is checked later.
 fn symbol_count(random: &Random) -> Image {
-    let mut draft = tables(random);
+    let mut draft = tables_of(random, random.pick(&COUNTED));
     draft.unterminated = !random.one_in(3);
-    draft.edition = Edition::Two;
     let repeated = random.one_in(3);
     if repeated {
         shorten(&mut draft);
@@ -539,7 +580,7 @@ fn last_as_first(draft: &mut Draft) -> usize {
 
 /// Makes all strings equal: string 1 equals string 0.
 fn all_equal(random: &Random, draft: &mut Draft) -> usize {
-    let string = random.pick(&[Vec::new(), new_name(random, &[])]);
+    let string = random.pick(&[Vec::new(), new_name(random, draft.edition, &[])]);
     draft.strings = vec![string; random.pick(&[2, 3, MOST])];
     1
 }
@@ -571,8 +612,8 @@ fn tree_table(random: &Random) -> Image {
         }
         3 => too_many(random),
         _ => {
-            draft.edition = Edition::Two;
-            draft.records[TREE] = other_count(random, nodes as u64);
+            let mut draft = tables_of(random, random.pick(&COUNTED));
+            draft.records[TREE] = other_count(random, draft.nodes.len() as u64);
             let bytes = placed(random, draft).finish();
             aimed(bytes, 9, 0, "count")
         }
@@ -604,7 +645,8 @@ fn too_many(random: &Random) -> Image {
         offset: 0,
     };
     let nodes = (0..MOST).map(node).collect();
-    let mut draft = draft(random, vec![b"n".to_vec()], nodes);
+    let edition = random.pick(&Edition::ALL);
+    let mut draft = draft(random, edition, vec![b"n".to_vec()], nodes);
     let size = random.pick(&[1, 12, 13, 25, 26]);
     draft.tail = random.bytes(size);
     draft.tail[0] = random.pick(&[0, 1, 2, 6]);
@@ -627,7 +669,7 @@ fn flaw(random: &Random, draft: &mut Draft) -> Flaw {
         0..=1 => return Flaw::None,
         2 => return Flaw::NoString,
         3 => (Vec::new(), 0),
-        _ => malformed(random),
+        _ => malformed(random, draft.edition),
     };
     if !draft.strings.contains(&string) {
         if draft.strings.len() == MOST {
@@ -854,9 +896,10 @@ fn loose(random: &Random) -> Image {
 
 /// Few names and few parents drawn freely: rings, twins and missing numbers beside each other.
 fn loose_tables(random: &Random) -> Image {
+    let edition = random.pick(&Edition::ALL);
     let mut strings: Vec<Vec<u8>> = Vec::new();
     for _ in 0..random.between(1, 5) {
-        strings.push(new_name(random, &strings));
+        strings.push(new_name(random, edition, &strings));
     }
     let nodes = random.between(1, 9);
     let wild = random.pick(&[1, 12, 40]);
@@ -880,7 +923,7 @@ fn loose_tables(random: &Random) -> Image {
         }
         entries.push(node);
     }
-    let draft = draft(random, strings, entries);
+    let draft = draft(random, edition, strings, entries);
     let bytes = placed(random, draft).finish();
     unknown(bytes, "")
 }

@@ -1,4 +1,5 @@
-//! The layout of a file, from document 01, "Layout of a file": editions, kinds, numbers, subkeys, the 12 signature bytes.
+//! The layout of a file: editions, kinds, numbers, subkeys, the 12 signature bytes. Editions 1 and 2 from document 01, "Layout of a file"; edition 3 from
+//! request C-15 and sections 5 and 6 of source document 000.
 
 /// Document 01, "Sizes".
 pub const LONGEST_IMAGE: u64 = 2_147_483_647;
@@ -8,11 +9,17 @@ pub const MOST: usize = 2048;
 /// Number and place of a refused call, from the table "Numbers handed back" and request C-18. Opening has its own: see `open.rs`.
 pub type Refusal = (u32, u64);
 
-/// An edition of the format: the table at the head of "Layout of a file".
-#[derive(Clone, Copy, PartialEq, Eq, Debug)]
+/// The sections, by their numbers here. 6 and 7 report one more (1 symbol, 2 tree, 3 data), and the checks go in this order, in every edition.
+pub const SYMBOLS: usize = 0;
+pub const TREE: usize = 1;
+pub const DATA: usize = 2;
+
+/// An edition of the format: the table at the head of 01's "Layout of a file"; 000's tables 2, 4 and 5 for edition 3.
+#[derive(Clone, Copy, PartialEq, Eq, PartialOrd, Ord, Debug)]
 pub enum Edition {
     One,
     Two,
+    Three,
 }
 
 /// Bytes of the signature's text and of the whole signature.
@@ -20,55 +27,80 @@ pub const TEXT: usize = 20;
 pub const SIGNATURE: usize = 32;
 
 impl Edition {
-    pub fn from_number(number: u64) -> Option<Edition> {
-        match number {
-            1 => Some(Edition::One),
-            2 => Some(Edition::Two),
-            _ => None,
-        }
-    }
+    pub const ALL: [Edition; 3] = [Edition::One, Edition::Two, Edition::Three];
+    /// Those that the writer writes (C-15).
+    pub const WRITTEN: [Edition; 2] = [Edition::Two, Edition::Three];
 
     pub fn number(self) -> u64 {
         match self {
             Edition::One => 1,
             Edition::Two => 2,
+            Edition::Three => 3,
         }
     }
 
+    pub fn from_number(number: u64) -> Option<Edition> {
+        Edition::ALL.into_iter().find(|e| e.number() == number)
+    }
+
+    /// The edition of a number, where it is a written one.
+    pub fn written(number: u64) -> Option<Edition> {
+        Edition::WRITTEN.into_iter().find(|e| e.number() == number)
+    }
+
+    /// 000's table 4.
     pub fn text(self) -> &'static [u8; TEXT] {
         match self {
             Edition::One => b"LHPC AFF version 1.0",
             Edition::Two => b"LHPC AFF version 2.0",
+            Edition::Three => b"LHPC AFF version 3.0",
         }
     }
 
     /// The edition whose text the first 20 bytes are.
     pub fn from_text(image: &[u8]) -> Option<Edition> {
-        let both = [Edition::One, Edition::Two];
-        both.into_iter().find(|e| image.starts_with(e.text()))
+        let mut all = Edition::ALL.into_iter();
+        all.find(|e| image.starts_with(e.text()))
     }
 
-    /// A section header is offset (8), size (8), record count (8, in edition 2 only), MD5 (16).
+    /// Whether a section header has a record count: "8, in edition 2 only"; 000's table 5 has it for "V2, V3".
+    pub fn has_counts(self) -> bool {
+        self != Edition::One
+    }
+
+    /// A section header is offset (8), size (8), record count (8, where there is one), MD5 (16).
     pub fn section_header(self) -> usize {
-        match self {
-            Edition::One => 32,
-            Edition::Two => 40,
+        match self.has_counts() {
+            false => 32,
+            true => 40,
         }
     }
 
-    /// Place of the header of a section: 0 symbol, 1 tree, 2 data.
+    /// The sections in the order of their headers: 01 has symbol, tree, data; 000's table 2 has data, symbol table, tree.
+    pub fn header_order(self) -> [usize; 3] {
+        match self {
+            Edition::One | Edition::Two => [SYMBOLS, TREE, DATA],
+            Edition::Three => [DATA, SYMBOLS, TREE],
+        }
+    }
+
+    /// Place of the header of a section.
     pub fn place_of(self, section: usize) -> usize {
-        SIGNATURE + section * self.section_header()
+        let before = self
+            .header_order()
+            .into_iter()
+            .take_while(|s| *s != section);
+        SIGNATURE + before.count() * self.section_header()
     }
 
     /// Place of the sum of a section.
     pub fn place_of_sum(self, section: usize) -> usize {
-        self.place_of(section + 1) - 16
+        self.place_of(section) + self.section_header() - 16
     }
 
     /// "The header sum is the MD5 of all header bytes before it: 128 or 152."
     pub fn summed(self) -> usize {
-        self.place_of(3)
+        SIGNATURE + 3 * self.section_header()
     }
 
     /// The whole header: 144 or 168.
@@ -76,15 +108,71 @@ impl Edition {
         self.summed() + 16
     }
 
-    /// The other 12 signature bytes (003, table 3): the text's zero, bits, radix, mantissa, exponents, header size.
+    /// The other 12 signature bytes (table 3): the text's zero, bits, radix, mantissa, exponents, header size.
     pub fn form(self) -> [u8; 12] {
         let mut form = [0, 64, 2, 53, 4, 0, 3, 253, 0, 0, 0, 0];
         form[11] = self.header() as u8;
         form
     }
+
+    /// Whether a byte may be the first of a subkey. 01: "a letter A-Z or a-z, `_` or `:`". C-15: "any byte but `/` and the zero that ends strings".
+    fn may_begin(self, byte: u8) -> bool {
+        match self {
+            Edition::One | Edition::Two => {
+                byte.is_ascii_alphabetic() || byte == b'_' || byte == b':'
+            }
+            Edition::Three => byte != b'/' && byte != 0,
+        }
+    }
+
+    /// Whether a byte may be a later one. 01: "any of letters, digits, `.`, `-`, `_`, `:`". C-15 has one rule for all bytes.
+    fn may_follow(self, byte: u8) -> bool {
+        match self {
+            Edition::One | Edition::Two => {
+                self.may_begin(byte) || byte.is_ascii_digit() || byte == b'.' || byte == b'-'
+            }
+            Edition::Three => self.may_begin(byte),
+        }
+    }
+
+    /// Where a name is no subkey of this edition, C-18: "the place of the first byte that breaks it, or, where the subkey is empty, the place at which
+    /// it would begin", which is 0 in the name.
+    pub fn subkey_fault(self, name: &[u8]) -> Option<u64> {
+        match name.split_first() {
+            None => Some(0),
+            Some((head, _)) if !self.may_begin(*head) => Some(0),
+            Some((_, tail)) => {
+                let breaks = tail.iter().position(|byte| !self.may_follow(*byte));
+                breaks.map(|place| place as u64 + 1)
+            }
+        }
+    }
+
+    pub fn is_subkey(self, name: &[u8]) -> bool {
+        self.subkey_fault(name).is_none()
+    }
+
+    /// "A path is `/` alone, or one or more times `/` and a subkey." Where it is none, the place in the path of the first subkey's fault; C-18: "A path
+    /// that lacks its first slash tells 0."
+    pub fn path_fault(self, path: &[u8]) -> Option<u64> {
+        if path == b"/" {
+            return None;
+        }
+        let Some((b'/', rest)) = path.split_first() else {
+            return Some(0);
+        };
+        let mut begin = 1;
+        for subkey in rest.split(|byte| *byte == b'/') {
+            if let Some(place) = self.subkey_fault(subkey) {
+                return Some(begin + place);
+            }
+            begin += subkey.len() as u64 + 1;
+        }
+        None
+    }
 }
 
-/// The form that the programs pass: edition 1's where the text is edition 1's, else edition 2's.
+/// The form that the programs pass: edition 1's where the text is edition 1's, else edition 2's, which is edition 3's as well.
 pub fn form_for(image: &[u8]) -> [u8; 12] {
     Edition::from_text(image).unwrap_or(Edition::Two).form()
 }
@@ -188,42 +276,4 @@ pub fn big(bytes: &[u8], place: usize, width: usize) -> u64 {
     bytes[place..place + width]
         .iter()
         .fold(0, |number, byte| number << 8 | u64::from(*byte))
-}
-
-/// "A subkey is a letter A-Z or a-z, `_` or `:`, followed by any of letters, digits, `.`, `-`, `_`, `:`." Where a name is none, C-18: "the place of
-/// the first byte that breaks it, or, where the subkey is empty, the place at which it would begin", which is 0 in the name.
-pub fn subkey_fault(name: &[u8]) -> Option<u64> {
-    let first = |byte: u8| byte.is_ascii_alphabetic() || byte == b'_' || byte == b':';
-    let later = |byte: u8| first(byte) || byte.is_ascii_digit() || byte == b'.' || byte == b'-';
-    match name.split_first() {
-        None => Some(0),
-        Some((head, _)) if !first(*head) => Some(0),
-        Some((_, tail)) => {
-            let breaks = tail.iter().position(|byte| !later(*byte));
-            breaks.map(|place| place as u64 + 1)
-        }
-    }
-}
-
-pub fn is_subkey(name: &[u8]) -> bool {
-    subkey_fault(name).is_none()
-}
-
-/// "A path is `/` alone, or one or more times `/` and a subkey." Where it is none, the place in the path of the first subkey's fault; C-18: "A path that
-/// lacks its first slash tells 0."
-pub fn path_fault(path: &[u8]) -> Option<u64> {
-    if path == b"/" {
-        return None;
-    }
-    let Some((b'/', rest)) = path.split_first() else {
-        return Some(0);
-    };
-    let mut begin = 1;
-    for subkey in rest.split(|byte| *byte == b'/') {
-        if let Some(place) = subkey_fault(subkey) {
-            return Some(begin + place);
-        }
-        begin += subkey.len() as u64 + 1;
-    }
-    None
 }

@@ -1,7 +1,7 @@
-//! Lawful images of both editions: random trees, names, kinds, and places of the sections. `damage.rs` spoils them.
+//! Lawful images of all editions: random trees, names, kinds, and places of the sections. `damage.rs` spoils them.
 
 use crate::damage;
-use crate::format::{is_subkey, Edition, Kind, MOST, SIGNATURE, TEXT};
+use crate::format::{Edition, Kind, DATA, MOST, SIGNATURE, SYMBOLS, TEXT, TREE};
 use crate::md5::md5;
 use crate::open::{Refused, Span};
 use crate::random::Random;
@@ -69,10 +69,6 @@ pub struct Draft {
     pub records: [u64; 3],
 }
 
-pub const SYMBOLS: usize = 0;
-pub const TREE: usize = 1;
-pub const DATA: usize = 2;
-
 impl Draft {
     pub fn symbols(&self) -> Vec<u8> {
         let ended = |string: &Vec<u8>| [string.as_slice(), &[0]].concat();
@@ -116,7 +112,7 @@ impl Draft {
             let place = self.edition.place_of(section);
             self.put(place, &self.spans[section].offset.to_be_bytes());
             self.put(place + 8, &self.spans[section].size.to_be_bytes());
-            if self.edition == Edition::Two {
+            if self.edition.has_counts() {
                 self.put(place + 16, &self.records[section].to_be_bytes());
             }
         }
@@ -168,23 +164,69 @@ fn shape(random: &Random) -> Vec<u64> {
 const FIRST: &[u8] = b"ABCXYZabcxyzqQ_:";
 const LATER: &[u8] = b"ABCXYZabcxyz0189.-_:";
 
-/// A random subkey; a few in a hundred are long.
-pub fn subkey(random: &Random) -> Vec<u8> {
+/// Names that only edition 3 has (C-15). Some are like the listers' escapes, or like the end of a line.
+pub const WIDE_NAMES: [&[u8]; 26] = [
+    b"9a",
+    b"0",
+    b".",
+    b"..",
+    b"-",
+    b" ",
+    b"  ",
+    b"a b",
+    b"a ",
+    b"\n",
+    b"a\n",
+    b"\r\n",
+    b"\t",
+    b"\\",
+    b"\\x20",
+    b"\\x5c",
+    b"0x20",
+    b"\x01",
+    b"\x7f",
+    b"~",
+    b"\xff",
+    b"\xc3\xa9",
+    b"p x=\xff\\",
+    b" void 0",
+    b"momentum,1",
+    b"LHPC AFF version 3.0",
+];
+
+/// Bytes at the bounds of what the listers print as it is, and at those of the narrow names. Any other but `/` and zero is drawn besides.
+const WIDE: &[u8] = b"\x01\x02\t\n\x1e\x1f !\"#-.09:;@AZ[\\]^_`az{|}~\x7f\x80\x81\xfe\xff";
+
+/// Any byte of a subkey of edition 3.
+fn wide_byte(random: &Random) -> u8 {
+    let any = match 1 + random.below(254) as u8 {
+        b'/' => 255,
+        byte => byte,
+    };
+    random.pick(&[random.pick(WIDE), any])
+}
+
+/// A random subkey of an edition; a few in a hundred are long. In edition 3 a third are those of the other editions.
+pub fn subkey(random: &Random, edition: Edition) -> Vec<u8> {
     let length = match random.below(40) {
         0 => random.between(20, 70),
         1..=30 => random.below(3),
         _ => random.below(8),
     };
-    let mut name = vec![random.pick(FIRST)];
-    for _ in 0..length {
-        name.push(random.pick(LATER));
+    let wide = edition == Edition::Three;
+    match random.below(6) {
+        0 if wide => random.pick(&WIDE_NAMES).to_vec(),
+        1..=3 if wide => (0..=length).map(|_| wide_byte(random)).collect(),
+        _ => {
+            let later = (0..length).map(|_| random.pick(LATER));
+            [random.pick(FIRST)].into_iter().chain(later).collect()
+        }
     }
-    name
 }
 
-/// Strings that are no subkeys: each may stand in the table while no node has it for its name. With each the place of the first byte that breaks the
-/// rule (C-18), by hand.
-pub const NO_SUBKEYS: [(&[u8], u64); 16] = [
+/// Strings that are no subkeys of an edition: each may stand in the table while no node has it for its name. With each the place of the first byte that
+/// breaks the rule (C-18), by hand.
+const NO_NARROW: [(&[u8], u64); 18] = [
     (b"", 0),
     (b"9a", 0),
     (b".a", 0),
@@ -201,25 +243,42 @@ pub const NO_SUBKEYS: [(&[u8], u64); 16] = [
     (b"[", 0),
     (b"momentum,1", 8),
     (b"a.b c d", 3),
+    (b"..", 0),
+    (b"a\\n", 1),
+];
+const NO_WIDE: [(&[u8], u64); 9] = [
+    (b"", 0),
+    (b"/", 0),
+    (b"//", 0),
+    (b"/a", 0),
+    (b"a/", 1),
+    (b"a/b", 1),
+    (b" /", 1),
+    (b"9\n\\/x", 3),
+    (b"momentum,1/x/y", 10),
 ];
 
-/// Bytes that are in no subkey, other than zero. The first of them is not a subkey's, and neither is a digit, a dot or a minus.
+/// Bytes that are in no subkey of editions 1 and 2, other than zero. The first of them is not a subkey's, and neither is a digit, a dot or a minus.
 pub const NEVER: &[u8] = b" /,;@[`{\x01!\"#$%&'()*+<=>?\\]^|}~\x7f\x80\xe9\xff";
 const NEVER_FIRST: &[u8] = b"09.-";
 
-/// A string that is no subkey, and the place of the first byte that breaks the rule: one of the list, or a subkey with another byte in place of its
-/// first, its last or one between. Any bytes but zero may follow.
-pub fn malformed(random: &Random) -> (Vec<u8>, u64) {
+/// A string that is no subkey of an edition, and the place of the first byte that breaks the rule: one of the list, or a subkey with another byte in
+/// place of its first, its last or one between. Any bytes but zero may follow.
+pub fn malformed(random: &Random, edition: Edition) -> (Vec<u8>, u64) {
+    let (listed, never, never_first) = match edition {
+        Edition::One | Edition::Two => (NO_NARROW.as_slice(), NEVER, NEVER_FIRST),
+        Edition::Three => (NO_WIDE.as_slice(), b"/".as_slice(), b"".as_slice()),
+    };
     if random.one_in(3) {
-        let (string, place) = random.pick(&NO_SUBKEYS);
+        let (string, place) = random.pick(listed);
         return (string.to_vec(), place);
     }
-    let mut string = [subkey(random), vec![random.pick(LATER); 2]].concat();
+    let mut string = [subkey(random, edition), vec![random.pick(LATER); 2]].concat();
     let last = string.len() - 1;
     let place = random.pick(&[0, random.between(1, last - 1), last]);
     string[place] = match place {
-        0 => random.pick(&[NEVER, NEVER_FIRST].concat()),
-        _ => random.pick(NEVER),
+        0 => random.pick(&[never, never_first].concat()),
+        _ => random.pick(never),
     };
     for byte in &mut string[place + 1..] {
         if random.one_in(4) {
@@ -230,7 +289,7 @@ pub fn malformed(random: &Random) -> (Vec<u8>, u64) {
 }
 
 /// Gives each node a name: often one that a node elsewhere has, else a new one.
-fn named(random: &Random, parents: &[u64]) -> (Vec<Vec<u8>>, Vec<Node>) {
+fn named(random: &Random, edition: Edition, parents: &[u64]) -> (Vec<Vec<u8>>, Vec<Node>) {
     let mut strings: Vec<Vec<u8>> = Vec::new();
     let mut known = HashSet::new();
     let mut taken = HashSet::new();
@@ -239,7 +298,7 @@ fn named(random: &Random, parents: &[u64]) -> (Vec<Vec<u8>>, Vec<Node>) {
     for parent in parents {
         let mut string = random.below(strings.len().max(1));
         if random.one_in(reuse) || string >= strings.len() || taken.contains(&(*parent, string)) {
-            let mut name = subkey(random);
+            let mut name = subkey(random, edition);
             while !known.insert(name.clone()) {
                 name.push(random.pick(LATER));
             }
@@ -273,7 +332,7 @@ fn renumbered(random: &Random, nodes: Vec<Node>) -> Vec<Node> {
 }
 
 /// Adds strings that no node has, and shuffles the table.
-fn with_unused(random: &Random, strings: &mut Vec<Vec<u8>>, nodes: &mut [Node]) {
+fn with_unused(random: &Random, edition: Edition, strings: &mut Vec<Vec<u8>>, nodes: &mut [Node]) {
     let wanted = match random.below(40) {
         0 => MOST,
         1..=12 => strings.len() + random.below(12),
@@ -282,8 +341,8 @@ fn with_unused(random: &Random, strings: &mut Vec<Vec<u8>>, nodes: &mut [Node]) 
     let mut known: HashSet<Vec<u8>> = strings.iter().cloned().collect();
     while strings.len() < wanted.min(MOST) {
         let mut string = match random.one_in(2) {
-            true => malformed(random).0,
-            false => subkey(random),
+            true => malformed(random, edition).0,
+            false => subkey(random, edition),
         };
         while !known.insert(string.clone()) {
             string.push(1 + random.below(255) as u8);
@@ -301,15 +360,20 @@ fn with_unused(random: &Random, strings: &mut Vec<Vec<u8>>, nodes: &mut [Node]) 
     }
 }
 
-/// Random tables, not yet placed.
+/// Random tables of any edition, not yet placed.
 pub fn tables(random: &Random) -> Draft {
+    tables_of(random, random.pick(&Edition::ALL))
+}
+
+/// Random tables of an edition, not yet placed.
+pub fn tables_of(random: &Random, edition: Edition) -> Draft {
     let parents = shape(random);
-    let (mut strings, mut nodes) = named(random, &parents);
+    let (mut strings, mut nodes) = named(random, edition, &parents);
     if !random.one_in(3) {
         nodes = renumbered(random, nodes);
     }
-    with_unused(random, &mut strings, &mut nodes);
-    let mut draft = draft(random, strings, nodes);
+    with_unused(random, edition, &mut strings, &mut nodes);
+    let mut draft = draft(random, edition, strings, nodes);
     if random.one_in(3) {
         longer_before_last(random, &mut draft);
     }
@@ -339,11 +403,11 @@ pub fn insert_string(draft: &mut Draft, number: usize, string: Vec<u8>) {
     }
 }
 
-pub fn draft(random: &Random, strings: Vec<Vec<u8>>, nodes: Vec<Node>) -> Draft {
+pub fn draft(random: &Random, edition: Edition, strings: Vec<Vec<u8>>, nodes: Vec<Node>) -> Draft {
     let full = nodes.iter().filter(|node| !node.is_void()).count() as u64;
     let any = random.next();
     Draft {
-        edition: random.pick(&[Edition::One, Edition::Two]),
+        edition,
         records: [
             strings.len() as u64,
             nodes.len() as u64,
@@ -452,9 +516,12 @@ fn anywhere(random: &Random, draft: &mut Draft) {
             draft.spans[section].offset = random.between(0, length) as u64;
         }
     }
-    let head = draft.edition.header();
-    let free = draft.edition.place_of_sum(DATA);
-    let (start, end) = match random.below(14) {
+    let edition = draft.edition;
+    let head = edition.header();
+    // The data section is summed after the other two, so it may hold any header bytes but its own sum and the header's.
+    let free = edition.place_of_sum(DATA);
+    let after = free + 16;
+    let (start, end) = match random.below(16) {
         0 => (0, free),
         1 => (random.below(free), free),
         2 => (0, SIGNATURE),
@@ -470,6 +537,8 @@ fn anywhere(random: &Random, draft: &mut Draft) {
         }
         7 => ends(draft.spans[SYMBOLS]),
         8 => ends(draft.spans[TREE]),
+        9 => (after, edition.summed()),
+        10 => (random.between(after, edition.summed()), edition.summed()),
         _ => return,
     };
     draft.spans[DATA] = Span {
@@ -537,14 +606,16 @@ fn usual(random: &Random) -> Image {
 }
 
 /// The symbol section over the signature: the text is a string, with or without its zero, or the zero alone is one. Or the front of the
-/// text is a string: up to `LHPC` it is a subkey, the name of a chain of nodes.
+/// text is a string. Up to `LHPC` that is a subkey, the name of a chain of nodes; in edition 3 all of the text is one.
 fn over_signature(random: &Random) -> Image {
-    let edition = random.pick(&[Edition::One, Edition::Two]);
+    let edition = random.pick(&Edition::ALL);
+    let wide = edition == Edition::Three;
     let way = random.below(4);
+    let longest = if wide { TEXT } else { 4 };
     let (string, place) = match way {
         0..=1 => (edition.text().to_vec(), 0),
         2 => (Vec::new(), TEXT),
-        _ => (edition.text()[..random.between(1, 4)].to_vec(), 0),
+        _ => (edition.text()[..random.between(1, longest)].to_vec(), 0),
     };
     let node = |parent: usize| Node {
         code: Kind::Void.code(),
@@ -553,21 +624,24 @@ fn over_signature(random: &Random) -> Image {
         count: 0,
         offset: 0,
     };
-    let nodes = if way == 3 { random.below(4) } else { 0 };
-    let mut draft = draft(random, vec![string], (0..nodes).map(node).collect());
-    draft.edition = edition;
+    let nodes = match edition.is_subkey(&string) {
+        true => random.below(4),
+        false => 0,
+    };
+    let nodes = (0..nodes).map(node).collect();
+    let mut draft = draft(random, edition, vec![string], nodes);
     draft.unterminated |= way == 3;
     apart(random, &mut draft);
     draft.spans[SYMBOLS].offset = place as u64;
     lawful(draft, "symbols over the signature")
 }
 
-/// The tree section inside the data header of edition 2: the type is the last byte of the data offset, the parent is the
+/// The tree section inside the data header of an edition that has counts: the type is the last byte of the data offset, the parent is the
 /// data size, the string number is the upper half of the data count.
 fn over_header(random: &Random) -> Image {
     let names = random.between(1, 6);
-    let mut draft = tables(random);
-    draft.edition = Edition::Two;
+    let edition = random.pick(&[Edition::Two, Edition::Three]);
+    let mut draft = tables_of(random, edition);
     draft.strings = (0..names).map(|i| format!("n{i}").into_bytes()).collect();
     let string = random.below(names) as u32;
     draft.nodes = vec![Node {
@@ -585,7 +659,7 @@ fn over_header(random: &Random) -> Image {
     apart(random, &mut draft);
     draft.spans[DATA] = Span { offset: 1, size: 0 };
     draft.spans[TREE] = Span {
-        offset: Edition::Two.place_of(DATA) as u64 + 7,
+        offset: edition.place_of(DATA) as u64 + 7,
         size: 13,
     };
     lawful(draft, "tree over the data header")
@@ -627,7 +701,8 @@ fn sharing(random: &Random) -> Image {
 
 /// No node: "room 168 takes an empty tree". A header alone is a file.
 fn lawful_empty(random: &Random) -> Image {
-    let mut draft = draft(random, Vec::new(), Vec::new());
+    let edition = random.pick(&Edition::ALL);
+    let mut draft = draft(random, edition, Vec::new(), Vec::new());
     let length = draft.edition.header() + random.pick(&[0, 0, 1, 24]);
     draft.bytes = random.bytes(length);
     for span in &mut draft.spans {
@@ -637,9 +712,20 @@ fn lawful_empty(random: &Random) -> Image {
 }
 
 /// A chain whose last path has a length near the listers' limit of 65,536: one byte less, the same, one byte more. All its nodes are
-/// Void, or all but the last or another one (C-12: "21 looks only at the nodes listed").
+/// Void, or all but the last or another one (C-12: "21 looks only at the nodes listed"). In edition 3 the listers may print each byte of a name as four,
+/// which the limit does not count; such a chain is shorter, since all its lines together are long.
 fn long_path(random: &Random) -> Image {
-    let nodes = random.pick(&[16, 64, 256, 1024]);
+    let edition = random.pick(&Edition::ALL);
+    let (one, two) = match edition {
+        Edition::One | Edition::Two => (b'p', b'q'),
+        Edition::Three => {
+            random.pick(&[(b'p', b'q'), (1, 2), (1, b'q'), (255, b'\\'), (b' ', b'.')])
+        }
+    };
+    let nodes = match one {
+        b'p' => random.pick(&[16, 64, 256, 1024]),
+        _ => random.pick(&[16, 64, 256]),
+    };
     let subkey = 65_536 / nodes - 1;
     let more = random.below(3);
     let full = random.pick(&[
@@ -648,7 +734,7 @@ fn long_path(random: &Random) -> Image {
         Some(nodes - 1),
         Some(random.below(nodes)),
     ]);
-    let strings = vec![vec![b'p'; subkey], vec![b'q'; subkey - 1 + more]];
+    let strings = vec![vec![one; subkey], vec![two; subkey - 1 + more]];
     let node = |i: usize| Node {
         code: if full == Some(i) {
             Kind::Int.code()
@@ -661,7 +747,7 @@ fn long_path(random: &Random) -> Image {
         offset: 0,
     };
     let nodes = (0..nodes).map(node).collect();
-    let mut draft = draft(random, strings, nodes);
+    let mut draft = draft(random, edition, strings, nodes);
     apart(random, &mut draft);
     with_data(random, &mut draft);
     lawful(draft, "path near the listers' limit")
@@ -692,12 +778,12 @@ pub fn image(seed: u64, number: u64) -> Image {
     }
 }
 
-/// A name that no string of the table is; a subkey.
-pub fn new_name(random: &Random, strings: &[Vec<u8>]) -> Vec<u8> {
-    let mut name = subkey(random);
+/// A name that no string of the table is; a subkey of the edition.
+pub fn new_name(random: &Random, edition: Edition, strings: &[Vec<u8>]) -> Vec<u8> {
+    let mut name = subkey(random, edition);
     while strings.contains(&name) {
         name.push(random.pick(LATER));
     }
-    debug_assert!(is_subkey(&name));
+    debug_assert!(edition.is_subkey(&name));
     name
 }

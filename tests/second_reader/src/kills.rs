@@ -1,6 +1,7 @@
 //! Real kills: a process writes a file through the library into a mapped file on disk and is ended by SIGKILL at a random moment; the
 //! file that it leaves is judged.
 
+use crate::format::Edition;
 use crate::library;
 use crate::mapped::Mapped;
 use crate::plans::{self, Left, Plan};
@@ -19,11 +20,18 @@ use std::time::{Duration, Instant};
 const KILLS_OF_A_RUN: u64 = 10;
 const SIGKILL: i32 = 9;
 
+/// The edition of the run that kill `number` is of: the written ones take turns.
+fn edition_of(number: u64) -> Edition {
+    let turn = number / KILLS_OF_A_RUN;
+    Edition::WRITTEN[turn as usize % Edition::WRITTEN.len()]
+}
+
 /// The run that kill `number` of a seed is of.
 fn run_of(seed: u64, number: u64) -> Run {
     let random = Random::of(seed, number / KILLS_OF_A_RUN);
     let nodes = random.pick(&[60, 400, 1200, 2048, 2048]);
-    plans::run(&random, nodes, random.pick(&[8, 200]))
+    let elements = random.pick(&[8, 200]);
+    plans::run(&random, edition_of(number), nodes, elements)
 }
 
 /// The process that is killed: the calls of a run through the library, into a mapped file that holds its buffer. It says when it begins
@@ -34,7 +42,9 @@ pub fn write(seed: u64, number: u64, file: &Path) -> io::Result<()> {
     say("begins")?;
     let answers = play(&mut desk, &run.calls, u64::MAX);
     match answers.iter().find(|reported| reported.is_err()) {
-        Some(reported) => Err(io::Error::other(format!("a call was refused: {reported:?}"))),
+        Some(reported) => Err(io::Error::other(format!(
+            "a call was refused: {reported:?}"
+        ))),
         None => say("closed"),
     }
 }
@@ -132,7 +142,7 @@ fn spin(time: Duration) {
 /// What the killed processes left.
 #[derive(Default)]
 struct Counts {
-    left: BTreeMap<Left, usize>,
+    left: BTreeMap<(Edition, Left), usize>,
     inside_close: usize,
     in_order: usize,
     by_signal: usize,
@@ -281,7 +291,8 @@ pub fn kills(seed: u64, count: u64, folder: &Path, report: &mut Report) -> io::R
         let random = Random::of(!seed, number);
         let buffer = target.left_by(number, target.moment(&random), &mut counts, report)?;
         if let Some(left) = target.plan.left(&buffer, report) {
-            *counts.left.entry(left).or_insert(0) += 1;
+            let edition = edition_of(number);
+            *counts.left.entry((edition, left)).or_insert(0) += 1;
         }
         counts.inside_close += usize::from(target.plan.is_inside_close(&buffer));
         counts.in_order += usize::from(target.plan.is_in_order(&buffer));
@@ -294,17 +305,15 @@ pub fn kills(seed: u64, count: u64, folder: &Path, report: &mut Report) -> io::R
 
 impl Counts {
     fn print(&self, count: u64) {
-        let of = |left| self.left.get(&left).copied().unwrap_or(0);
         println!(
             "{count} processes: {} ended by SIGKILL, of all {} had said that they closed",
             self.by_signal, self.closed
         );
-        println!(
-            "left as it was: {}, refused by 3: {}, whole: {}",
-            of(Left::AsItWas),
-            of(Left::Refused),
-            of(Left::Whole)
-        );
+        println!("left {}", plans::shown(&self.left, &Edition::WRITTEN));
+        for edition in Edition::WRITTEN {
+            let left = plans::shown(&self.left, &[edition]);
+            println!("edition {}: left {left}", edition.number());
+        }
         println!(
             "killed between the stores of a close: {}; exactly the first so many stores in order: {}",
             self.inside_close, self.in_order

@@ -28,6 +28,8 @@ extern "C" {
         output_length: usize,
     ) -> bool;
 
+    fn aff_form(edition: u32, output: *mut u8, output_length: usize) -> bool;
+
     fn aff_decode(
         kind: u64,
         bytes: *const u8,
@@ -38,10 +40,11 @@ extern "C" {
     ) -> u32;
 }
 
-// The writer: its record is 7 numbers (what the last call reported, the buffer's length, strings, bytes of text, nodes, bytes of
+// The writer: its record is 8 numbers (what the last call reported, the buffer's length, the edition, strings, bytes of text, nodes, bytes of
 // data, 1 while open) and the 12 bytes of form that it keeps.
 extern "C" {
     fn aff_begin(
+        edition: u32,
         buffer: *mut u8,
         buffer_length: usize,
         form: *const u8,
@@ -134,6 +137,12 @@ pub fn form_for(image: &[u8]) -> [u8; 12] {
     let done = unsafe { aff_form_for(image.as_ptr(), image.len(), form.as_mut_ptr(), form.len()) };
     assert!(done, "12 bytes are enough");
     form
+}
+
+/// The 12 bytes of an edition, at the front of the output; whether they were stored.
+pub fn form(edition: u32, output: &mut [u8]) -> bool {
+    // SAFETY: as above.
+    unsafe { aff_form(edition, output.as_mut_ptr(), output.len()) }
 }
 
 /// Opens an image; the record is handed back whether or not it is accepted. Of the 13 numbers the first is the place and the last is the second number.
@@ -342,7 +351,7 @@ struct Writer<Buffer> {
     buffer: Buffer,
     text: Vec<u8>,
     tree: Vec<u8>,
-    numbers: [u64; 7],
+    numbers: [u64; 8],
     kept: [u8; 12],
 }
 
@@ -357,17 +366,18 @@ pub fn desk_in<Buffer: AsRef<[u8]> + AsMut<[u8]>>(buffer: Buffer, run: &Run) -> 
         buffer,
         text: run.text.clone(),
         tree: run.tree.clone(),
-        numbers: [0; 7],
+        numbers: [0; 8],
         kept: [0; 12],
     }
 }
 
 impl<Buffer: AsRef<[u8]> + AsMut<[u8]>> Writer<Buffer> {
-    fn begin(&mut self, form: &[u8], allowance: u64) -> u32 {
+    fn begin(&mut self, edition: u32, form: &[u8], allowance: u64) -> u32 {
         let buffer = self.buffer.as_mut();
         // SAFETY: pointers and lengths are of live slices that do not overlap, here and below.
         unsafe {
             aff_begin(
+                edition,
                 buffer.as_mut_ptr(),
                 buffer.len(),
                 form.as_ptr(),
@@ -443,11 +453,12 @@ impl<Buffer: AsRef<[u8]> + AsMut<[u8]>> Writer<Buffer> {
     fn alter(&mut self, alteration: &Alteration) {
         match *alteration {
             Alteration::Length(number) => self.numbers[1] = number,
-            Alteration::Strings(number) => self.numbers[2] = number,
-            Alteration::Text(number) => self.numbers[3] = number,
-            Alteration::Nodes(number) => self.numbers[4] = number,
-            Alteration::Data(number) => self.numbers[5] = number,
-            Alteration::Flag(number) => self.numbers[6] = number,
+            Alteration::Edition(number) => self.numbers[2] = number,
+            Alteration::Strings(number) => self.numbers[3] = number,
+            Alteration::Text(number) => self.numbers[4] = number,
+            Alteration::Nodes(number) => self.numbers[5] = number,
+            Alteration::Data(number) => self.numbers[6] = number,
+            Alteration::Flag(number) => self.numbers[7] = number,
             Alteration::Byte(area, place, byte) => {
                 let areas = [self.buffer.as_mut(), &mut self.text, &mut self.tree];
                 if let Some(old) = areas
@@ -465,7 +476,7 @@ impl<Buffer: AsRef<[u8]> + AsMut<[u8]>> Writer<Buffer> {
 impl<Buffer: AsRef<[u8]> + AsMut<[u8]>> Desk for Writer<Buffer> {
     fn call(&mut self, call: &Call, allowance: u64) -> Reported {
         let number = match call {
-            Call::Begin(form) => self.begin(form, allowance),
+            Call::Begin(edition, form) => self.begin(*edition, form, allowance),
             Call::Make(parent, name) => self.make(*parent, name),
             Call::Put(node, code, bytes) => self.put(*node, *code, bytes, allowance),
             Call::Close => self.close(allowance),

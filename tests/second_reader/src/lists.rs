@@ -1,4 +1,4 @@
-//! Runs the programs `list` and `listall` on images and compares what they print with what document 01, "The lister", and request C-12 say.
+//! Runs the programs `list` and `listall` on images and compares what they print with what document 01, "The lister", and requests C-12 and C-15 say.
 
 use crate::answers::{listing, Choice, LISTED};
 use crate::format::form_for;

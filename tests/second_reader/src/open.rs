@@ -1,10 +1,11 @@
 //! Opening: every refusal from 1 to 7, from 9 to 13 and from 25 to 27 with its place, in document 01's order: "opening 1 (nothing changed),
 //! then 2, text 3, edition 2's length 2, then 4 to 13, each check over all nodes before the next; sections in the order symbol, tree, data".
+//! Request C-15: "01's second length check takes each edition's header"; the order of the section headers in edition 3 changes no order of checks.
 //! Request C-11 puts 25, 26 and 27 "before 9, in this order". By request C-13 no file gets 8, as the last string need not have its zero;
 //! request C-14 withdraws the number. Request C-18 gives 10 a second number.
 
-use crate::format::{big, subkey_fault, Edition, Entry, Kind, Refusal, LONGEST_IMAGE, MOST};
-use crate::format::{SIGNATURE, TEXT};
+use crate::format::{big, Edition, Entry, Kind, Refusal, LONGEST_IMAGE, MOST};
+use crate::format::{DATA, SIGNATURE, SYMBOLS, TEXT, TREE};
 use crate::md5::md5;
 use std::collections::HashSet;
 
@@ -87,27 +88,27 @@ pub fn open_lent(
     passed(image, form, strings_length, entries_length)?;
     let edition = signature(image, form)?;
     header_sum(image, edition)?;
-    let headers = [0, 1, 2].map(|section| section_header(image, edition, section));
+    let headers = [SYMBOLS, TREE, DATA].map(|section| section_header(image, edition, section));
     sections_inside(image, &headers)?;
     section_sums(image, &headers)?;
-    let strings = symbol_table(image, &headers[0])?;
-    let entries = tree_table(image, &headers[1])?;
+    let strings = symbol_table(image, &headers[SYMBOLS])?;
+    let entries = tree_table(image, &headers[TREE])?;
     let nodes = read_nodes(image, &entries);
-    let names = names(image, headers[0].span, &strings);
-    numbers_exist(&nodes, &names)?;
+    let names = names(image, headers[SYMBOLS].span, &strings);
+    numbers_exist(edition, &nodes, &names)?;
     climbs_end(&nodes)?;
     siblings_differ(&nodes, &names)?;
-    data_inside(&nodes, headers[2].span)?;
+    data_inside(&nodes, headers[DATA].span)?;
     Ok(Opened {
         record: Record {
             length: image.len() as u64,
             edition: edition.number(),
-            symbols: headers[0].span,
-            tree: headers[1].span,
-            data: headers[2].span,
+            symbols: headers[SYMBOLS].span,
+            tree: headers[TREE].span,
+            data: headers[DATA].span,
             strings: strings.len() as u64,
             nodes: nodes.len() as u64,
-            records: headers[2].records.unwrap_or(0),
+            records: headers[DATA].records.unwrap_or(0),
         },
         strings: area(&strings),
         entries: area(&entries),
@@ -132,7 +133,7 @@ fn passed(image: &[u8], form: &[u8], strings: usize, entries: usize) -> Result<(
     Ok(())
 }
 
-/// 2, the text's 3, edition 2's 2, and 4.
+/// 2, the text's 3, the edition's 2, and 4. The first length check is 01's: "shorter than 144", the shortest header.
 fn signature(image: &[u8], form: &[u8]) -> Result<Edition, Refusal> {
     if image.len() < Edition::One.header() {
         return Err((2, 0));
@@ -164,10 +165,7 @@ fn section_header(image: &[u8], edition: Edition, section: usize) -> Header {
             offset: big(image, place, 8),
             size: big(image, place + 8, 8),
         },
-        records: match edition {
-            Edition::One => None,
-            Edition::Two => Some(big(image, place + 16, 8)),
-        },
+        records: edition.has_counts().then(|| big(image, place + 16, 8)),
         sum: image[sum..sum + 16].try_into().expect("16 bytes"),
     }
 }
@@ -282,6 +280,7 @@ fn names<'a>(image: &'a [u8], symbols: Span, places: &[usize]) -> Vec<&'a [u8]> 
 
 /// A node as 10 sees it: whether its parent exists, and its string where that exists.
 pub struct Node<'a> {
+    edition: Edition,
     pub number: u64,
     pub parent: bool,
     pub name: Option<&'a [u8]>,
@@ -293,18 +292,20 @@ impl Node<'_> {
         !self.parent || self.name.is_none() || self.fault().is_some()
     }
 
-    /// Where the string breaks the rule, if it exists and is no subkey.
+    /// Where the string breaks the edition's rule, if it exists and is no subkey.
     pub fn fault(&self) -> Option<u64> {
-        self.name.and_then(subkey_fault)
+        self.name.and_then(|name| self.edition.subkey_fault(name))
     }
 }
 
 /// The nodes that 10 is about, ascending.
 fn bad<'a: 'b, 'b>(
+    edition: Edition,
     nodes: &'b [Entry],
     names: &'b [&'a [u8]],
 ) -> impl Iterator<Item = Node<'a>> + 'b {
     let seen = move |(number, node): (u64, &Entry)| Node {
+        edition,
         number,
         parent: node.parent <= nodes.len() as u64,
         name: names.get(node.string as usize).copied(),
@@ -314,8 +315,8 @@ fn bad<'a: 'b, 'b>(
 
 /// 10, reported the lowest node. The second number (C-18): "the place wherever the node's string exists and is no subkey, its parent sound or not, else
 /// zero".
-fn numbers_exist(nodes: &[Entry], names: &[&[u8]]) -> Result<(), Refused> {
-    match bad(nodes, names).next() {
+fn numbers_exist(edition: Edition, nodes: &[Entry], names: &[&[u8]]) -> Result<(), Refused> {
+    match bad(edition, nodes, names).next() {
         None => Ok(()),
         Some(node) => Err(Refused {
             number: 10,
@@ -329,11 +330,11 @@ fn numbers_exist(nodes: &[Entry], names: &[&[u8]]) -> Result<(), Refused> {
 pub fn bad_nodes(image: &[u8]) -> Vec<Node<'_>> {
     let edition = Edition::from_text(image).expect("10 comes after 3");
     let header = |section| section_header(image, edition, section);
-    let strings = symbol_table(image, &header(0)).expect("10 comes after 27");
-    let entries = tree_table(image, &header(1)).expect("10 comes after 9");
+    let strings = symbol_table(image, &header(SYMBOLS)).expect("10 comes after 27");
+    let entries = tree_table(image, &header(TREE)).expect("10 comes after 9");
     let nodes = read_nodes(image, &entries);
-    let names = names(image, header(0).span, &strings);
-    bad(&nodes, &names).collect()
+    let names = names(image, header(SYMBOLS).span, &strings);
+    bad(edition, &nodes, &names).collect()
 }
 
 /// Whether the climb by parents from a node reaches the root. In as many steps as there are nodes it must.

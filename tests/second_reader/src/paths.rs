@@ -1,10 +1,12 @@
-//! Paths for lookup: like the path of a node, and malformed in every way (request C-18).
+//! Paths for lookup: like the path of a node, and malformed in every way (request C-18). Most of those that are malformed in editions 1 and 2 are not in
+//! edition 3 (request C-15).
 
+use crate::format::Edition;
 use crate::images::{subkey, NEVER};
 use crate::random::Random;
 
 /// Malformed paths, and a few that are not.
-pub const PATHS: [&[u8]; 28] = [
+pub const PATHS: [&[u8]; 36] = [
     b"",
     b"/",
     b"//",
@@ -33,6 +35,14 @@ pub const PATHS: [&[u8]; 28] = [
     b"/a\0",
     b"/a/n\xff",
     b"/momentum,1/x",
+    b"/..",
+    b"/../9 /~",
+    b"/\n",
+    b"/\\",
+    b"/\\x20",
+    b"/\x01",
+    b"/ /\xff//",
+    b"/9 \\\0",
 ];
 
 /// A path like another: often absent, sometimes malformed.
@@ -53,14 +63,14 @@ pub fn near(random: &Random, path: &[u8]) -> Vec<u8> {
     near
 }
 
-/// A malformed path, made from the path of a node or from a long one. Some have more faults after the first.
-pub fn malformed(random: &Random, path: &[u8]) -> Vec<u8> {
+/// A path malformed in an edition, made from the path of a node or from a long one. Some have more faults after the first.
+pub fn malformed(random: &Random, edition: Edition, path: &[u8]) -> Vec<u8> {
     let mut bad = match random.below(40) {
-        0 => long(random),
-        1..=5 => deep(random),
+        0 => long(random, edition),
+        1..=5 => deep(random, edition),
         _ => path.to_vec(),
     };
-    let place = spoil(random, &mut bad);
+    let place = spoil(random, edition, &mut bad);
     if random.one_in(3) {
         for byte in bad.iter_mut().skip(place + 1) {
             if random.one_in(4) {
@@ -72,37 +82,44 @@ pub fn malformed(random: &Random, path: &[u8]) -> Vec<u8> {
 }
 
 /// A path of one subkey, of two or of many, of about 65,536 bytes.
-fn long(random: &Random) -> Vec<u8> {
+fn long(random: &Random, edition: Edition) -> Vec<u8> {
     let length = random.pick(&[65_535, 65_536, 65_536, 65_537, 70_000]);
     let subkey = random.pick(&[length, length / 2, 99, 1]);
+    let letter = match edition {
+        Edition::One | Edition::Two => b'k',
+        Edition::Three => random.pick(b"k\x01 "),
+    };
     let byte = |place: usize| match place % (subkey + 1) {
         0 => b'/',
-        _ => b'k',
+        _ => letter,
     };
     let mut path: Vec<u8> = (0..length).map(byte).collect();
-    path[length - 1] = b'k';
+    path[length - 1] = letter;
     path
 }
 
 /// A path of up to 30 subkeys.
-fn deep(random: &Random) -> Vec<u8> {
+fn deep(random: &Random, edition: Edition) -> Vec<u8> {
     let subkeys = random.between(1, 30);
     let mut path = Vec::new();
     for _ in 0..subkeys {
         path.push(b'/');
-        path.extend(subkey(random));
+        path.extend(subkey(random, edition));
     }
     path
 }
 
 /// Spoils a path; returns the place before which it is still as it was.
-fn spoil(random: &Random, path: &mut Vec<u8>) -> usize {
+fn spoil(random: &Random, edition: Edition, path: &mut Vec<u8>) -> usize {
     if random.one_in(8) {
         path.remove(0);
         return 0;
     }
-    let byte = random.pick(&[random.pick(NEVER), random.pick(NEVER), b' ', 0, 255]);
-    let first = random.pick(&[byte, b'0', b'9', b'.', b'-']);
+    let narrow = random.pick(&[random.pick(NEVER), random.pick(NEVER), b' ', 0, 255]);
+    let (byte, first) = match edition {
+        Edition::One | Edition::Two => (narrow, random.pick(&[narrow, b'0', b'9', b'.', b'-'])),
+        Edition::Three => (0, 0),
+    };
     let (slash, end) = (a_slash(random, path), path.len());
     let any = random.between(1, end.max(2) - 1);
     // Place, byte, and whether it is inserted: no first slash; an empty subkey at the end or before a slash; the first byte of a subkey; the last byte, one

@@ -1,7 +1,7 @@
 //! Runs of the writer for processes that are stopped half-way: the file before, the calls, the stores in document 01's order, and
 //! what may be left of the file at any moment.
 
-use crate::format::{Edition, Kind};
+use crate::format::{form_for, Edition, Kind};
 use crate::images::subkey;
 use crate::library;
 use crate::open::{open, Refused};
@@ -9,6 +9,7 @@ use crate::random::Random;
 use crate::report::Report;
 use crate::runs::{play, shows_run, worked_calls, Call, Run};
 use crate::writer::{Store, Writer, TEXT_AREA, TREE_AREA};
+use std::collections::BTreeMap;
 
 /// A run that is accepted to its end, with what is known of it beforehand.
 pub struct Plan {
@@ -29,17 +30,31 @@ pub enum Left {
     Whole,
 }
 
-/// The calls of a run of so many nodes, and the file that it writes into. `most` is how many elements a node gets at most.
-pub fn run(random: &Random, nodes: usize, most: usize) -> Run {
-    let mut calls = vec![Call::Begin(Edition::Two.form().to_vec())];
-    let mut size = 168;
+/// How many files of some editions were left in each way.
+pub fn shown(counts: &BTreeMap<(Edition, Left), usize>, editions: &[Edition]) -> String {
+    let of = |left: Left| -> usize {
+        let count = |edition: &Edition| counts.get(&(*edition, left)).copied().unwrap_or(0);
+        editions.iter().map(count).sum()
+    };
+    format!(
+        "as it was: {}, refused by 3: {}, whole: {}",
+        of(Left::AsItWas),
+        of(Left::Refused),
+        of(Left::Whole)
+    )
+}
+
+/// The calls of a run of so many nodes in an edition, and the file that it writes into. `most` is how many elements a node gets at most.
+pub fn run(random: &Random, edition: Edition, nodes: usize, most: usize) -> Run {
+    let mut calls = vec![Call::begin(edition)];
+    let mut size = edition.header();
     for node in 1..=nodes {
         // A number at the end keeps the names of siblings apart; some names come again below other parents.
         let parent = random.below(node);
         let mut name = if random.one_in(3) {
             b"t".to_vec()
         } else {
-            subkey(random)[..1].to_vec()
+            subkey(random, edition)[..1].to_vec()
         };
         name.extend(node.to_string().bytes());
         size += name.len() + 26;
@@ -61,17 +76,17 @@ pub fn run(random: &Random, nodes: usize, most: usize) -> Run {
     }
 }
 
-/// Document 01's worked run, in a buffer of 214 zeros.
-pub fn worked() -> Run {
+/// Document 01's worked run in an edition, in a buffer of 214 zeros.
+pub fn worked(edition: Edition) -> Run {
     Run {
         buffer: vec![0; 214],
         text: vec![0; TEXT_AREA],
         tree: vec![0; TREE_AREA],
-        calls: worked_calls(),
+        calls: worked_calls(edition),
     }
 }
 
-/// A file before a run: zeros, any bytes, or an older file that opens.
+/// A file before a run: zeros, any bytes, or an older file of any written edition that opens.
 fn before(random: &Random, size: usize) -> Vec<u8> {
     match random.below(3) {
         0 => vec![0; size],
@@ -79,7 +94,7 @@ fn before(random: &Random, size: usize) -> Vec<u8> {
         _ => {
             let buffer = random.bytes(size);
             let mut old = Writer::passed(buffer, vec![0; TEXT_AREA], vec![0; TREE_AREA]);
-            let calls = [Call::Begin(Edition::Two.form().to_vec()), Call::Close];
+            let calls = [Call::begin(random.pick(&Edition::WRITTEN)), Call::Close];
             play(&mut old, &calls, u64::MAX);
             old.buffer
         }
@@ -95,7 +110,7 @@ impl Plan {
         let mut answers = Vec::new();
         for call in &run.calls {
             match call {
-                Call::Begin(_) => stores.push((0, 0)),
+                Call::Begin(..) => stores.push((0, 0)),
                 Call::Put(_, _, bytes) => stores.extend(model.putting(bytes)),
                 Call::Close => {
                     before_close = stores.len();
@@ -117,7 +132,7 @@ impl Plan {
     /// What is left of the file: as it was, refused by 3, or whole. Anything else is reported, and is `None`.
     pub fn left(&self, buffer: &[u8], report: &mut Report) -> Option<Left> {
         let by_library = opened_by_library(buffer);
-        let here = open(buffer, &Edition::Two.form()).map(|_| ()).err();
+        let here = open(buffer, &form_for(buffer)).map(|_| ()).err();
         report.same("opening", &here, &by_library);
         let left = match here {
             _ if buffer == self.run.buffer => Some(Left::AsItWas),
@@ -151,7 +166,8 @@ impl Plan {
 
     /// Whether some store of close is to be seen in a file, but not all.
     pub fn is_inside_close(&self, buffer: &[u8]) -> bool {
-        let seen = |(place, byte): &Store| buffer[*place] == *byte && self.run.buffer[*place] != *byte;
+        let seen =
+            |(place, byte): &Store| buffer[*place] == *byte && self.run.buffer[*place] != *byte;
         buffer != self.finished && self.stores[self.before_close..].iter().any(seen)
     }
 }
@@ -189,9 +205,14 @@ mod tests {
     /// The first so many stores leave the file as it was, refused by 3, or whole.
     #[test]
     fn in_order() {
-        let plan = planned(run(&Random::of(3, 7), 4, 3));
+        for edition in Edition::WRITTEN {
+            leaves_in_order(&planned(run(&Random::of(3, 7), edition, 4, 3)));
+        }
+    }
+
+    fn leaves_in_order(plan: &Plan) {
         let mut buffer = plan.run.buffer.clone();
-        assert_eq!(judged(&plan, &buffer), (Some(Left::AsItWas), true));
+        assert_eq!(judged(plan, &buffer), (Some(Left::AsItWas), true));
         for (made, (place, byte)) in (1..).zip(&plan.stores) {
             buffer[*place] = *byte;
             let left = match made == plan.stores.len() {
@@ -199,7 +220,7 @@ mod tests {
                 false if buffer == plan.run.buffer => Left::AsItWas,
                 false => Left::Refused,
             };
-            assert_eq!(judged(&plan, &buffer), (Some(left), true), "{made}");
+            assert_eq!(judged(plan, &buffer), (Some(left), true), "{made}");
             assert!(plan.is_in_order(&buffer), "{made}");
         }
     }
@@ -207,12 +228,17 @@ mod tests {
     /// A file whose `L` stands before all the rest does is none of the three.
     #[test]
     fn out_of_order() {
-        let plan = planned(worked());
+        for edition in Edition::WRITTEN {
+            leaves_out_of_order(&planned(worked(edition)));
+        }
+    }
+
+    fn leaves_out_of_order(plan: &Plan) {
         let mut buffer = plan.finished.clone();
         let (place, byte) = plan.stores[plan.stores.len() - 2];
         assert_ne!(byte, plan.run.buffer[place]);
         buffer[place] = plan.run.buffer[place];
-        assert_eq!(judged(&plan, &buffer), (None, false));
+        assert_eq!(judged(plan, &buffer), (None, false));
         assert!(!plan.is_in_order(&buffer));
         assert!(plan.is_inside_close(&buffer));
     }
@@ -220,17 +246,15 @@ mod tests {
     /// Every call of a planned run is accepted, and the worked run makes 1 + 4 + 210 stores.
     #[test]
     fn accepted() {
-        let plan = planned(worked());
-        assert_eq!((plan.before_close, plan.stores.len()), (5, 215));
-        let run = run(&Random::of(5, 5), 2048, 8);
-        let calls = run
-            .calls
-            .iter()
-            .filter(|call| matches!(call, Call::Make(..)));
-        assert_eq!(calls.count(), 2048);
-        let mut desk = run.desk();
-        assert!(play(&mut desk, &run.calls, u64::MAX)
-            .iter()
-            .all(Result::is_ok));
+        for edition in Edition::WRITTEN {
+            let plan = planned(worked(edition));
+            assert_eq!((plan.before_close, plan.stores.len()), (5, 215));
+            let run = run(&Random::of(5, 5), edition, 2048, 8);
+            let made = |call: &&Call| matches!(call, Call::Make(..));
+            assert_eq!(run.calls.iter().filter(made).count(), 2048);
+            let mut desk = run.desk();
+            let answers = play(&mut desk, &run.calls, u64::MAX);
+            assert!(answers.iter().all(Result::is_ok));
+        }
     }
 }

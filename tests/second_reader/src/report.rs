@@ -1,11 +1,11 @@
-//! Counts what agrees and what differs, by refusal number, and keeps the images that differ.
+//! Counts what agrees and what differs, by refusal number and edition, and keeps the images that differ.
 
-use crate::format::Refusal;
+use crate::format::{Edition, Refusal};
 use crate::images::{Aim, Image};
 use crate::kinds::{self, Kind};
 use crate::open::{bad_nodes, Refused};
 use std::collections::BTreeMap;
-use std::fmt::Debug;
+use std::fmt::{self, Debug, Display, Formatter};
 
 #[derive(Default)]
 pub struct Report {
@@ -15,9 +15,38 @@ pub struct Report {
     agree: usize,
     differ: usize,
     questions: u64,
-    by_number: BTreeMap<u32, usize>,
-    kinds: BTreeMap<(u32, Kind), usize>,
-    judged: [usize; 2],
+    by_number: BTreeMap<u32, Counts>,
+    kinds: BTreeMap<(u32, Kind), Counts>,
+    judged: [Counts; 2],
+}
+
+/// How often something was met, by edition; `None` is what has no edition.
+#[derive(Default)]
+struct Counts(BTreeMap<Option<Edition>, usize>);
+
+impl Counts {
+    fn add(&mut self, edition: Option<Edition>) {
+        *self.0.entry(edition).or_insert(0) += 1;
+    }
+
+    fn total(&self) -> usize {
+        self.0.values().sum()
+    }
+}
+
+impl Display for Counts {
+    /// The total, then the parts: `9 (none: 1, edition 1: 2, edition 2: 3, edition 3: 3)`.
+    fn fmt(&self, f: &mut Formatter) -> fmt::Result {
+        let part = |(edition, count): (&Option<Edition>, &usize)| match edition {
+            None => format!("none: {count}"),
+            Some(edition) => format!("edition {}: {count}", edition.number()),
+        };
+        let parts: Vec<String> = self.0.iter().map(part).collect();
+        match parts.is_empty() {
+            true => write!(f, "0"),
+            false => write!(f, "{} ({})", self.total(), parts.join(", ")),
+        }
+    }
 }
 
 /// Lines about one case, and images kept, are limited.
@@ -57,16 +86,17 @@ impl Report {
         }
     }
 
-    /// This reader's verdict, beside what the maker of the image knows.
+    /// This reader's verdict, beside what the maker of the image knows. It is counted for the edition whose text the image has.
     pub fn opened<T>(&mut self, image: &Image, reported: &Result<T, Refused>) {
         let refusal = reported.as_ref().err().copied();
         let number = refusal.map_or(0, |r| r.number);
-        *self.by_number.entry(number).or_insert(0) += 1;
+        let edition = Edition::from_text(&image.bytes);
+        self.by_number.entry(number).or_default().add(edition);
         if number == 10 {
             let nodes = bad_nodes(&image.bytes);
-            self.met(10, kinds::of_node(&nodes[0]));
+            self.met(10, kinds::of_node(&nodes[0]), edition);
             if let Some(kind) = kinds::of_several(&nodes) {
-                self.met(10, kind);
+                self.met(10, kind, edition);
             }
         }
         match image.aim {
@@ -76,20 +106,20 @@ impl Report {
         }
     }
 
-    /// The number of one call's answer, 0 where it is accepted.
-    pub fn reported(&mut self, reported: &Result<u64, Refusal>) {
+    /// The number of one call's answer, 0 where it is accepted, with the edition that is written.
+    pub fn reported(&mut self, reported: &Result<u64, Refusal>, edition: Option<Edition>) {
         let number = reported.as_ref().err().map_or(0, |refusal| refusal.0);
-        *self.by_number.entry(number).or_insert(0) += 1;
+        self.by_number.entry(number).or_default().add(edition);
     }
 
     /// A kind of malformed name or path, which 10 or 14 is about.
-    pub fn met(&mut self, number: u32, kind: Kind) {
-        *self.kinds.entry((number, kind)).or_insert(0) += 1;
+    pub fn met(&mut self, number: u32, kind: Kind, edition: Option<Edition>) {
+        self.kinds.entry((number, kind)).or_default().add(edition);
     }
 
-    /// Whether a state of passed memory passed 24.
-    pub fn judged(&mut self, passed: bool) {
-        self.judged[usize::from(passed)] += 1;
+    /// Whether a state of passed memory passed 24, with the edition that the record has.
+    pub fn judged(&mut self, passed: bool, edition: Option<Edition>) {
+        self.judged[usize::from(passed)].add(edition);
     }
 
     pub fn end(&mut self, image: &[u8]) {
@@ -117,8 +147,8 @@ impl Report {
         for ((number, (what, more)), count) in &self.kinds {
             println!("{number}: {what}, {more}: {count}");
         }
-        if self.judged != [0, 0] {
-            let [refused, passed] = self.judged;
+        let [refused, passed] = &self.judged;
+        if refused.total() + passed.total() > 0 {
             println!("states of memory passed: {passed} pass 24, {refused} do not");
         }
         println!("{} answers compared", self.questions);

@@ -2,8 +2,8 @@
 //! and beside the library's writer where it is linked.
 
 use crate::answers::{decoded, judged, Choice, Passed, Reader};
-use crate::format::{Edition, Kind, MOST};
-use crate::images::{malformed, subkey};
+use crate::format::{form_for, Edition, Kind, MOST};
+use crate::images::{malformed, subkey, WIDE_NAMES};
 use crate::kinds;
 use crate::open::{open, Refused};
 use crate::random::Random;
@@ -13,7 +13,8 @@ use crate::writer::{Numbers, Record, Reported, Writer, TEXT_AREA, TREE_AREA};
 /// One call with its arguments; allowances come from a total that is handed down.
 #[derive(Clone, Debug)]
 pub enum Call {
-    Begin(Vec<u8>),
+    /// The number of an edition, and the form.
+    Begin(u32, Vec<u8>),
     Make(u64, Vec<u8>),
     Put(u64, u64, Vec<u8>),
     Close,
@@ -25,6 +26,7 @@ pub enum Call {
 #[derive(Clone, Copy, Debug)]
 pub enum Alteration {
     Length(u64),
+    Edition(u64),
     Strings(u64),
     Text(u64),
     Nodes(u64),
@@ -38,14 +40,14 @@ pub trait Desk {
     fn call(&mut self, call: &Call, allowance: u64) -> Reported;
     /// Buffer, text area, tree area.
     fn memory(&self) -> [&[u8]; 3];
-    /// The 7 numbers and the form, as the caller of the C side sees them.
+    /// The 8 numbers and the form, as the caller of the C side sees them.
     fn numbers(&self) -> Numbers;
 }
 
 impl Desk for Writer {
     fn call(&mut self, call: &Call, allowance: u64) -> Reported {
         let answer = match call {
-            Call::Begin(form) => self.begin(form, allowance),
+            Call::Begin(edition, form) => self.begin(*edition, form, allowance),
             Call::Make(parent, name) => self.make(*parent, name),
             Call::Put(node, code, bytes) => self.put(*node, *code, bytes, allowance),
             Call::Close => self.close(allowance),
@@ -64,6 +66,7 @@ impl Desk for Writer {
         let numbers = [
             self.last,
             record.length,
+            record.edition,
             record.strings,
             record.text,
             record.nodes,
@@ -78,6 +81,7 @@ impl Writer {
     fn alter(&mut self, alteration: &Alteration) -> Reported {
         match *alteration {
             Alteration::Length(number) => self.record.length = number,
+            Alteration::Edition(number) => self.record.edition = number,
             Alteration::Strings(number) => self.record.strings = number,
             Alteration::Text(number) => self.record.text = number,
             Alteration::Nodes(number) => self.record.nodes = number,
@@ -136,11 +140,18 @@ pub fn play(desk: &mut dyn Desk, calls: &[Call], total: u64) -> Vec<Reported> {
     answers
 }
 
+impl Call {
+    /// The begin of an edition, with its form.
+    pub fn begin(edition: Edition) -> Call {
+        Call::Begin(edition.number() as u32, edition.form().to_vec())
+    }
+}
+
 /// "child `a` of the root, child `n` of it, put one Int −70 there, close".
 #[cfg(any(test, feature = "library"))]
-pub fn worked_calls() -> Vec<Call> {
+pub fn worked_calls(edition: Edition) -> Vec<Call> {
     vec![
-        Call::Begin(Edition::Two.form().to_vec()),
+        Call::begin(edition),
         Call::Make(0, b"a".to_vec()),
         Call::Make(1, b"n".to_vec()),
         Call::Put(2, 3, vec![0xff, 0xff, 0xff, 0xba]),
@@ -168,7 +179,7 @@ fn described(calls: &[Call], answers: &[Reported]) -> Vec<Described> {
     let mut tree = vec![root.clone()];
     for (call, reported) in calls.iter().zip(answers) {
         match (call, reported) {
-            (Call::Begin(_), Ok(_)) => tree.truncate(1),
+            (Call::Begin(..), Ok(_)) => tree.truncate(1),
             (Call::Make(parent, name), Ok(_)) => tree.push(Described {
                 parent: *parent,
                 name: name.clone(),
@@ -200,11 +211,12 @@ fn path_in(tree: &[Described], number: usize) -> Vec<u8> {
 }
 
 /// "An opened file shows this tree if each of the tree's numbers answers with its name, path (output long enough), type, count
-/// and bytes, and any other number with 15."
-fn shows(buffer: &[u8], form: &[u8], tree: &[Described], report: &mut Report) {
+/// and bytes, and any other number with 15." The file is of the edition passed to begin.
+fn shows(edition: u32, form: &[u8], buffer: &[u8], tree: &[Described], report: &mut Report) {
     let opened = open(buffer, form);
     report.same("opened", &true, &opened.is_ok());
     let Ok(opened) = opened else { return };
+    report.same("edition", &u64::from(edition), &opened.record.edition);
     let passed = Passed {
         image: buffer,
         record: opened.record,
@@ -272,6 +284,8 @@ enum Style {
     Long,
     /// What is passed is altered between calls.
     Altered,
+    /// Many begins, of all numbers of editions, in buffers of which half are too short.
+    Begins,
 }
 
 /// A random run: mostly short, sometimes up to the limits of nodes, strings and text.
@@ -280,6 +294,7 @@ pub fn random_run(random: &Random) -> Run {
         0 => Style::Many,
         1..=4 => Style::Long,
         5..=40 => Style::Altered,
+        41..=48 => Style::Begins,
         _ => Style::Usual,
     };
     let mut run = Run {
@@ -289,17 +304,21 @@ pub fn random_run(random: &Random) -> Run {
         calls: Vec::new(),
     };
     let mut model = run.desk();
-    add(&mut run, &mut model, begin(random));
+    add(&mut run, &mut model, begin(random, style));
     let calls = match style {
         Style::Many => 2 * MOST,
         Style::Long => 60,
+        Style::Begins => random.between(2, 8),
         _ => random.pick(&[0, 3, 8, 12, 60]),
     };
     for _ in 0..calls {
         if style == Style::Altered && random.one_in(6) {
             alter_and_restore(random, &mut run, &mut model);
         }
-        let call = middle(random, &model, style);
+        let call = match style == Style::Begins && random.one_in(2) {
+            true => begin(random, style),
+            false => middle(random, &model, style),
+        };
         add(&mut run, &mut model, call);
     }
     let closed = add(&mut run, &mut model, Call::Close);
@@ -313,7 +332,11 @@ pub fn random_run(random: &Random) -> Run {
             .resize(model.finished() as usize - 1 + random.below(3), 5);
     }
     if random.one_in(6) {
-        let again = [begin(random), Call::Make(0, b"again".to_vec()), Call::Close];
+        let again = [
+            begin(random, style),
+            Call::Make(0, b"again".to_vec()),
+            Call::Close,
+        ];
         run.calls.extend(again);
     }
     run
@@ -330,6 +353,7 @@ fn add(run: &mut Run, model: &mut Writer, call: Call) -> bool {
 fn buffer(random: &Random, style: Style) -> Vec<u8> {
     let length = match (style, random.below(7)) {
         (Style::Many | Style::Long, _) => 140_000,
+        (Style::Begins, 0..=3) => random.pick(&[0, 1, 144, 167]),
         (_, 0) => random.pick(&[0, 1, 167, 168, 169, 181, 213, 214]),
         (_, 1..=3) => 168 + random.below(400),
         _ => 4000,
@@ -339,7 +363,7 @@ fn buffer(random: &Random, style: Style) -> Vec<u8> {
         1 => random.bytes(length),
         _ => {
             let mut old = Writer::passed(vec![9; length], vec![0; TEXT_AREA], vec![0; TREE_AREA]);
-            let calls = [Call::Begin(Edition::Two.form().to_vec()), Call::Close];
+            let calls = [Call::begin(random.pick(&Edition::WRITTEN)), Call::Close];
             play(&mut old, &calls, u64::MAX);
             old.buffer
         }
@@ -353,15 +377,25 @@ fn area(random: &Random, size: usize) -> usize {
     }
 }
 
-fn begin(random: &Random) -> Call {
-    let mut form = Edition::Two.form().to_vec();
-    match random.below(40) {
+/// Numbers of no written edition.
+pub const NOT_WRITTEN: [u32; 6] = [0, 1, 1, 4, 256 + 2, u32::MAX];
+
+/// A begin, mostly lawful. One that names no written edition comes with every form, buffer and allowance: 1, 3, 21, 23 in this order.
+fn begin(random: &Random, style: Style) -> Call {
+    let lawful = if style == Style::Begins { 2 } else { 20 };
+    let edition = random.pick(&Edition::WRITTEN);
+    let mut form = edition.form().to_vec();
+    match random.below(4 + 2 * lawful) {
         0 => form.truncate(11),
         1 => form.push(0),
         2 => form = random.bytes(12),
+        3 => form = Edition::One.form().to_vec(),
         _ => (),
     }
-    Call::Begin(form)
+    match random.one_in(lawful) {
+        true => Call::Begin(random.pick(&NOT_WRITTEN), form),
+        false => Call::Begin(edition.number() as u32, form),
+    }
 }
 
 /// A make or a put, most of them lawful.
@@ -382,16 +416,19 @@ fn make(random: &Random, now: &Writer, style: Style) -> Call {
         0 => random.pick(&[nodes as u64 + 1, u64::MAX, 1 << 32]),
         _ => random.below(nodes + 1) as u64,
     };
-    let mut name = subkey(random);
+    let edition = Edition::written(now.record.edition).unwrap_or(Edition::Two);
+    let mut name = subkey(random, edition);
     match (style, random.below(30)) {
-        (_, 0) => name = bad_name(random),
+        (_, 0) => name = bad_name(random, random.pick(&Edition::WRITTEN)),
+        // A name that edition 2 refuses and edition 3 accepts.
+        (Style::Altered, 1..=2) => name = random.pick(&WIDE_NAMES).to_vec(),
         (Style::Long, 1) => name = long_name(random),
         // As long as the text area takes with a zero, or one byte longer.
         (Style::Long, 2..=3) => name = vec![b'm'; left.max(2) - random.below(2)],
         (Style::Long, _) => name.extend(vec![b'l'; random.below(2000)]),
         (Style::Many, _) => name.extend(nodes.to_string().bytes()),
         // Names that an altered text area may hold twice.
-        (Style::Altered, 1..=16) => name = vec![random.pick(b"ab")],
+        (Style::Altered, 3..=18) => name = vec![random.pick(b"ab")],
         (_, 1..=20) => name.truncate(1),
         _ => (),
     }
@@ -415,14 +452,22 @@ const BAD_NAMES: [&[u8]; 14] = [
     b"momentum,1",
 ];
 
-/// A malformed name: one of a list, or any other, some with a zero in it.
-pub fn bad_name(random: &Random) -> Vec<u8> {
-    let (mut name, _) = malformed(random);
-    match random.below(6) {
-        0..=2 => random.pick(&BAD_NAMES).to_vec(),
-        3 if !name.is_empty() => {
+const BAD_WIDE_NAMES: [&[u8]; 9] = [
+    b"", b"/", b"a/b", b"a/", b" /", b"\0", b"a\0", b"\xff \0", b".\n\0a",
+];
+
+/// A name malformed in an edition: one of a list, or any other, some with a zero in it.
+pub fn bad_name(random: &Random, edition: Edition) -> Vec<u8> {
+    let (mut name, _) = malformed(random, edition);
+    match (edition, random.below(6)) {
+        (Edition::Three, 0) => random.pick(&BAD_WIDE_NAMES).to_vec(),
+        (Edition::One | Edition::Two, 0..=2) => random.pick(&BAD_NAMES).to_vec(),
+        (_, 3..=4) if !name.is_empty() => {
             let place = random.below(name.len());
-            name[place] = random.pick(&[0, b'/', b' ', 255]);
+            name[place] = match edition {
+                Edition::One | Edition::Two => random.pick(&[0, b'/', b' ', 255]),
+                Edition::Three => random.pick(&[0, 0, b'/']),
+            };
             name
         }
         _ => name,
@@ -435,7 +480,7 @@ fn long_name(random: &Random) -> Vec<u8> {
     let last = name.len() - 1;
     match random.below(4) {
         0 => name[last] = random.pick(&[0, b'/', 255]),
-        1 => name[random.below(last)] = b' ',
+        1 => name[random.below(last)] = random.pick(&[b' ', 0, b'/']),
         _ => (),
     }
     name
@@ -470,7 +515,7 @@ fn alteration(random: &Random, now: &Writer) -> Alteration {
         ];
         random.pick(&near)
     };
-    match random.below(16) {
+    match random.below(18) {
         0 => Alteration::Length(other(record.length)),
         1 => Alteration::Strings(other(record.strings)),
         2 => Alteration::Text(other(record.text)),
@@ -481,6 +526,11 @@ fn alteration(random: &Random, now: &Writer) -> Alteration {
         9..=11 => {
             let place = random.below(record.text.min(TEXT_AREA as u64) as usize + 1);
             Alteration::Byte(1, place, random.pick(b"ab/9aabb\0"))
+        }
+        12..=14 => {
+            let other_written = if record.edition == 2 { 3 } else { 2 };
+            let none = random.pick(&[0, 1, 1, 4, 256 + 3, 1 << 32 | 2, 1 << 32 | 3, u64::MAX, any]);
+            Alteration::Edition(random.pick(&[other_written, none]))
         }
         _ => slot_byte(random, record),
     }
@@ -509,6 +559,7 @@ fn undone(alteration: &Alteration, now: &Writer) -> Alteration {
     let record = &now.record;
     match *alteration {
         Alteration::Length(_) => Alteration::Length(record.length),
+        Alteration::Edition(_) => Alteration::Edition(record.edition),
         Alteration::Strings(_) => Alteration::Strings(record.strings),
         Alteration::Text(_) => Alteration::Text(record.text),
         Alteration::Nodes(_) => Alteration::Nodes(record.nodes),
@@ -566,12 +617,21 @@ pub fn compare(seed: u64, number: u64, other: Option<NewDesk>, report: &mut Repo
     report.end(&[]);
 }
 
-/// Counts the answers, and the names that make refused.
+/// Counts the answers of the writer's calls, and the names that make refused, by the edition that the record then has.
 fn count(calls: &[Call], answers: &[Reported], report: &mut Report) {
+    let mut edition = None;
     for (call, reported) in calls.iter().zip(answers) {
-        report.reported(reported);
+        match call {
+            Call::Begin(number, _) => edition = Edition::written((*number).into()),
+            Call::Alter(Alteration::Edition(number)) => edition = Edition::written(*number),
+            _ => (),
+        }
+        if matches!(call, Call::Alter(_)) {
+            continue;
+        }
+        report.reported(reported, edition);
         if let (Call::Make(_, name), Err((14, place))) = (call, reported) {
-            report.met(14, kinds::of_name(name, *place));
+            report.met(14, kinds::of_name(name, *place), edition);
         }
     }
 }
@@ -593,18 +653,20 @@ fn cuts(random: &Random, total: u64, calls: usize) -> Vec<u64> {
 pub fn shows_run(calls: &[Call], answers: &[Reported], buffer: &[u8], report: &mut Report) {
     let last = calls
         .iter()
-        .rposition(|call| matches!(call, Call::Begin(_)));
+        .rposition(|call| matches!(call, Call::Begin(..)));
     let first = last.expect("a run begins");
     let (calls, reported) = (&calls[first..], &answers[first..]);
-    let closed = |(call, reported): (&Call, &Reported)| matches!(call, Call::Close) && reported.is_ok();
+    let closed =
+        |(call, reported): (&Call, &Reported)| matches!(call, Call::Close) && reported.is_ok();
     let was_closed = calls.iter().zip(reported).any(closed);
     report.same("close", &reported[0].is_ok(), &was_closed);
-    if let (Call::Begin(form), true) = (&calls[0], was_closed) {
-        shows(buffer, form, &described(calls, reported), report);
+    if let (Call::Begin(edition, form), true) = (&calls[0], was_closed) {
+        shows(*edition, form, buffer, &described(calls, reported), report);
     }
 }
 
-/// A run cut after some number of stores: place 0 is not `L` while a begun file is not finished, so it is refused by 3.
+/// A run cut after some number of stores: place 0 is not `L` while a begun file is not finished, so it is refused by 3. With no store the buffer is as it
+/// was.
 fn check_cut(run: &Run, cut: u64, total: u64, report: &mut Report) {
     let mut desk = run.desk();
     let answers = play(&mut desk, &run.calls, cut);
@@ -619,10 +681,15 @@ fn check_cut(run: &Run, cut: u64, total: u64, report: &mut Report) {
     let begun = run
         .calls
         .iter()
-        .filter(|c| matches!(c, Call::Begin(_)))
+        .filter(|c| matches!(c, Call::Begin(..)))
         .count();
+    if made == 0 {
+        report.same("no store", &true, &(desk.buffer == run.buffer));
+    }
     if begun == 1 && made > 0 && made < total {
-        let reported = open(&desk.buffer, &Edition::Two.form()).map(|_| ()).err();
+        let reported = open(&desk.buffer, &form_for(&desk.buffer))
+            .map(|_| ())
+            .err();
         report.same("cut", &Some(Refused::from((3, 0))), &reported);
     }
 }
@@ -640,8 +707,11 @@ fn beside(run: &Run, model: &mut Writer, other: &mut dyn Desk, total: u64, repor
         left -= stores(call, &reported);
         match call {
             Call::Alter(_) => altered = true,
-            Call::Begin(_) => altered = false,
-            _ if altered => report.judged(reported != Err((24, 0))),
+            Call::Begin(..) => altered = false,
+            _ if altered => {
+                let edition = Edition::written(model.record.edition);
+                report.judged(reported != Err((24, 0)), edition)
+            }
             _ => (),
         }
     }

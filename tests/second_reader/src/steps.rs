@@ -1,6 +1,7 @@
 //! Every moment of a run: a process writes through the library into a mapped file and is stopped after each machine instruction
 //! (Linux on x86-64). The file is judged each time that it has changed: a kill there would leave it so.
 
+use crate::format::Edition;
 use crate::library;
 use crate::mapped::Mapped;
 use crate::plans::{self, Left, Plan};
@@ -24,13 +25,19 @@ const SINGLE_STEP: c_int = 9;
 const SIGTRAP: c_int = 5;
 const SIGSTOP: c_int = 19;
 
-/// Run 0 is document 01's worked run; the others have up to 12 nodes.
+/// The edition of a run: the written ones take turns.
+fn edition_of(number: u64) -> Edition {
+    Edition::WRITTEN[number as usize % Edition::WRITTEN.len()]
+}
+
+/// Runs 0 and 1 are document 01's worked run in both written editions; the others have up to 12 nodes.
 fn run_of(seed: u64, number: u64) -> Run {
-    if number == 0 {
-        return plans::worked();
+    let edition = edition_of(number);
+    if number < Edition::WRITTEN.len() as u64 {
+        return plans::worked(edition);
     }
     let random = Random::of(seed, number);
-    plans::run(&random, random.below(13), 4)
+    plans::run(&random, edition, random.below(13), 4)
 }
 
 /// The process that is stepped through: it stops itself, then makes the calls.
@@ -45,7 +52,9 @@ pub fn write_traced(seed: u64, number: u64, file: &Path) -> io::Result<()> {
     }
     let answers = play(&mut desk, &run.calls, u64::MAX);
     match answers.iter().find(|reported| reported.is_err()) {
-        Some(reported) => Err(io::Error::other(format!("a call was refused: {reported:?}"))),
+        Some(reported) => Err(io::Error::other(format!(
+            "a call was refused: {reported:?}"
+        ))),
         None => Ok(()),
     }
 }
@@ -85,7 +94,7 @@ fn step(process: c_int) -> io::Result<Status> {
 #[derive(Default)]
 struct Counts {
     instructions: u64,
-    files: BTreeMap<Left, usize>,
+    files: BTreeMap<(Edition, Left), usize>,
     in_order: usize,
 }
 
@@ -113,7 +122,8 @@ fn step_through(
         if mapped.as_ref() != last {
             last = mapped.as_ref().to_vec();
             if let Some(left) = plan.left(&last, report) {
-                *counts.files.entry(left).or_insert(0) += 1;
+                let edition = edition_of(number);
+                *counts.files.entry((edition, left)).or_insert(0) += 1;
             }
             counts.in_order += usize::from(plan.is_in_order(&last));
         }
@@ -138,14 +148,13 @@ pub fn steps(seed: u64, count: u64, folder: &Path, report: &mut Report) -> io::R
         report.end(&[]);
     }
     std::fs::remove_file(file)?;
-    let of = |left| counts.files.get(&left).copied().unwrap_or(0);
     println!("stopped after each of {} instructions", counts.instructions);
-    println!(
-        "files seen: as it was: {}, refused by 3: {}, whole: {}",
-        of(Left::AsItWas),
-        of(Left::Refused),
-        of(Left::Whole)
-    );
+    let seen = plans::shown(&counts.files, &Edition::WRITTEN);
+    println!("files seen: {seen}");
+    for edition in Edition::WRITTEN {
+        let seen = plans::shown(&counts.files, &[edition]);
+        println!("edition {}: files seen: {seen}", edition.number());
+    }
     println!(
         "of them exactly the first so many stores in order: {}",
         counts.in_order

@@ -1,17 +1,23 @@
-//! Document 01's worked file and cases, the symbol tables of requests C-11 and C-13, request C-12's listings, request C-18's places, and the
-//! generator's images beside what their maker knows.
+//! Document 01's worked file and cases, the symbol tables of requests C-11 and C-13, request C-12's listings, request C-18's places, request C-15's
+//! edition 3, and the generator's images beside what their maker knows.
 
-use crate::answers::{decoded, judged, listing, Choice, Element, Passed, LISTED};
+use crate::answers::{decoded, judged, listing, shown, Choice, Element, Passed, LISTED};
+use crate::cases;
 use crate::damage::numbers;
-use crate::format::{big, form_for, is_subkey, path_fault, subkey_fault, Edition, Kind, Refusal};
-use crate::images::{image, Draft, Image, Node, DATA, SYMBOLS, TREE};
+use crate::format::{big, form_for, Edition, Kind, Refusal, DATA, SIGNATURE, SYMBOLS, TREE};
+use crate::images::{image, sum_header, Draft, Image, Node, WIDE_NAMES};
+use crate::md5::md5;
 use crate::open::{bad_nodes, open, Opened, Refused, Span};
 use crate::random::Random;
 use crate::report::Report;
-use crate::runs::{bad_name, play, worked_calls, Call, Desk};
-use crate::writer::{Writer, TEXT_AREA, TREE_AREA};
+use crate::runs::{bad_name, play, worked_calls, Alteration, Call, Desk};
+use crate::writer::{Record, Writer, TEXT_AREA, TREE_AREA};
 use crate::{kinds, paths};
 use std::collections::BTreeMap;
+
+/// The editions with 01's narrow names, and those with record counts.
+const NARROW: [Edition; 2] = [Edition::One, Edition::Two];
+const COUNTED: [Edition; 2] = [Edition::Two, Edition::Three];
 
 fn desk(buffer: usize) -> Writer {
     Writer::passed(vec![0; buffer], vec![0; TEXT_AREA], vec![0; TREE_AREA])
@@ -26,58 +32,201 @@ fn passed<'a>(image: &'a [u8], opened: &'a Opened) -> Passed<'a> {
     }
 }
 
+/// Document 01's worked file in a written edition.
+fn worked(edition: Edition) -> Vec<u8> {
+    let mut desk = desk(214);
+    let answers = play(&mut desk, &worked_calls(edition), u64::MAX);
+    assert_eq!(answers, [Ok(1), Ok(1), Ok(2), Ok(4), Ok(210)]);
+    desk.buffer
+}
+
+const WORKED_LINES: &[u8] = b"/ void 0\n/a void 0\n/a/n int 1\n";
+
 #[test]
 fn worked_file() {
-    let mut desk = desk(214);
-    let answers = play(&mut desk, &worked_calls(), u64::MAX);
-    assert_eq!(answers, [Ok(1), Ok(1), Ok(2), Ok(4), Ok(210)]);
-    assert_eq!(&desk.buffer[168..176], b"\xff\xff\xff\xbaa\0n\0");
-    let lines = b"/ void 0\n/a void 0\n/a/n int 1\n";
-    assert_eq!(listing(&desk.buffer, Choice::All), lines);
-    assert_eq!(listing(&desk.buffer, Choice::NotVoid), b"/a/n int 1\n");
+    for edition in Edition::WRITTEN {
+        let file = worked(edition);
+        assert_eq!(&file[168..176], b"\xff\xff\xff\xbaa\0n\0");
+        assert_eq!(listing(&file, Choice::All), WORKED_LINES);
+        assert_eq!(listing(&file, Choice::NotVoid), b"/a/n int 1\n");
+    }
+}
+
+/// The same calls in edition 3, byte for byte: signature; data, symbol and tree header; header sum; data, strings, entries. The digests were made elsewhere.
+#[test]
+fn worked_file_of_edition_3() {
+    let lines = [
+        "4c485043204146462076657273696f6e20332e30 00400235040003fd000000a8",
+        "00000000000000a8 0000000000000004 0000000000000001 c799d2af2ba111b3d88bd07b7790b6ce",
+        "00000000000000ac 0000000000000004 0000000000000002 dac61008e1e8c808463249bd6671aab3",
+        "00000000000000b0 0000000000000026 0000000000000002 a46efcf7f7855e953720f0ef6734db43",
+        "922ea0eb0af0c84d078aa9cadd8b8827",
+        "ffffffba 61006e00",
+        "01 0000000000000000 00000000",
+        "03 0000000000000001 00000001 00000001 00000000000000a8",
+    ];
+    let file = worked(Edition::Three);
+    assert_eq!(hex(&file), lines.concat().replace(' ', ""));
+    assert_eq!(file.len(), 214);
+    assert_eq!(hex(&md5(&file)), "b3ea9a372cc7394dbc2470f7b30eee3c");
+}
+
+fn hex(bytes: &[u8]) -> String {
+    bytes.iter().map(|byte| format!("{byte:02x}")).collect()
 }
 
 /// "`K refused 3 0` for 0 to 214, then `215 opened`."
 #[test]
 fn cut_drill() {
-    for total in 0..=215 {
-        let mut desk = desk(214);
-        play(&mut desk, &worked_calls(), total);
-        let reported = open(&desk.buffer, &Edition::Two.form()).map(|_| ()).err();
-        let refused = (total < 215).then_some(Refused::from((3, 0)));
-        assert_eq!(reported, refused, "{total}");
+    for edition in Edition::WRITTEN {
+        for total in 0..=215 {
+            let mut desk = desk(214);
+            play(&mut desk, &worked_calls(edition), total);
+            let reported = open(&desk.buffer, &edition.form()).map(|_| ()).err();
+            let refused = (total < 215).then_some(Refused::from((3, 0)));
+            assert_eq!(reported, refused, "{total}");
+        }
     }
 }
 
 /// "room 167 is 21, room 168 takes an empty tree; room 213 refuses the put above, 214 takes it".
 #[test]
 fn buffers() {
-    let empty = [worked_calls()[0].clone(), Call::Close];
-    assert_eq!(
-        play(&mut desk(167), &empty, 999),
-        [Err((21, 0)), Err((24, 0))]
-    );
-    assert_eq!(play(&mut desk(168), &empty, 999), [Ok(1), Ok(168)]);
-    assert_eq!(play(&mut desk(213), &worked_calls(), 999)[3], Err((21, 0)));
-    assert_eq!(play(&mut desk(214), &worked_calls(), 999)[3], Ok(4));
+    for edition in Edition::WRITTEN {
+        let (empty, calls) = ([Call::begin(edition), Call::Close], worked_calls(edition));
+        assert_eq!(
+            play(&mut desk(167), &empty, 999),
+            [Err((21, 0)), Err((24, 0))]
+        );
+        assert_eq!(play(&mut desk(168), &empty, 999), [Ok(1), Ok(168)]);
+        assert_eq!(play(&mut desk(213), &calls, 999)[3], Err((21, 0)));
+        assert_eq!(play(&mut desk(214), &calls, 999)[3], Ok(4));
+    }
 }
 
-/// P1 to P10.
+/// Begin's refusals: 1, 3, 21, 23, with everything that is passed. Refused by 3 it stores nothing, clears no area and leaves the record all zero.
+#[test]
+fn begins() {
+    let form = Edition::Two.form();
+    for edition in [0, 1, 4, 5, 256 + 2, 256 + 3, 1 << 31, u32::MAX] {
+        for (buffer, allowance) in [(214, u64::MAX), (168, 0), (167, 9), (0, 0)] {
+            let mut desk = dirty(buffer);
+            play(&mut desk, &[Call::begin(Edition::Three)], u64::MAX);
+            let (text, tree, bytes) = (desk.text.clone(), desk.tree.clone(), desk.buffer.clone());
+            let begin = |form: &[u8]| Call::Begin(edition, form.to_vec());
+            assert_eq!(desk.call(&begin(&form[..11]), allowance), Err((1, 0)));
+            assert_eq!(desk.call(&begin(&form), allowance), Err((3, 0)));
+            assert_eq!(desk.numbers(), ([0; 8], [0; 12]));
+            assert!(
+                (text, tree, bytes) == (desk.text.clone(), desk.tree.clone(), desk.buffer.clone())
+            );
+            let later = [
+                Call::Make(0, b"a".to_vec()),
+                Call::Put(0, 2, Vec::new()),
+                Call::Close,
+            ];
+            assert_eq!(play(&mut desk, &later, u64::MAX), [Err((24, 0)); 3]);
+        }
+    }
+    for edition in Edition::WRITTEN {
+        let begin = |form: &[u8]| Call::Begin(edition.number() as u32, form.to_vec());
+        assert_eq!(dirty(167).call(&begin(&form[..11]), 0), Err((1, 0)));
+        assert_eq!(dirty(167).call(&begin(&form), 0), Err((21, 0)));
+        assert_eq!(dirty(168).call(&begin(&form), 0), Err((23, 0)));
+        let mut desk = dirty(168);
+        assert_eq!(desk.call(&begin(&form), 1), Ok(1));
+        let numbers = [1, 168, edition.number(), 0, 0, 0, 0, 1];
+        assert_eq!(desk.numbers(), (numbers, form));
+        assert!(desk.text.iter().chain(&desk.tree).all(|byte| *byte == 0));
+    }
+}
+
+/// A writer whose buffer and areas hold other bytes than zero.
+fn dirty(buffer: usize) -> Writer {
+    Writer::passed(vec![7; buffer], vec![8; TEXT_AREA], vec![9; TREE_AREA])
+}
+
+/// 24 by the recorded edition: only 2 and 3 pass. What passes is a record of that edition, in the name rule and in what close stores.
+#[test]
+fn recorded_editions() {
+    for begun in Edition::WRITTEN {
+        for number in [
+            0,
+            1,
+            4,
+            256 + 2,
+            1 << 32,
+            1 << 32 | 2,
+            1 << 32 | 3,
+            u64::MAX,
+        ] {
+            let mut desk = desk(300);
+            play(&mut desk, &worked_calls(begun)[..2], u64::MAX);
+            desk.call(&Call::Alter(Alteration::Edition(number)), 0)
+                .unwrap();
+            let before = desk.record;
+            let calls = [
+                Call::Make(9, Vec::new()),
+                Call::Put(9, 0, Vec::new()),
+                Call::Close,
+            ];
+            assert_eq!(play(&mut desk, &calls, u64::MAX), [Err((24, 0)); 3]);
+            assert_eq!(desk.record, before);
+        }
+        for then in Edition::WRITTEN {
+            let mut desk = desk(214);
+            let calls = worked_calls(begun);
+            play(&mut desk, &calls[..2], u64::MAX);
+            desk.call(&Call::Alter(Alteration::Edition(then.number())), 0)
+                .unwrap();
+            let wide = desk.clone().call(&Call::Make(0, b"9".to_vec()), 0);
+            let expected = match then {
+                Edition::Three => Ok(2),
+                _ => Err((14, 0)),
+            };
+            assert_eq!(wide, expected);
+            play(&mut desk, &calls[2..], u64::MAX);
+            assert!(desk.buffer == worked(then));
+            // Closed: 22 where the edition is a written one, else 24.
+            assert_eq!(desk.call(&Call::Close, 0), Err((22, 0)));
+            desk.call(&Call::Alter(Alteration::Edition(1)), 0).unwrap();
+            assert_eq!(desk.call(&Call::Close, 0), Err((24, 0)));
+        }
+    }
+    assert_eq!(desk(0).record, Record::default());
+    assert_eq!(desk(0).call(&Call::Close, 0), Err((24, 0)));
+}
+
+/// P1 to P10. P3 and P4 are in edition 3, too; P5 is not.
 #[test]
 fn cases_on_each_side() {
-    let mut desk = desk(214);
-    play(&mut desk, &worked_calls(), u64::MAX);
-    let opened = open(&desk.buffer, &Edition::Two.form()).ok().unwrap();
-    let passed = passed(&desk.buffer, &opened);
-    let reader = judged(&passed).ok().unwrap();
-    assert_eq!(reader.lookup(b"/"), Ok(0));
-    for (path, place) in [(b"".as_slice(), 0), (b"//a", 1), (b"/a/", 3), (b"/9a", 1)] {
-        assert_eq!(reader.lookup(path), Err((14, place)));
-        assert_eq!(path_fault(path), Some(place));
+    for edition in Edition::WRITTEN {
+        let file = worked(edition);
+        let opened = open(&file, &edition.form()).ok().unwrap();
+        let passed = passed(&file, &opened);
+        let reader = judged(&passed).ok().unwrap();
+        assert_eq!(reader.lookup(b"/"), Ok(0));
+        for (path, place) in [(b"".as_slice(), 0), (b"//a", 1), (b"/a/", 3)] {
+            assert_eq!(reader.lookup(path), Err((14, place)));
+            assert_eq!(edition.path_fault(path), Some(place));
+        }
+        let nine = match edition {
+            Edition::Three => (15, 0),
+            _ => (14, 1),
+        };
+        assert_eq!(reader.lookup(b"/9a"), Err(nine));
+        assert_eq!(reader.lookup(b"/a/n"), Ok(2));
+        assert_eq!(reader.element(2, 0), Ok(Element::Int(-70)));
     }
-    assert_eq!(reader.lookup(b"/a/n"), Ok(2));
-    assert_eq!(reader.element(2, 0), Ok(Element::Int(-70)));
-    assert!(is_subkey(b"_") && !is_subkey(b"9a"));
+    for edition in NARROW {
+        assert!(edition.is_subkey(b"_") && !edition.is_subkey(b"9a"));
+    }
+    for name in [b"_".as_slice(), b"9a", b" ", b"\xff"] {
+        assert!(Edition::Three.is_subkey(name));
+    }
+    for name in [b"".as_slice(), b"a/b", b"a\0"] {
+        assert!(!Edition::Three.is_subkey(name));
+    }
     let int = |bytes: &[u8]| decoded(Kind::Int, bytes);
     assert_eq!(int(b"\xff\xff\xff\xba"), Element::Int(-70));
     assert_eq!(int(b"\x80\0\0\0"), Element::Int(-2_147_483_648));
@@ -85,8 +234,242 @@ fn cases_on_each_side() {
     assert_eq!((Kind::Void.entry(), Kind::Int.entry()), (13, 25));
 }
 
-/// What opening answers to an image of two sections: the number of strings, or the refusal. In edition 2 the symbol header has the
-/// count, and the tree header has 0.
+/// The header of each edition: sizes, the places of the section headers by hand, the 12 bytes.
+#[test]
+fn headers() {
+    let places = |edition: Edition| [SYMBOLS, TREE, DATA].map(|section| edition.place_of(section));
+    assert_eq!(places(Edition::One), [32, 64, 96]);
+    assert_eq!(places(Edition::Two), [32, 72, 112]);
+    assert_eq!(places(Edition::Three), [72, 112, 32]);
+    let sums =
+        |edition: Edition| [SYMBOLS, TREE, DATA].map(|section| edition.place_of_sum(section));
+    assert_eq!(sums(Edition::One), [48, 80, 112]);
+    assert_eq!(sums(Edition::Two), [56, 96, 136]);
+    assert_eq!(sums(Edition::Three), [96, 136, 56]);
+    assert_eq!(Edition::ALL.map(Edition::summed), [128, 152, 152]);
+    assert_eq!(Edition::ALL.map(Edition::header), [144, 168, 168]);
+    let form = |last: u8| [0, 0x40, 2, 0x35, 4, 0, 3, 0xfd, 0, 0, 0, last];
+    assert_eq!(
+        Edition::ALL.map(Edition::form),
+        [0x90, 0xa8, 0xa8].map(form)
+    );
+    assert_eq!(
+        Edition::ALL.map(|edition| form_for(edition.text())),
+        [0x90, 0xa8, 0xa8].map(form)
+    );
+    assert_eq!(form_for(b"LHPC AFF version 3.1"), form(0xa8));
+    assert_eq!(Edition::from_text(b"LHPC AFF version 3."), None);
+    let numbers = [0, 1, 2, 3, 4, 1 << 32 | 2];
+    let exist = numbers.map(|number| Edition::from_number(number).is_some());
+    assert_eq!(exist, [false, true, true, true, false, false]);
+    let are_written = numbers.map(|number| Edition::written(number).is_some());
+    assert_eq!(are_written, [false, false, true, true, false, false]);
+}
+
+/// The verdict on a worked file that was changed: number and place.
+fn verdict(file: &[u8]) -> Result<(), Refusal> {
+    open(file, &form_for(file))
+        .map(|_| ())
+        .map_err(without_second)
+}
+
+/// Lengths, texts and bytes of the signature in edition 3.
+#[test]
+fn signature_of_edition_3() {
+    let file = worked(Edition::Three);
+    assert_eq!(verdict(&file), Ok(()));
+    for length in 0..=167 {
+        assert_eq!(verdict(&file[..length]), Err((2, 0)), "{length}");
+    }
+    assert_eq!(verdict(&file[..168]), Err((6, 1)));
+    let with = |place: usize, byte: u8| {
+        let mut file = file.clone();
+        file[place] = byte;
+        sum_header(&mut file, Edition::Three);
+        verdict(&file)
+    };
+    for (place, byte) in [
+        (19, b'1'),
+        (17, b'4'),
+        (17, b'0'),
+        (18, b','),
+        (0, 0),
+        (0, b'l'),
+    ] {
+        assert_eq!(with(place, byte), Err((3, 0)));
+    }
+    assert_eq!(with(20, b'.'), Err((4, 0)));
+    assert_eq!(with(31, 144), Err((4, 0)));
+    // Another edition's text: edition 1's form has another header size; edition 2 has its section headers in another order.
+    assert_eq!(with(17, b'1'), Err((4, 0)));
+    assert_eq!(with(17, b'2'), Err((9, 1)));
+    // With a header sum that is wrong, all but 3 and 4 come after it.
+    let mut file = file;
+    file[152] ^= 1;
+    assert_eq!(verdict(&file), Err((5, 0)));
+}
+
+/// The worked file with its section headers in the order of the other edition, and right sums.
+#[test]
+fn order_of_section_headers() {
+    for (edition, ranks, expected) in [
+        (Edition::Three, [1, 2, 0], (26, 0)),
+        (Edition::Two, [2, 0, 1], (9, 1)),
+    ] {
+        let file = worked(edition);
+        let headers: Vec<&[u8]> = ranks
+            .iter()
+            .map(|rank| &file[SIGNATURE + 40 * rank..][..40])
+            .collect();
+        let mut moved = [&file[..SIGNATURE], &headers.concat(), &file[152..]].concat();
+        sum_header(&mut moved, edition);
+        assert_eq!(verdict(&moved), Err(expected));
+    }
+}
+
+/// 6 and 7 report 1 symbol, 2 tree, 3 data, and the lowest of several, wherever the section headers stand; 26 and 9 by the counts of symbol and tree
+/// header; the data header's count is not checked.
+#[test]
+fn sections_of_each_edition() {
+    for edition in Edition::WRITTEN {
+        let file = worked(edition);
+        let with = |changes: &[(usize, u8)]| {
+            let mut file = file.clone();
+            for (place, byte) in changes {
+                file[*place] = *byte;
+            }
+            sum_header(&mut file, edition);
+            verdict(&file)
+        };
+        let far = |section: usize| (edition.place_of(section) + 1, 1);
+        let wrong = |section: usize| (edition.place_of_sum(section), 0);
+        for section in [SYMBOLS, TREE, DATA] {
+            let number = section as u64 + 1;
+            assert_eq!(with(&[far(section)]), Err((6, number)));
+            assert_eq!(with(&[wrong(section)]), Err((7, number)));
+            assert_eq!(with(&[far(DATA), far(section)]), Err((6, number)));
+            assert_eq!(with(&[wrong(DATA), wrong(section)]), Err((7, number)));
+            let count = (edition.place_of(section) + 23, 3);
+            let expected = [Err((26, 0)), Err((9, 0)), Ok(())];
+            assert_eq!(with(&[count]), expected[section]);
+        }
+    }
+}
+
+/// A file of edition 3 with names that the others do not have, and how the listers print them. The digest was made elsewhere.
+#[test]
+fn wide_names() {
+    let (mut desk, mut narrow) = (desk(253), desk(300));
+    let calls = [
+        Call::begin(Edition::Three),
+        Call::Make(0, b"9a".to_vec()),
+        Call::Make(1, b"p x=\xff\\".to_vec()),
+        Call::Make(1, b"\n".to_vec()),
+        Call::Put(2, 4, 3.5_f64.to_be_bytes().to_vec()),
+        Call::Put(3, 2, b"hi".to_vec()),
+        Call::Close,
+    ];
+    let answers = play(&mut desk, &calls, u64::MAX);
+    assert_eq!(answers, [Ok(1), Ok(1), Ok(2), Ok(3), Ok(8), Ok(2), Ok(243)]);
+    let file = &desk.buffer;
+    assert_eq!(hex(&md5(file)), "72c629f0dd1741bd4c8e2cee066c0fc7");
+    let lines = r"/ void 0
+/9a void 0
+/9a/p\x20x=\xff\x5c double 1
+/9a/\x0a char 2
+";
+    assert_eq!(listing(file, Choice::All), lines.as_bytes());
+    let short = lines.split_inclusive('\n').skip(2).collect::<String>();
+    assert_eq!(listing(file, Choice::NotVoid), short.as_bytes());
+    let opened = open(file, &form_for(file)).ok().unwrap();
+    let passed = passed(file, &opened);
+    let reader = judged(&passed).ok().unwrap();
+    // The path has the bytes of the names, not what is printed.
+    assert_eq!(reader.path(3), Ok(b"/9a/\n".to_vec()));
+    assert_eq!(reader.lookup(b"/9a/\n"), Ok(3));
+    assert_eq!(reader.lookup(b"/9a/p x=\xff\\"), Ok(2));
+    assert_eq!(reader.lookup(br"/9a/\x0a"), Err((15, 0)));
+    assert_eq!(reader.lookup(b"/9a/p x=\xff"), Err((15, 0)));
+    for name in [b"9a".as_slice(), b"\n"] {
+        let call = Call::Make(0, name.to_vec());
+        let answers = play(&mut narrow, &[Call::begin(Edition::Two), call], 9);
+        assert_eq!(answers, [Ok(1), Err((14, 0))]);
+    }
+}
+
+/// Lookup goes by the recorded edition. A file of edition 3 whose record is altered to edition 2 has a node that no lookup finds.
+#[test]
+fn lookup_by_the_record() {
+    for of in Edition::ALL {
+        let image = tree(of, &[(0, "a", Kind::Void, 0)]);
+        let opened = open(&image, &of.form()).ok().unwrap();
+        for edition in 0..=4 {
+            let mut passed = passed(&image, &opened);
+            passed.record.edition = edition;
+            let expected = match edition {
+                1..=2 => Err((14, 1)),
+                3 => Err((15, 0)),
+                _ => Err((24, 0)),
+            };
+            let reader = judged(&passed).map_err(|number| (number, 0));
+            let wide = reader.and_then(|reader| {
+                assert_eq!(reader.lookup(b"/a"), Ok(1));
+                assert_eq!(reader.lookup(b"/\0"), Err((14, 1)));
+                reader.lookup(b"/9")
+            });
+            assert_eq!(wide, expected);
+        }
+    }
+}
+
+/// How each byte is printed, at the bounds by hand; and that every byte printed is from 33 to 126.
+#[test]
+fn escapes() {
+    for (byte, text) in [
+        (1, r"\x01"),
+        (9, r"\x09"),
+        (10, r"\x0a"),
+        (31, r"\x1f"),
+        (32, r"\x20"),
+        (33, "!"),
+        (34, "\""),
+        (46, "."),
+        (48, "0"),
+        (91, "["),
+        (92, r"\x5c"),
+        (93, "]"),
+        (125, "}"),
+        (126, "~"),
+        (127, r"\x7f"),
+        (128, r"\x80"),
+        (173, r"\xad"),
+        (254, r"\xfe"),
+        (255, r"\xff"),
+    ] {
+        assert_eq!(shown(&[byte]), text.as_bytes());
+        let name = [b'a', byte, b'b'];
+        let image = nodes_with(Edition::Three, &[&name], &[(0, 0)], false, b"");
+        let lines = format!("/ void 0\n/a{text}b void 0\n");
+        assert_eq!(listing(&image, Choice::All), lines.as_bytes());
+    }
+    let mut different: Vec<Vec<u8>> = (0..=255).map(|byte| shown(&[byte])).collect();
+    assert!(different
+        .iter()
+        .flatten()
+        .all(|byte| (33..=126).contains(byte)));
+    different.sort();
+    different.dedup();
+    assert_eq!(different.len(), 256);
+    assert_eq!(shown(br"/a\x20/ "), br"/a\x5cx20/\x20");
+    // The narrow names are printed as they are.
+    let narrow: Vec<u8> = (0..=255)
+        .filter(|byte| Edition::Two.is_subkey(&[b'a', *byte]))
+        .collect();
+    assert_eq!(shown(&narrow), narrow);
+}
+
+/// What opening answers to an image of two sections: the number of strings, or the refusal. Where there are counts, the symbol header has this one, and
+/// the tree header has 0.
 fn opened(edition: Edition, symbols: &[u8], count: u64, tree: &[u8]) -> Result<u64, Refusal> {
     let header = vec![0; edition.header()];
     let span = |offset: usize, size: usize| Span {
@@ -122,8 +505,6 @@ fn without_second(refused: Refused) -> Refusal {
 /// An entry of type 0: 9 at entry 1.
 const BAD_TREE: &[u8] = &[0];
 
-const EDITIONS: [Edition; 2] = [Edition::One, Edition::Two];
-
 /// A symbol section: each string with its zero.
 fn section(strings: &[&str]) -> Vec<u8> {
     let ended = |string: &&str| format!("{string}\0").into_bytes();
@@ -143,7 +524,7 @@ fn strings_in(symbols: &[u8]) -> u64 {
     zeros + u64::from(!symbols.is_empty() && !symbols.ends_with(&[0]))
 }
 
-/// 25 and 27 with their places, in both editions, also before the tree's 9. The count is right.
+/// 25 and 27 with their places, in all editions, also before the tree's 9. The count is right.
 #[test]
 fn strings_too_many_or_repeated() {
     let tables = [
@@ -174,30 +555,31 @@ fn strings_too_many_or_repeated() {
     }
 }
 
-/// What opening answers to a table, in both editions, with the right count, and before the tree's 9.
+/// What opening answers to a table, in all editions, with the right count, and before the tree's 9.
 fn assert_answer(symbols: &[u8], count: u64, answer: Result<u64, Refusal>) {
-    for edition in EDITIONS {
+    for edition in Edition::ALL {
         assert_eq!(opened(edition, symbols, count, b""), answer);
         let with_bad_tree = answer.and(Err((9, 1)));
         assert_eq!(opened(edition, symbols, count, BAD_TREE), with_bad_tree);
     }
 }
 
-/// 26 in edition 2. Edition 1 has no count.
+/// 26 in editions 2 and 3. Edition 1 has no count.
 #[test]
 fn symbol_counts() {
     let two = section(&["a", "n"]);
     for count in [0, 1, 3, (1 << 32) + 2, u64::MAX] {
-        assert_eq!(opened(Edition::Two, &two, count, b""), Err((26, 0)));
-        assert_eq!(opened(Edition::Two, &two, count, BAD_TREE), Err((26, 0)));
+        for edition in COUNTED {
+            assert_eq!(opened(edition, &two, count, b""), Err((26, 0)));
+            assert_eq!(opened(edition, &two, count, BAD_TREE), Err((26, 0)));
+        }
         assert_eq!(opened(Edition::One, &two, count, b""), Ok(2));
     }
-    assert_eq!(opened(Edition::Two, &two, 2, b""), Ok(2));
-    assert_eq!(opened(Edition::Two, b"", 1, b""), Err((26, 0)));
-    assert_eq!(
-        opened(Edition::Two, &large(2048, &[]), 2047, b""),
-        Err((26, 0))
-    );
+    for edition in COUNTED {
+        assert_eq!(opened(edition, &two, 2, b""), Ok(2));
+        assert_eq!(opened(edition, b"", 1, b""), Err((26, 0)));
+        assert_eq!(opened(edition, &large(2048, &[]), 2047, b""), Err((26, 0)));
+    }
 }
 
 /// 25, 26, 27: the first in this order.
@@ -205,9 +587,9 @@ fn symbol_counts() {
 fn symbol_faults_in_order() {
     let repeated = section(&["a", "n", "a"]);
     let many = [section(&["a", "a"]), large(2047, &[])].concat();
-    for edition in EDITIONS {
+    for edition in Edition::ALL {
         for count in [0, 2, 3, 2049] {
-            let wrong = edition == Edition::Two && count != 3;
+            let wrong = edition.has_counts() && count != 3;
             let expected = if wrong { (26, 0) } else { (27, 2) };
             assert_eq!(opened(edition, &repeated, count, BAD_TREE), Err(expected));
         }
@@ -250,10 +632,10 @@ fn last_string_not_ended() {
         let many = count > 2048;
         for wrong in [count - 1, count + 1] {
             let expected = if many { (25, 2048) } else { (26, 0) };
-            assert_eq!(
-                opened(Edition::Two, &symbols, wrong, BAD_TREE),
-                Err(expected)
-            );
+            for edition in COUNTED {
+                let refused = opened(edition, &symbols, wrong, BAD_TREE);
+                assert_eq!(refused, Err(expected));
+            }
             assert_eq!(opened(Edition::One, &symbols, wrong, b""), answer);
         }
     }
@@ -265,7 +647,7 @@ fn last_string_not_ended() {
 fn worked_file_not_ended() {
     let keys = [(0, "a", Kind::Void, 0), (1, "n", Kind::Int, 1)];
     let lines = b"/ void 0\n/a void 0\n/a/n int 1\n";
-    for edition in EDITIONS {
+    for edition in Edition::ALL {
         let mut draft = draft_of(edition, &keys);
         draft.unterminated = true;
         lay_out(&mut draft, [DATA, SYMBOLS, TREE], 4, b"");
@@ -306,19 +688,27 @@ fn nodes_with(
     draft.finish()
 }
 
-/// The number of strings, or the refusal, of such an image, in both editions alike.
+/// The number of strings, or the refusal, of such an image, in some editions alike.
 fn opened_nodes(
+    editions: &[Edition],
     strings: &[&[u8]],
     of: &[(u64, u32)],
     unterminated: bool,
     after: &[u8],
 ) -> Result<u64, Refused> {
-    let both = EDITIONS.map(|edition| {
+    alike(editions, |edition| {
         let image = nodes_with(edition, strings, of, unterminated, after);
         open(&image, &edition.form()).map(|opened| opened.record.strings)
-    });
-    assert_eq!(both[0], both[1]);
-    both[0]
+    })
+}
+
+/// What is the same in some editions.
+fn alike<T: PartialEq + std::fmt::Debug>(editions: &[Edition], of: impl Fn(Edition) -> T) -> T {
+    let first = of(editions[0]);
+    for edition in &editions[1..] {
+        assert_eq!(of(*edition), first, "{edition:?}");
+    }
+    first
 }
 
 /// 10 with its node and its second number.
@@ -333,32 +723,46 @@ fn ten<T>(place: u64, second: u64) -> Result<T, Refused> {
 /// 10 and 12 of a last string that has no zero, with bytes after the section that would make another name.
 #[test]
 fn names_not_ended() {
-    let opened_with =
-        |strings: &[&[u8]], of: &[(u64, u32)], after: &[u8]| opened_nodes(strings, of, true, after);
+    let opened_in = |editions: &[Edition], strings: &[&[u8]], of: &[(u64, u32)], after: &[u8]| {
+        opened_nodes(editions, strings, of, true, after)
+    };
     let chain = [(0, 0), (1, 1)];
     let siblings = [(0, 0), (0, 1)];
     for after in [b"".as_slice(), b"b\0", b"\0", b"/", b"9"] {
-        assert_eq!(opened_with(&[b"a", b"n"], &chain, after), Ok(2));
-        assert_eq!(opened_with(&[b"ab", b"a"], &siblings, after), Ok(2));
-        for (name, place) in [
+        let all =
+            |strings: &[&[u8]], of: &[(u64, u32)]| opened_in(&Edition::ALL, strings, of, after);
+        assert_eq!(all(&[b"a", b"n"], &chain), Ok(2));
+        assert_eq!(all(&[b"ab", b"a"], &siblings), Ok(2));
+        let narrow = [
             (b"9".as_slice(), 0),
             (b"a ", 1),
             (b"a@", 1),
-            (b"a/", 1),
             (b"\xff", 0),
             (b"momentum:1 ", 10),
-        ] {
+        ];
+        let in_all = [(b"a/".as_slice(), 1), (b"/", 0), (b"a/ ", 1)];
+        for (name, place) in narrow.into_iter().chain(in_all) {
+            let strings = [b"a".as_slice(), name];
             for parent in [1, 9] {
                 let nodes = [(0, 0), (parent, 1)];
-                assert_eq!(opened_with(&[b"a", name], &nodes, after), ten(2, place));
+                assert_eq!(opened_in(&NARROW, &strings, &nodes, after), ten(2, place));
             }
-            assert_eq!(opened_with(&[b"a", name], &[(0, 0)], after), Ok(2));
+            assert_eq!(all(&strings, &[(0, 0)]), Ok(2));
+        }
+        for (name, _) in narrow {
+            let strings = [b"a".as_slice(), name];
+            assert_eq!(opened_in(&[Edition::Three], &strings, &chain, after), Ok(2));
+            let orphan = opened_in(&[Edition::Three], &strings, &[(0, 0), (9, 1)], after);
+            assert_eq!(orphan, ten(2, 0));
+        }
+        for (name, place) in in_all {
+            assert_eq!(all(&[b"a", name], &chain), ten(2, place));
         }
         assert_eq!(
-            opened_with(&[b"a", b"n"], &[(0, 1), (0, 1)], after),
+            all(&[b"a", b"n"], &[(0, 1), (0, 1)]),
             Err(Refused::from((12, 2)))
         );
-        assert_eq!(opened_with(&[b"a", b"n"], &[(0, 2)], after), ten(1, 0));
+        assert_eq!(all(&[b"a", b"n"], &[(0, 2)]), ten(1, 0));
     }
 }
 
@@ -368,24 +772,38 @@ fn every_byte() {
     const FIRST: &[u8] = b"ABCDEFGHIJKLMNOPQRSTUVWXYZabcdefghijklmnopqrstuvwxyz_:";
     const DIGITS: &[u8] = b"0123456789.-";
     for byte in 0..=255 {
+        let root = byte == b'/';
+        let wide = ![0, b'/'].contains(&byte);
         let first = FIRST.contains(&byte);
         let later = first || DIGITS.contains(&byte);
-        assert_eq!(subkey_fault(&[byte]), (!first).then_some(0), "{byte}");
+        for (edition, first, later) in [
+            (Edition::One, first, later),
+            (Edition::Two, first, later),
+            (Edition::Three, wide, wide),
+        ] {
+            let (name, path) = (
+                |name: &[u8]| edition.subkey_fault(name),
+                |path: &[u8]| edition.path_fault(path),
+            );
+            assert_eq!(name(&[byte]), (!first).then_some(0), "{byte}");
+            let place = if first { 1 } else { 0 };
+            assert_eq!(name(&[byte, b'/']), Some(place), "{byte}");
+            assert_eq!(name(&[byte, 0]), Some(place), "{byte}");
+            assert_eq!(name(&[b'a', byte]), (!later).then_some(1));
+            let place = if later { 2 } else { 1 };
+            assert_eq!(name(&[b'a', byte, 0]), Some(place), "{byte}");
+            assert_eq!(path(&[byte]), (!root).then_some(0), "{byte}");
+            assert_eq!(path(&[b'/', byte]), (!first).then_some(1), "{byte}");
+            let place = if root { 3 } else { 2 };
+            let fault = (!later).then_some(place);
+            assert_eq!(path(&[b'/', b'a', byte]), fault, "{byte}");
+        }
         let place = if first { 1 } else { 0 };
-        assert_eq!(subkey_fault(&[byte, b' ']), Some(place), "{byte}");
-        assert_eq!(subkey_fault(&[b'a', byte]), (!later).then_some(1));
-        let place = if later { 2 } else { 1 };
-        assert_eq!(subkey_fault(&[b'a', byte, 0]), Some(place), "{byte}");
-        let root = byte == b'/';
-        assert_eq!(path_fault(&[byte]), (!root).then_some(0), "{byte}");
-        assert_eq!(path_fault(&[b'/', byte]), (!first).then_some(1), "{byte}");
-        let place = if root { 3 } else { 2 };
-        let fault = (!later).then_some(place);
-        assert_eq!(path_fault(&[b'/', b'a', byte]), fault, "{byte}");
+        assert_eq!(Edition::Two.subkey_fault(&[byte, b' ']), Some(place));
     }
 }
 
-/// C-18's places in a path, by hand.
+/// C-18's places in a path, by hand: in editions 1 and 2.
 const MALFORMED: [(&[u8], u64); 34] = [
     (b"", 0),
     (b"a", 0),
@@ -423,18 +841,57 @@ const MALFORMED: [(&[u8], u64); 34] = [
     (b"/momentum,1/x", 9),
 ];
 
+/// Those of edition 3.
+const MALFORMED_WIDE: [(&[u8], u64); 24] = [
+    (b"", 0),
+    (b"a", 0),
+    (b"a/", 0),
+    (b" /a", 0),
+    (b"9", 0),
+    (b"\0", 0),
+    (b"\xff", 0),
+    (b"//", 1),
+    (b"//a", 1),
+    (b"///", 1),
+    (b"/a/", 3),
+    (b"/a//", 3),
+    (b"/a//n", 3),
+    (b"/a/n/", 5),
+    (b"/a/n//", 5),
+    (b"/ //", 3),
+    (b"/\xff\n/", 4),
+    (b"/\0", 1),
+    (b"/a\0", 2),
+    (b"/a\0/n", 2),
+    (b"/a/\0", 3),
+    (b"/9 \\\0", 4),
+    (b"/../.\0//", 5),
+    (b"/momentum,1/x\0", 13),
+];
+
 #[test]
 fn places_in_a_path() {
     let keys = [(0, "a", Kind::Void, 0), (1, "n", Kind::Int, 1)];
-    for edition in EDITIONS {
+    for edition in Edition::ALL {
         let image = tree(edition, &keys);
         let opened = open(&image, &edition.form()).ok().unwrap();
         let passed = passed(&image, &opened);
         let reader = judged(&passed).ok().unwrap();
-        for (path, place) in MALFORMED {
-            assert_eq!(reader.lookup(path), Err((14, place)), "{path:?}");
+        let (malformed, other) = match edition {
+            Edition::One | Edition::Two => (MALFORMED.as_slice(), MALFORMED_WIDE.as_slice()),
+            Edition::Three => (MALFORMED_WIDE.as_slice(), MALFORMED.as_slice()),
+        };
+        for (path, place) in malformed {
+            assert_eq!(reader.lookup(path), Err((14, *place)), "{path:?}");
         }
-        for (path, place) in long_malformed() {
+        for (path, _) in other {
+            // What is malformed in edition 3 is in the others, too; the other way, an absent path.
+            let place = edition.path_fault(path);
+            assert!(place.is_some() || edition == Edition::Three);
+            let refused = place.map_or((15, 0), |place| (14, place));
+            assert_eq!(reader.lookup(path), Err(refused), "{path:?}");
+        }
+        for (path, place) in long_malformed(edition) {
             assert_eq!(reader.lookup(&path), Err((14, place)));
         }
         assert_eq!(reader.lookup(b"/"), Ok(0));
@@ -445,17 +902,35 @@ fn places_in_a_path() {
             assert_eq!(reader.lookup(path), Err((15, 0)), "{path:?}");
         }
     }
+    let absent = [
+        "/ ",
+        "/a ",
+        "/9",
+        "/.",
+        "/..",
+        "/\n",
+        "/\\",
+        "/a/n b",
+        "/momentum,1/x",
+    ];
+    for path in absent {
+        assert_eq!(Edition::Three.path_fault(path.as_bytes()), None, "{path}");
+    }
 }
 
 /// Paths of 65,536 bytes, one subkey or 32,768, with a fault in their last byte; and an empty subkey after it.
-fn long_malformed() -> Vec<(Vec<u8>, u64)> {
+fn long_malformed(edition: Edition) -> Vec<(Vec<u8>, u64)> {
+    let bytes = match edition {
+        Edition::One | Edition::Two => [0, b' ', 255].as_slice(),
+        Edition::Three => &[0],
+    };
     let one = [b"/".to_vec(), vec![b'k'; 65_535]].concat();
     let many = b"/k".repeat(32_768);
     let mut found = Vec::new();
     for path in [one, many] {
-        for byte in [0, b' ', 255] {
+        for byte in bytes {
             let mut bad = path.clone();
-            bad[65_535] = byte;
+            bad[65_535] = *byte;
             found.push((bad, 65_535));
         }
         found.push(([path, b"/".to_vec()].concat(), 65_537));
@@ -471,39 +946,63 @@ fn long_malformed() -> Vec<(Vec<u8>, u64)> {
 fn places_in_a_name() {
     let mut long = vec![b'k'; 40_000];
     long[39_999] = b'/';
-    let names: [(&[u8], u64); 18] = [
+    let in_both: [(&[u8], u64); 9] = [
         (b"", 0),
-        (b"9a", 0),
-        (b"9", 0),
         (b"a/b", 1),
         (b"/", 0),
         (b"/a", 0),
-        (b"a b", 1),
-        (b" ", 0),
-        (b"momentum,1", 8),
         (b"\0", 0),
         (b"a\0", 1),
         (b"ab\0c d", 2),
+        (b"a/\0", 1),
+        (&long, 39_999),
+    ];
+    let narrow: [(&[u8], u64); 10] = [
+        (b"9a", 0),
+        (b"9", 0),
+        (b"a b", 1),
+        (b" ", 0),
+        (b"momentum,1", 8),
         (b"\xff", 0),
         (b"a\xff", 1),
         (b"a\xe9", 1),
         (b"-a", 0),
         (b"a.b-c_d:e;", 9),
-        (&long, 39_999),
     ];
-    let mut desk = desk(190);
-    play(&mut desk, &worked_calls()[..2], u64::MAX);
-    for (name, place) in names {
-        for parent in [0, 1] {
-            let before = desk.clone();
-            let call = Call::Make(parent, name.to_vec());
-            assert_eq!(desk.call(&call, 0), Err((14, place)), "{name:?}");
-            assert_eq!(desk.numbers().0[0], place);
-            desk.last = before.last;
-            assert!(desk == before);
+    // Malformed in both editions, but at another place.
+    let wide: [(&[u8], u64); 3] = [(b"9 \0", 2), (b"\xff\n/", 2), (b". ./.", 3)];
+    for (edition, more) in [
+        (Edition::Two, narrow.as_slice()),
+        (Edition::Three, wide.as_slice()),
+    ] {
+        let mut desk = desk(190);
+        play(&mut desk, &worked_calls(edition)[..2], u64::MAX);
+        for (name, place) in in_both.iter().chain(more) {
+            for parent in [0, 1] {
+                let before = desk.clone();
+                let call = Call::Make(parent, name.to_vec());
+                assert_eq!(desk.call(&call, 0), Err((14, *place)), "{name:?}");
+                assert_eq!(desk.numbers().0[0], *place);
+                desk.last = before.last;
+                assert!(desk == before);
+            }
+            let call = Call::Make(2, name.to_vec());
+            assert_eq!(desk.call(&call, 0), Err((15, 0)));
         }
-        let call = Call::Make(2, name.to_vec());
-        assert_eq!(desk.call(&call, 0), Err((15, 0)));
+    }
+    for (name, _) in narrow {
+        let mut desk = desk(300);
+        play(&mut desk, &worked_calls(Edition::Three)[..2], u64::MAX);
+        assert_eq!(desk.call(&Call::Make(1, name.to_vec()), 0), Ok(2));
+        assert_eq!(desk.call(&Call::Make(1, name.to_vec()), 0), Err((17, 0)));
+        assert_eq!(
+            desk.call(&Call::Close, u64::MAX),
+            Ok(168 + 26 + 3 + name.len() as u64)
+        );
+        let path = [b"/a/", name].concat();
+        let opened = open(&desk.buffer, &form_for(&desk.buffer)).ok().unwrap();
+        let passed = passed(&desk.buffer, &opened);
+        assert_eq!(judged(&passed).ok().unwrap().lookup(&path), Ok(2));
     }
 }
 
@@ -511,13 +1010,11 @@ fn places_in_a_name() {
 #[test]
 fn second_number() {
     let long = [vec![b'k'; 70_000], b" ".to_vec()].concat();
-    let names: [(&[u8], u64); 13] = [
+    let long_wide = [vec![1; 70_000], b"/ ".to_vec()].concat();
+    let narrow: [(&[u8], u64); 10] = [
         (b"a b", 1),
         (b"9a", 0),
-        (b"", 0),
         (b"momentum,1", 8),
-        (b"a/b", 1),
-        (b"/", 0),
         (b"ab\xff", 2),
         (b"\xff", 0),
         (b"a b c", 1),
@@ -526,42 +1023,67 @@ fn second_number() {
         (b"abc ", 3),
         (&long, 70_000),
     ];
-    for (name, place) in names {
-        for unterminated in [false, true] {
-            let strings = [b"a".as_slice(), name];
-            let opened = |of: &[(u64, u32)]| opened_nodes(&strings, of, unterminated, b"x\0");
-            assert_eq!(opened(&[(0, 0), (0, 1)]), ten(2, place));
-            assert_eq!(opened(&[(0, 0), (2, 1)]), ten(2, place));
-            for parent in [3, 9, 1 << 32, u64::MAX] {
-                assert_eq!(opened(&[(0, 0), (parent, 1)]), ten(2, place));
-                // The parent alone is wrong; the number of the string, alone or with the parent.
-                assert_eq!(opened(&[(0, 0), (parent, 0)]), ten(2, 0));
-                assert_eq!(opened(&[(0, 0), (parent, 2)]), ten(2, 0));
-                // A higher node with a place of its own.
-                assert_eq!(opened(&[(parent, 0), (0, 1)]), ten(1, 0));
-                assert_eq!(opened(&[(parent, 9), (0, 1)]), ten(1, 0));
-                assert_eq!(opened(&[(parent, 1), (0, 2)]), ten(1, place));
-            }
-            assert_eq!(opened(&[(0, 0), (0, 2)]), ten(2, 0));
-            assert_eq!(opened(&[(0, 0), (0, u32::MAX)]), ten(2, 0));
-            assert_eq!(opened(&[(0, 0)]), Ok(2));
-        }
+    let in_all: [(&[u8], u64); 4] = [(b"", 0), (b"a/b", 1), (b"/", 0), (b"ab//", 2)];
+    let wide: [(&[u8], u64); 4] = [
+        (b" /", 1),
+        (b"9a/b", 2),
+        (b"\xff\n/ ", 2),
+        (&long_wide, 70_000),
+    ];
+    for (name, place) in narrow {
+        second_number_of(&NARROW, name, place);
+        let strings = [b"a".as_slice(), name];
+        let wide = opened_nodes(&[Edition::Three], &strings, &[(0, 0), (0, 1)], false, b"");
+        assert_eq!(wide, Ok(2));
+        let orphan = opened_nodes(&[Edition::Three], &strings, &[(0, 0), (9, 1)], false, b"");
+        assert_eq!(orphan, ten(2, 0));
+    }
+    for (name, place) in in_all {
+        second_number_of(&Edition::ALL, name, place);
+    }
+    for (name, place) in wide {
+        second_number_of(&[Edition::Three], name, place);
     }
     let two = [b"a".as_slice(), b"a b", b"abc,"];
-    assert_eq!(opened_nodes(&two, &[(0, 2), (0, 1)], false, b""), ten(1, 3));
-    assert_eq!(opened_nodes(&two, &[(0, 1), (0, 2)], false, b""), ten(1, 1));
+    let opened =
+        |strings: &[&[u8]], of: &[(u64, u32)]| opened_nodes(&NARROW, strings, of, false, b"");
+    assert_eq!(opened(&two, &[(0, 2), (0, 1)]), ten(1, 3));
+    assert_eq!(opened(&two, &[(0, 1), (0, 2)]), ten(1, 1));
     // 11, 12 and 13 come later; 9 and 27 before.
-    assert_eq!(opened_nodes(&two, &[(1, 0), (0, 1)], false, b""), ten(2, 1));
-    let twice = [b"a b".as_slice(), b"a b"];
-    let refused = opened_nodes(&twice, &[(0, 1)], false, b"");
+    assert_eq!(opened(&two, &[(1, 0), (0, 1)]), ten(2, 1));
+    let twice = [b"a/b".as_slice(), b"a/b"];
+    let refused = opened_nodes(&Edition::ALL, &twice, &[(0, 1)], false, b"");
     assert_eq!(refused, Err(Refused::from((27, 1))));
+}
+
+/// A name of a node that is malformed at a place in some editions.
+fn second_number_of(editions: &[Edition], name: &[u8], place: u64) {
+    for unterminated in [false, true] {
+        let strings = [b"a".as_slice(), name];
+        let opened = |of: &[(u64, u32)]| opened_nodes(editions, &strings, of, unterminated, b"x\0");
+        assert_eq!(opened(&[(0, 0), (0, 1)]), ten(2, place));
+        assert_eq!(opened(&[(0, 0), (2, 1)]), ten(2, place));
+        for parent in [3, 9, 1 << 32, u64::MAX] {
+            assert_eq!(opened(&[(0, 0), (parent, 1)]), ten(2, place));
+            // The parent alone is wrong; the number of the string, alone or with the parent.
+            assert_eq!(opened(&[(0, 0), (parent, 0)]), ten(2, 0));
+            assert_eq!(opened(&[(0, 0), (parent, 2)]), ten(2, 0));
+            // A higher node with a place of its own.
+            assert_eq!(opened(&[(parent, 0), (0, 1)]), ten(1, 0));
+            assert_eq!(opened(&[(parent, 9), (0, 1)]), ten(1, 0));
+            assert_eq!(opened(&[(parent, 1), (0, 2)]), ten(1, place));
+        }
+        assert_eq!(opened(&[(0, 0), (0, 2)]), ten(2, 0));
+        assert_eq!(opened(&[(0, 0), (0, u32::MAX)]), ten(2, 0));
+        assert_eq!(opened(&[(0, 0)]), Ok(2));
+    }
 }
 
 /// "the lister's refusal line stays as it is".
 #[test]
 fn lister_has_one_place() {
-    for edition in EDITIONS {
-        let image = nodes_with(edition, &[b"a", b"ab c"], &[(0, 0), (9, 1)], false, b"");
+    for edition in Edition::ALL {
+        let image = nodes_with(edition, &[b"a", b"ab/c"], &[(0, 0), (9, 1)], false, b"");
         for choice in [Choice::All, Choice::NotVoid] {
             assert_eq!(listing(&image, choice), b"refused 10 2\n");
         }
@@ -569,64 +1091,111 @@ fn lister_has_one_place() {
 }
 
 /// How often each kind was met; each must be met more than once.
-fn counted(met: impl Iterator<Item = kinds::Kind>) -> BTreeMap<kinds::Kind, usize> {
+fn counted<K: Ord + std::fmt::Debug>(met: impl Iterator<Item = K>) -> BTreeMap<K, usize> {
     let mut counts = BTreeMap::new();
     met.for_each(|kind| *counts.entry(kind).or_insert(0) += 1);
     assert!(counts.values().all(|count| *count > 1), "{counts:?}");
     counts
 }
 
-/// Images made for 10 get it with both their places. A name has 5 faults or none, a parent exists or not; two kinds of several nodes.
+/// Images made for 10 get it with both their places. A name has 5 faults or none, a parent exists or not; two kinds of several nodes. All in each edition.
 #[test]
 fn kinds_of_nodes() {
     let mut report = Report::default();
     let made = |number: u64| {
         let image = numbers(&Random::of(30, number));
         assert_eq!(judge(30, number, &image, &mut report), 10);
+        let edition = Edition::from_text(&image.bytes).unwrap();
         let nodes = bad_nodes(&image.bytes);
-        [Some(kinds::of_node(&nodes[0])), kinds::of_several(&nodes)]
+        let kinds = [Some(kinds::of_node(&nodes[0])), kinds::of_several(&nodes)];
+        kinds.map(|kind| kind.map(|kind| (edition, kind)))
     };
-    let counts = counted((0..600).flat_map(made).flatten());
+    let counts = counted((0..1800).flat_map(made).flatten());
     assert!(report.finish());
-    assert_eq!(counts.len(), 11 + 2, "{counts:?}");
+    assert_eq!(counts.len(), 3 * (11 + 2), "{counts:?}");
 }
 
-/// No first slash, of an empty path and of another; 4 faults of a subkey at 4 depths, but no first subkey that is empty at the path's end: that is `/`.
+/// No first slash, of an empty path and of another; 4 faults of a subkey at 4 depths, but no first subkey that is empty at the path's end: that is `/`. All
+/// in each edition.
 #[test]
 fn kinds_of_paths() {
     let random = Random::of(31, 0);
-    let some: [&[u8]; 4] = [b"/", b"/a", b"/a/n", b"/momentum.1/x-9/_"];
-    let made = |number: usize| {
-        let path = paths::malformed(&random, some[number % 4]);
-        let near = paths::near(&random, some[number % 4]);
-        [path, near].map(|path| Some(kinds::of_path(&path, path_fault(&path)?)))
+    let some: [&[u8]; 5] = [b"/", b"/a", b"/a/n", b"/momentum.1/x-9/_", b"/9 a/.\\"];
+    for edition in Edition::ALL {
+        let sound: Vec<&[u8]> = some
+            .into_iter()
+            .filter(|path| edition.path_fault(path).is_none())
+            .collect();
+        let made = |number: usize| {
+            let path = sound[number % sound.len()];
+            let made = [
+                paths::malformed(&random, edition, path),
+                paths::near(&random, path),
+            ];
+            made.map(|path| Some(kinds::of_path(&path, edition.path_fault(&path)?)))
+        };
+        let counts = counted((0..15_000).flat_map(made).flatten());
+        assert_eq!(counts.len(), 2 + 15, "{counts:?}");
+    }
+    let sound = |edition: Edition| {
+        let mut sound = paths::PATHS.to_vec();
+        sound.retain(|path| edition.path_fault(path).is_none());
+        sound
     };
-    let counts = counted((0..30_000).flat_map(made).flatten());
-    assert_eq!(counts.len(), 2 + 15, "{counts:?}");
-    let mut sound = paths::PATHS.to_vec();
-    sound.retain(|path| path_fault(path).is_none());
-    assert_eq!(sound, [b"/".as_slice(), b"/a"]);
+    for edition in NARROW {
+        assert_eq!(sound(edition), [b"/".as_slice(), b"/a"]);
+    }
+    let wide = [
+        b"/".as_slice(),
+        b"/9",
+        b"/9a",
+        b"/-a",
+        b"/.",
+        b"/ ",
+        b"/ a",
+        b"/\xff",
+        b"/a",
+        b"/a b/9",
+        b"/a/n\xff",
+        b"/momentum,1/x",
+        b"/..",
+        b"/../9 /~",
+        b"/\n",
+        b"/\\",
+        b"/\\x20",
+        b"/\x01",
+    ];
+    assert_eq!(sound(Edition::Three), wide);
 }
 
-/// No byte; 5 bytes and others at the first place, 4 and others at the last and between.
+/// No byte; 5 bytes and others at the first place, 4 and others at the last and between. In edition 3 only a slash and the byte 0.
 #[test]
 fn kinds_of_names() {
     let random = Random::of(32, 0);
-    let made = |_| {
-        let name = bad_name(&random);
-        kinds::of_name(&name, subkey_fault(&name).unwrap())
-    };
-    let counts = counted((0..3000).map(made));
-    assert_eq!(counts.len(), 1 + 6 + 5 + 5, "{counts:?}");
+    for (edition, kinds) in [
+        (Edition::Two, 1 + 6 + 5 + 5),
+        (Edition::Three, 1 + 2 + 2 + 2),
+    ] {
+        let made = |_| {
+            let name = bad_name(&random, edition);
+            kinds::of_name(&name, edition.subkey_fault(&name).unwrap())
+        };
+        let counts = counted((0..3000).map(made));
+        assert_eq!(counts.len(), kinds, "{counts:?}");
+    }
 }
 
 /// 24 by where a string begins, and names that end at a zero or at the section's end. The image is the worked file, whose symbol section is `a`,
 /// zero, `n`, zero from 172 on; the recorded section and the place of string 1 are altered.
 #[test]
 fn strings_in_altered_memory() {
-    let mut desk = desk(214);
-    play(&mut desk, &worked_calls(), u64::MAX);
-    let opened = open(&desk.buffer, &Edition::Two.form()).ok().unwrap();
+    for edition in Edition::WRITTEN {
+        strings_in_altered(&worked(edition));
+    }
+}
+
+fn strings_in_altered(file: &[u8]) {
+    let opened = open(file, &form_for(file)).ok().unwrap();
     let name = |image: &[u8], span: (u64, u64), place: u32| {
         let mut strings = opened.strings.clone();
         strings[1] = place;
@@ -641,7 +1210,7 @@ fn strings_in_altered_memory() {
         judged(&passed).and_then(|reader| Ok(String::from_utf8_lossy(reader.name(2)?).into_owned()))
     };
     let right = |name: &str| Ok(name.to_string());
-    let image = &desk.buffer;
+    let image = file;
     assert_eq!(name(image, (172, 4), 174), right("n"));
     // The section ends before the zero, before `n`, or is empty.
     assert_eq!(name(image, (172, 3), 174), right("n"));
@@ -657,7 +1226,7 @@ fn strings_in_altered_memory() {
     assert_eq!(name(image, (172, 4), 177), Err(24));
     assert_eq!(name(image, (173, 3), 174), Err(24));
     // No zero in the section from there on: other bytes in place of both zeros, and letters after the section.
-    let mut image = desk.buffer.clone();
+    let mut image = file.to_vec();
     image[173] = b'b';
     image[175] = b'c';
     assert_eq!(name(&image, (172, 4), 172), right("abnc"));
@@ -724,15 +1293,15 @@ fn lay_out(draft: &mut Draft, order: [usize; 3], data: usize, after: &[u8]) {
     draft.bytes.extend(after);
 }
 
-/// What `list` and `listall` print of a tree, in both editions alike.
+/// What `list` and `listall` print of a tree, in all editions alike.
 fn listings(keys: &[Key]) -> (String, String) {
-    let both = EDITIONS.map(|edition| {
-        let image = tree(edition, keys);
-        let text = |choice| String::from_utf8(listing(&image, choice)).unwrap();
-        (text(Choice::NotVoid), text(Choice::All))
-    });
-    assert_eq!(both[0], both[1]);
-    both[0].clone()
+    alike(&Edition::ALL, |edition| listings_in(edition, keys))
+}
+
+fn listings_in(edition: Edition, keys: &[Key]) -> (String, String) {
+    let image = tree(edition, keys);
+    let text = |choice| String::from_utf8(listing(&image, choice)).unwrap();
+    (text(Choice::NotVoid), text(Choice::All))
 }
 
 /// A chain of nodes of one name, Void but for the last.
@@ -810,6 +1379,27 @@ fn long_paths() {
     assert_eq!(listings(&beside), ("/n int 1\n".into(), refused()));
 }
 
+/// The limit of 65,536 bytes counts the path itself: in edition 3 such a path lists also where each byte of its names is printed as four.
+#[test]
+fn long_wide_paths() {
+    let (name, longer) = ("\x01".repeat(8191), "\x01".repeat(8192));
+    let mut keys = chain(8, &name, Kind::Int);
+    let (short, full) = listings_in(Edition::Three, &keys);
+    let path = format!("/{}", r"\x01".repeat(8191)).repeat(8);
+    assert_eq!(path.len(), 8 + 4 * (LISTED - 8));
+    assert_eq!(short, format!("{path} int 1\n"));
+    assert!(full.ends_with(&short) && full.lines().count() == 9);
+    keys[7].1 = &longer;
+    let refused = || "refused 21 0\n".to_string();
+    assert_eq!(listings_in(Edition::Three, &keys), (refused(), refused()));
+    keys[7].2 = Kind::Void;
+    keys[7].3 = 0;
+    assert_eq!(
+        listings_in(Edition::Three, &keys),
+        (String::new(), refused())
+    );
+}
+
 /// `refused N P` and `too long` are the same for both programs.
 #[test]
 fn refusals_of_both() {
@@ -851,25 +1441,93 @@ fn places_for_an_order() {
     }
 }
 
-/// Every image that is made for a verdict gets it, and each verdict from 2 to 13 and from 25 to 27 is met, but 8, which is withdrawn. A table without
-/// its last zero is met with each verdict that depends on the strings.
+/// Every image that is made for a verdict gets it, and each verdict from 2 to 13 and from 25 to 27 is met in every edition that has it, but 8, which is
+/// withdrawn. A table without its last zero is met with each verdict that depends on the strings.
 #[test]
 fn aims() {
     let mut report = Report::default();
-    let mut met = [0; 28];
-    let mut unterminated = [0; 28];
-    for number in 0..1500 {
+    let mut met = BTreeMap::new();
+    let mut unterminated = BTreeMap::new();
+    for number in 0..4000 {
         let image = image(20, number);
         let verdict = judge(20, number, &image, &mut report);
-        met[verdict] += 1;
-        unterminated[verdict] += usize::from(last_byte(&image.bytes).is_some_and(|byte| byte != 0));
+        let edition = Edition::from_text(&image.bytes);
+        *met.entry((edition, verdict)).or_insert(0) += 1;
+        if last_byte(&image.bytes).is_some_and(|byte| byte != 0) {
+            *unterminated.entry((edition, verdict)).or_insert(0) += 1;
+        }
     }
     assert!(report.finish());
-    let mut verdicts = [0].into_iter().chain(2..=7).chain(9..=13).chain(25..=27);
-    assert!(verdicts.all(|number| met[number] > 0), "{met:?}");
-    assert_eq!(met[8], 0);
-    let mut of_strings = [0, 10, 12, 25, 26, 27].into_iter();
-    assert!(of_strings.all(|number| unterminated[number] > 2), "{unterminated:?}");
+    for edition in Edition::ALL.map(Some) {
+        let is_counted = edition.is_some_and(Edition::has_counts);
+        for verdict in [0, 2, 4, 5, 6, 7, 9, 10, 11, 12, 13, 25, 26, 27] {
+            let count = met.get(&(edition, verdict)).copied().unwrap_or(0);
+            let expected = verdict != 26 || is_counted;
+            assert_eq!(count > 2, expected, "{edition:?} {verdict}: {count}");
+        }
+        for verdict in [0, 10, 12, 25, 26, 27] {
+            let count = unterminated.get(&(edition, verdict)).copied().unwrap_or(0);
+            let expected = verdict != 26 || is_counted;
+            assert_eq!(count > 2, expected, "{edition:?} {verdict}: {count}");
+        }
+    }
+    assert!(met.get(&(None, 3)).is_some_and(|count| *count > 2));
+    assert!(met.keys().all(|(_, verdict)| *verdict != 8));
+}
+
+/// Lawful images of edition 3 have names with each of these, and paths that the listers print in another way.
+#[test]
+fn wide_images() {
+    let mut seen = vec![0; 256];
+    let mut special: BTreeMap<Vec<u8>, usize> = BTreeMap::new();
+    let mut escaped = 0;
+    for number in 0..800 {
+        let image = image(21, number).bytes;
+        let Ok(opened) = open(&image, &form_for(&image)) else {
+            continue;
+        };
+        let passed = passed(&image, &opened);
+        let reader = judged(&passed).ok().unwrap();
+        let wide = opened.record.edition == 3;
+        for node in 1..=reader.nodes() {
+            let name = reader.name(node).unwrap();
+            assert!(wide || NARROW[0].is_subkey(name));
+            escaped += usize::from(shown(name) != name);
+            name.iter().for_each(|byte| seen[usize::from(*byte)] += 1);
+            *special.entry(name.to_vec()).or_insert(0) += 1;
+        }
+    }
+    let never: Vec<usize> = (0..256).filter(|byte| seen[*byte] == 0).collect();
+    assert_eq!(never, [0, 47]);
+    for name in WIDE_NAMES {
+        assert!(special.contains_key(name), "{name:?}");
+    }
+    assert!(escaped > 1000, "{escaped}");
+}
+
+/// The sample of the gate has images of each edition, accepted and refused, and names of edition 3 that are printed in another way.
+#[test]
+fn sample_of_all_editions() {
+    let sample = cases::sample(4000, 300).unwrap();
+    let mut met = BTreeMap::new();
+    let mut at = 0;
+    while at < sample.input.len() {
+        let size = big(&sample.input, at, 4) as usize;
+        let image = &sample.input[at + 4..][..size];
+        let accepted = open(image, &form_for(image)).is_ok();
+        *met.entry((Edition::from_text(image), accepted))
+            .or_insert(0) += 1;
+        at += 4 + size;
+    }
+    assert_eq!(met.values().sum::<usize>(), 300);
+    for edition in Edition::ALL {
+        for accepted in [false, true] {
+            let count = met.get(&(Some(edition), accepted)).copied().unwrap_or(0);
+            assert!(count > 20, "{met:?}");
+        }
+    }
+    let output = String::from_utf8(sample.output).unwrap();
+    assert!(output.lines().filter(|line| line.contains(r"\x")).count() > 100);
 }
 
 /// Opens an image and compares the verdict with what its maker knows; the number.

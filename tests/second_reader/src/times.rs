@@ -37,7 +37,8 @@ pub fn run(words: &[&str]) -> Outcome {
         ("whole", [file, keys]) => whole(&std::fs::read(file)?, &keys_of(keys)?, &times)?,
         ("order", [file, _]) => order(&std::fs::read(file)?, &times)?,
         ("short", [file, keys]) => short(&std::fs::read(file)?, &keys_of(keys)?, &times)?,
-        ("build", [tree, file]) => build(&tree_of(tree)?, file, &times)?,
+        ("build", [tree, file]) => build(Edition::Two, &tree_of(tree)?, file, &times)?,
+        ("build3", [tree, file]) => build(Edition::Three, &tree_of(tree)?, file, &times)?,
         _ => return Err("time: see README.md".into()),
     }
     Ok(true)
@@ -99,7 +100,8 @@ fn digest(message: &[u8], times: &Times) -> Fallible<()> {
 /// Opening must hand back the number: 0 for acceptance, else the refusal's.
 fn opening(image: &[u8], expected: u32, times: &Times) -> Fallible<()> {
     let form = form_for(image);
-    let number = |reported: Result<Opened, Refused>| reported.err().map_or(0, |refused| refused.number);
+    let number =
+        |reported: Result<Opened, Refused>| reported.err().map_or(0, |refused| refused.number);
     times.print(|_| number(black_box(open(black_box(image), &form))) == expected)
 }
 
@@ -234,19 +236,19 @@ fn tree_of(file: &str) -> Fallible<Vec<Node>> {
 /// Bytes of the buffer, as in bench/write.c.
 const BUFFER_SIZE: usize = 2 << 20;
 
-/// A whole file: begin, make and put for each node, close. It is written to a file, and the script compares.
-fn build(nodes: &[Node], file: &str, times: &Times) -> Fallible<()> {
+/// A whole file of an edition: begin, make and put for each node, close. It is written to a file, and the script compares.
+fn build(edition: Edition, nodes: &[Node], file: &str, times: &Times) -> Fallible<()> {
     let mut writer = Writer::passed(vec![0; BUFFER_SIZE], vec![0; TEXT_AREA], vec![0; TREE_AREA]);
-    if !built(&mut writer, nodes) {
+    if !built(edition, &mut writer, nodes) {
         return Err("another answer than expected".into());
     }
     std::fs::write(file, &writer.buffer[..writer.finished() as usize])?;
-    times.print(|_| built(black_box(&mut writer), nodes))
+    times.print(|_| built(edition, black_box(&mut writer), nodes))
 }
 
 /// Whether every call is accepted and reports what is expected.
-fn built(writer: &mut Writer, nodes: &[Node]) -> bool {
-    writer.begin(&Edition::Two.form(), 1) == Ok(1)
+fn built(edition: Edition, writer: &mut Writer, nodes: &[Node]) -> bool {
+    writer.begin(edition.number() as u32, &edition.form(), 1) == Ok(1)
         && (1..).zip(nodes).all(|(number, node)| {
             let made = writer.make(node.parent, &node.name) == Ok(number);
             let put = |data: &Vec<u8>| {
@@ -268,7 +270,7 @@ mod tests {
     }
 
     /// A node `a` with data, and its child `b` with none.
-    fn image() -> Vec<u8> {
+    fn image(edition: Edition) -> Vec<u8> {
         let doubles = (0..COUNT).flat_map(|index| value(1, index).to_be_bytes());
         let data = Some(doubles.collect());
         let node = |parent, name: &[u8], data| Node {
@@ -277,32 +279,36 @@ mod tests {
             data,
         };
         let nodes = [node(0, b"a", data), node(1, b"b", None)];
-        let mut writer = Writer::passed(vec![0; BUFFER_SIZE], vec![0; TEXT_AREA], vec![0; TREE_AREA]);
-        assert!(built(&mut writer, &nodes));
+        let mut writer =
+            Writer::passed(vec![0; BUFFER_SIZE], vec![0; TEXT_AREA], vec![0; TREE_AREA]);
+        assert!(built(edition, &mut writer, &nodes));
         writer.buffer[..writer.finished() as usize].to_vec()
     }
 
     /// Each command takes right answers and refuses wrong ones.
     #[test]
     fn answers_are_checked() {
-        let (image, times) = (
-            image(),
-            Times {
-                samples: 1,
-                batch: 2,
-            },
-        );
-        assert!(opening(&image, 0, &times).is_ok());
-        assert!(opening(&image, 3, &times).is_err());
+        for edition in Edition::WRITTEN {
+            answers_of(&image(edition));
+        }
+    }
+
+    fn answers_of(image: &[u8]) {
+        let times = Times {
+            samples: 1,
+            batch: 2,
+        };
+        assert!(opening(image, 0, &times).is_ok());
+        assert!(opening(image, 3, &times).is_err());
         assert!(opening(&image[..214], 6, &times).is_ok());
-        assert!(lookup(&image, &[key(1, b"/a"), key(2, b"/a/b")], &times).is_ok());
-        assert!(lookup(&image, &[key(0, b"/b")], &times).is_ok());
-        assert!(lookup(&image, &[key(1, b"/a/b")], &times).is_err());
-        assert!(whole(&image, &[key(1, b"/a")], &times).is_ok());
-        assert!(whole(&image, &[key(2, b"/a/b")], &times).is_err());
-        assert!(order(&image, &times).is_ok());
-        assert!(short(&image, &[key(1, b"/a")], &times).is_ok());
-        assert!(short(&image, &[key(1, b"/a"), key(2, b"/a/b")], &times).is_err());
-        assert!(short(&image, &[key(2, b"/a/b")], &times).is_err());
+        assert!(lookup(image, &[key(1, b"/a"), key(2, b"/a/b")], &times).is_ok());
+        assert!(lookup(image, &[key(0, b"/b")], &times).is_ok());
+        assert!(lookup(image, &[key(1, b"/a/b")], &times).is_err());
+        assert!(whole(image, &[key(1, b"/a")], &times).is_ok());
+        assert!(whole(image, &[key(2, b"/a/b")], &times).is_err());
+        assert!(order(image, &times).is_ok());
+        assert!(short(image, &[key(1, b"/a")], &times).is_ok());
+        assert!(short(image, &[key(1, b"/a"), key(2, b"/a/b")], &times).is_err());
+        assert!(short(image, &[key(2, b"/a/b")], &times).is_err());
     }
 }

@@ -1,13 +1,12 @@
-//! A model of the writer, from document 01, "Writing keys": begin, make, put, close, their refusals, and their byte stores in order.
+//! A model of the writer, from document 01, "Writing keys", and request C-15: begin, make, put, close, their refusals, and their byte stores in order.
 
-use crate::format::{subkey_fault, Edition, Entry, Kind, Refusal, LONGEST_IMAGE, MOST};
+use crate::format::{Edition, Entry, Kind, Refusal, DATA, LONGEST_IMAGE, MOST, SYMBOLS, TREE};
 use crate::md5::md5;
+use crate::open::Span;
 
 /// "The writer has a text area of 32,768 bytes (zeros counted) and a tree area of 51,200 bytes."
 pub const TEXT_AREA: usize = 32_768;
 pub const TREE_AREA: usize = 51_200;
-/// Data go to the image at place 168 and on: after the header of edition 2.
-const HEADER: u64 = 168;
 /// "the tree area holds node n's entry at place 25(n − 1), 25 bytes".
 const SLOT: usize = 25;
 
@@ -17,6 +16,8 @@ pub struct Record {
     /// 1 while the file is neither closed nor stopped; every other number is "writer closed or stopped".
     pub flag: u64,
     pub length: u64,
+    /// The number of the edition passed to begin. Header size, stores and the rule for names go by it (C-15).
+    pub edition: u64,
     pub strings: u64,
     pub text: u64,
     pub nodes: u64,
@@ -35,8 +36,8 @@ pub struct Writer {
     pub tree: Vec<u8>,
 }
 
-/// The 7 numbers of include/aff.h: what the last call returned, length, strings, bytes of text, nodes, bytes of data, flag; and the form.
-pub type Numbers = ([u64; 7], [u8; 12]);
+/// The 8 numbers of the record in C: what the last call returned, length, edition, strings, bytes of text, nodes, bytes of data, flag; and the form.
+pub type Numbers = ([u64; 8], [u8; 12]);
 
 /// One store of a byte at a place.
 pub type Store = (usize, u8);
@@ -69,20 +70,23 @@ impl Writer {
         Ok(made)
     }
 
-    /// "Begin: 1, 21, 23." "begin puts 0 at place 0"; "An accepted begin clears both areas."
-    pub fn begin(&mut self, form: &[u8], allowance: u64) -> Reported {
+    /// "Begin: 1, 21, 23." C-15: "3 also for a begin that names no written edition, checked after 1". "begin puts 0 at place 0"; "An accepted begin clears
+    /// both areas." The least buffer of 21 is the edition's header.
+    pub fn begin(&mut self, edition: u32, form: &[u8], allowance: u64) -> Reported {
         self.record = Record::default();
         let length = self.buffer.len() as u64;
         let areas = self.text.len() == TEXT_AREA && self.tree.len() == TREE_AREA;
         if !areas || form.len() != 12 || length > LONGEST_IMAGE {
             return Err((1, 0));
         }
-        if length < HEADER {
+        let edition = Edition::written(edition.into()).ok_or((3, 0))?;
+        if length < edition.header() as u64 {
             return Err((21, 0));
         }
         self.record = Record {
             flag: 1,
             length,
+            edition: edition.number(),
             form: form.try_into().expect("12 bytes"),
             ..Record::default()
         };
@@ -92,13 +96,13 @@ impl Writer {
         Ok(reported)
     }
 
-    /// "Make: 24, 22, 15, 14, 17, 20, 21." "Making a child stores nothing." 14 reports the place in the name (C-18).
+    /// "Make: 24, 22, 15, 14, 17, 20, 21." "Making a child stores nothing." 14 goes by the edition's rule for names and reports the place in the name (C-18).
     pub fn make(&mut self, parent: u64, name: &[u8]) -> Reported {
         self.judge()?;
         if parent > self.record.nodes {
             return Err((15, 0));
         }
-        if let Some(place) = subkey_fault(name) {
+        if let Some(place) = self.edition().subkey_fault(name) {
             return Err((14, place));
         }
         if self.has_child(parent, name) {
@@ -158,7 +162,7 @@ impl Writer {
         if self.finished() + 12 + size > self.record.length {
             return Err((21, 0));
         }
-        let offset = HEADER + self.record.data;
+        let offset = self.data_end();
         let made = self.store(&self.putting(bytes), allowance)?;
         let entry = Entry {
             kind,
@@ -173,11 +177,11 @@ impl Writer {
 
     /// The stores of put: its bytes ascending, after the data put before.
     pub fn putting(&self, bytes: &[u8]) -> Vec<Store> {
-        let offset = (HEADER + self.record.data) as usize;
+        let offset = self.data_end() as usize;
         (offset..).zip(bytes.iter().copied()).collect()
     }
 
-    /// "Close: 24, 22, 23." "Close stores strings, entries, header bytes 1 to 167 ascending, and last the `L` at place 0."
+    /// "Close: 24, 22, 23." "Close stores strings, entries, header bytes 1 to 167 ascending, and last the `L` at place 0." C-15: the header is the edition's.
     pub fn close(&mut self, allowance: u64) -> Reported {
         self.judge()?;
         let made = self.store(&self.closing(), allowance)?;
@@ -190,7 +194,7 @@ impl Writer {
         let symbols = &self.text[..self.record.text as usize];
         let tree = self.entries();
         let header = self.header(symbols, &tree);
-        let start = (HEADER + self.record.data) as usize;
+        let start = self.data_end() as usize;
         let tables = symbols.iter().chain(&tree).copied();
         let mut stores: Vec<Store> = (start..).zip(tables).collect();
         stores.extend((0..).zip(header.iter().copied()).skip(1));
@@ -198,24 +202,24 @@ impl Writer {
         stores
     }
 
-    /// "at close the strings ... follow, then the entries in order of making, in edition 2."
+    /// "at close the strings ... follow, then the entries in order of making". The section headers stand in the edition's order.
     fn header(&self, symbols: &[u8], tree: &[u8]) -> Vec<u8> {
-        let data = &self.buffer[HEADER as usize..][..self.record.data as usize];
+        let edition = self.edition();
+        let first = edition.header() as u64;
+        let data = &self.buffer[first as usize..][..self.record.data as usize];
         let full = (1..=self.record.nodes)
             .filter(|number| self.node(*number).kind != Kind::Void)
             .count();
-        let sections = [
-            (symbols, self.record.data, self.record.strings),
-            (
-                tree,
-                self.record.data + symbols.len() as u64,
-                self.record.nodes,
-            ),
-            (data, 0, full as u64),
-        ];
-        let mut header = [Edition::Two.text().as_slice(), &self.record.form].concat();
-        for (bytes, before, records) in sections {
-            header.extend((HEADER + before).to_be_bytes());
+        let end = self.data_end();
+        let mut header = [edition.text().as_slice(), &self.record.form].concat();
+        for section in edition.header_order() {
+            let (bytes, offset, records) = match section {
+                SYMBOLS => (symbols, end, self.record.strings),
+                TREE => (tree, end + symbols.len() as u64, self.record.nodes),
+                DATA => (data, first, full as u64),
+                _ => unreachable!("there are three sections"),
+            };
+            header.extend(offset.to_be_bytes());
             header.extend((bytes.len() as u64).to_be_bytes());
             header.extend(records.to_be_bytes());
             header.extend(md5(bytes));
@@ -286,12 +290,23 @@ impl Writer {
         })
     }
 
-    /// "Finished size = 168 + data bytes + string bytes with their zeros + 13 for each Void node + 25 for each other."
+    /// "Finished size = 168 + data bytes + string bytes with their zeros + 13 for each Void node + 25 for each other." 168 is the header of both written
+    /// editions.
     pub fn finished(&self) -> u64 {
         let entries: u64 = (1..=self.record.nodes)
             .map(|number| self.node(number).kind.entry() as u64)
             .sum();
-        HEADER + self.record.data + self.record.text + entries
+        self.data_end() + self.record.text + entries
+    }
+
+    /// The recorded edition, where 24 has been judged.
+    fn edition(&self) -> Edition {
+        Edition::written(self.record.edition).expect("24 has been judged")
+    }
+
+    /// Where the data put so far end: "Data go to the image at place 168 and on", after the edition's header.
+    fn data_end(&self) -> u64 {
+        self.edition().header() as u64 + self.record.data
     }
 
     /// 24, then 22: "writer closed or stopped".
@@ -305,10 +320,11 @@ impl Writer {
         }
     }
 
-    /// 24 of the writer, over all that is recorded.
+    /// 24 of the writer, over all that is recorded. C-15: "24 also for a writer's record whose edition is not a written one".
     fn belongs(&self) -> bool {
         let record = &self.record;
-        let sizes = self.buffer.len() as u64 == record.length
+        let sizes = Edition::written(record.edition).is_some()
+            && self.buffer.len() as u64 == record.length
             && record.length <= LONGEST_IMAGE
             && self.text.len() == TEXT_AREA
             && self.tree.len() == TREE_AREA
@@ -334,10 +350,11 @@ impl Writer {
         let Some(entry) = self.slot(number) else {
             return false;
         };
-        let end = u128::from(HEADER) + u128::from(self.record.data);
-        let data = entry.kind == Kind::Void
-            || (entry.offset >= HEADER
-                && u128::from(entry.offset) + u128::from(entry.bytes()) <= end);
+        let put = Span {
+            offset: self.edition().header() as u64,
+            size: self.record.data,
+        };
+        let data = entry.kind == Kind::Void || put.holds(entry.offset, entry.bytes());
         entry.string < self.record.strings && entry.parent < number && data
     }
 }
