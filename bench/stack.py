@@ -1,7 +1,7 @@
 #!/usr/bin/env python3
 """The stack that each call of include/aff.h needs, by tests/stack.c, on chains of 2,048 nodes.
 
-The chains are those of tests/make_chains.py, in both editions, and one that the writer makes. The run fails where a call needs more than 262,144 bytes.
+The chains are those of tests/make_chains.py, in every edition, and those that the writer makes. The run fails where a call needs more than 262,144 bytes.
 
 Use, from anywhere: bench/stack.py [ROUNDS]; the figures are the same in each round, so ROUNDS is not used.
 It needs rt, a C compiler as cc, and Linux on x86-64.

@@ -13,7 +13,8 @@ from make_images import DOUBLE, HEADER, INT, VOID, Image, entry  # noqa: E402
 
 
 class Tree:
-    """Nodes are added parents first. The bytes of an image of edition 2 are made at the end; where `ended` is false, the last string has no zero."""
+    """Nodes are added parents first. The bytes of an image are made at the end, of edition 2 where no other is named; where `ended` is false, the last
+    string has no zero."""
 
     def __init__(self, ended=True):
         self.strings, self.nodes, self.full, self.ended = {}, [], [], ended
@@ -32,24 +33,24 @@ class Tree:
             parts.append(b"/" + name)
         return b"".join(reversed(parts))
 
-    def image(self):
+    def image(self, edition=2):
         """A node with data has 64 Doubles: element j of node n is n + j / 1024."""
-        return self.laid_out(DOUBLE, COUNT, lambda node: struct.pack(f">{COUNT}d", *(node + j / 1024 for j in range(COUNT))))
+        return self.laid_out(edition, DOUBLE, COUNT, lambda node: struct.pack(f">{COUNT}d", *(node + j / 1024 for j in range(COUNT))))
 
     def small_image(self):
         """A node with data has one Int, its number."""
-        return self.laid_out(INT, 1, lambda node: struct.pack(">i", node))
+        return self.laid_out(2, INT, 1, lambda node: struct.pack(">i", node))
 
-    def laid_out(self, kind, count, data_of):
+    def laid_out(self, edition, kind, count, data_of):
         entries, data = [], b""
         for node, (parent, name, full) in enumerate(self.nodes, 1):
             string = self.strings[name]
             if full:
-                entries.append(entry(kind, parent, string, count, HEADER[2] + len(data)))
+                entries.append(entry(kind, parent, string, count, HEADER[edition] + len(data)))
                 data += data_of(node)
             else:
                 entries.append(entry(VOID, parent, string))
-        image = Image(2, strings=list(self.strings), data=data, entries=entries, ended=self.ended)
+        image = Image(edition, strings=list(self.strings), data=data, entries=entries, ended=self.ended)
         image.count = {"data": len(self.full)}
         return image.bytes()
 

@@ -2,16 +2,17 @@
 // `write CALL TREE FILE SAMPLES BATCH` makes a file by the proved functions of crates/aff_c, writes it to FILE, and then makes one call again and
 // again. TREE is a file of lines `PARENT NAME FULL`, one a node in the order of making; a node whose FULL is 1 gets 64 Doubles, element j of node n
 // being n + j / 1024. CALL is build (begin, make and put for each node, close), make (the last node), put (the data of the last node), judge (a put to
-// the root, which is 24 and then 18) or close. Before each make, put and close the record and what the call changed of the tree area are as they were. A
-// sample is the processor time of BATCH calls in a row, divided by BATCH. It prints the median in seconds, and fails where an answer is another.
+// the root, which is 24 and then 18) or close, in edition 2; with a 3 at its end, as build3, it is in edition 3. Before each make, put and close the record
+// and what the call changed of the tree area are as they were. A sample is the processor time of BATCH calls in a row, divided by BATCH. It prints the
+// median in seconds, and fails where an answer is another.
 #include "../include/aff.h"
 #include "timing.h"
 
 enum { NODES = 2048, COUNT = 64, SLOT = 25, BUFFER_SIZE = 2 << 20, TAKEN = 18 };
 
-static const uint8_t form[12] = {0, 64, 2, 53, 4, 0, 3, 253, 0, 0, 0, 168};
-static uint8_t buffer[BUFFER_SIZE], text[AFF_TEXT], tree[AFF_TREE], kept[12];
-static uint64_t numbers[7];
+static uint32_t edition;
+static uint8_t form[AFF_FORM], buffer[BUFFER_SIZE], text[AFF_TEXT], tree[AFF_TREE], kept[AFF_FORM];
+static uint64_t numbers[AFF_NUMBERS];
 #define PASSED buffer, BUFFER_SIZE, numbers, kept, text, AFF_TEXT, tree, AFF_TREE
 
 static struct {
@@ -30,7 +31,7 @@ static void expect(int right) {
 }
 
 static void begin(void) {
-    expect(aff_begin(buffer, BUFFER_SIZE, form, sizeof form, text, AFF_TEXT, tree, AFF_TREE, 1, numbers, kept) == 0);
+    expect(aff_begin(edition, buffer, BUFFER_SIZE, form, sizeof form, text, AFF_TEXT, tree, AFF_TREE, 1, numbers, kept) == 0);
 }
 
 static void make(size_t k) {
@@ -42,7 +43,7 @@ static void put(size_t k) {
 }
 
 static void finish(void) {
-    expect(aff_close(PASSED, UINT64_MAX) == 0 && numbers[6] == 0);
+    expect(aff_close(PASSED, UINT64_MAX) == 0 && numbers[7] == 0);
 }
 
 // The file but for what the call that is measured does: the making of the last node, its data, or closing.
@@ -60,7 +61,7 @@ static void build(char which) {
 }
 
 static char which;
-static uint64_t before[7];
+static uint64_t before[AFF_NUMBERS];
 static uint8_t slot[SLOT], *last;
 
 static void call_once(void) {
@@ -103,21 +104,21 @@ static void load(const char *path) {
     expect(count > 0 && nodes[count - 1].full);
 }
 
+// The file that close has finished: what it stored, and the data before.
 static void save(const char *path) {
-    size_t size = 168 + numbers[5] + numbers[3];
-    for (size_t k = 0; k < count; k++) {
-        size += nodes[k].full ? 25 : 13;
-    }
+    size_t size = numbers[0] + numbers[6];
     FILE *file = fopen(path, "wb");
     expect(file != NULL && fwrite(buffer, 1, size, file) == size && fclose(file) == 0);
 }
 
 int main(int argc, char **argv) {
     if (argc != 6 || strchr("bmpjc", argv[1][0]) == NULL) {
-        fputs("usage: write build|make|put|judge|close TREE FILE SAMPLES BATCH\n", stderr);
+        fputs("usage: write build|make|put|judge|close[3] TREE FILE SAMPLES BATCH\n", stderr);
         return 2;
     }
     which = argv[1][0];
+    edition = argv[1][strlen(argv[1]) - 1] == '3' ? 3 : 2;
+    expect(aff_form(edition, form, sizeof form));
     load(argv[2]);
     build('b');
     finish();

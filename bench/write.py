@@ -2,8 +2,9 @@
 """The processor time of building a file by the writer's calls, and of one call, by the number of nodes.
 
 The trees are those of bench/read.py, of 256 and of 2,048 nodes: all nodes children of the root, with a name each; and three levels, whose names come
-again below each parent. Nodes with data get 64 Doubles. The run fails where an answer is not the expected one, or where the file that was written
-is not the one that tests/make_images.py lays out. In a round the two sizes take turns; bench/tools.py says how times are taken.
+again below each parent. Nodes with data get 64 Doubles. The files are of edition 2; a whole file is also made in edition 3. The run fails where an answer is
+not the expected one, or where the file that was written is not the one that tests/make_images.py lays out. In a round the two sizes take turns;
+bench/tools.py says how times are taken.
 
 Use, from anywhere: bench/write.py [ROUNDS].
 It needs rt, a C compiler as cc, Linux on x86-64, and 3 MB of disk below target/ in a folder that it removes again.
@@ -22,6 +23,7 @@ CALLS = [
     ("`put`, the last node", "put"),
     ("`close`", "close"),
     ("a whole file: `begin`, `make` and `put` for each node, `close`", "build"),
+    ("the same in edition 3", "build3"),
 ]
 
 
@@ -40,7 +42,7 @@ class Bench:
     def measured(self, command, call):
         found = measured(*command, call, self.file("tree"), self.file("image"))
         with open(self.file("image"), "rb") as file:
-            if file.read() != self.tree.image():
+            if file.read() != self.tree.image(3 if call.endswith("3") else 2):
                 sys.exit(f"{' '.join(command)}: another file than expected")
         os.remove(self.file("image"))
         return found

@@ -1,6 +1,9 @@
 // aff.h - AFF files in C and C++: opening, reading, writing.
 //
-// Link with target/staticlib/libaff_c.a, which `rt staticlib aff_c` builds (x86-64). samples/read.c is a complete program.
+// Link with target/staticlib/libaff_c.a, which `rt staticlib aff_c` builds (x86-64). samples/read.c and samples/write.c are complete programs.
+//
+// There are three editions of the format: 1, 2 and 3 are read, 2 and 3 are written. Editions 1 and 2 have narrow names, edition 3 takes almost any bytes;
+// aff_make has both rules.
 //
 // All memory is the caller's: the library allocates nothing, keeps nothing between calls, and does no input or output. Calls from several threads
 // need no lock unless one of them writes memory that another one uses.
@@ -13,9 +16,10 @@
 //     mapped file. All bounds are proved for the lengths at the call.
 //   - 256 KiB of stack are left. No call needs more; docs/SPEED.md has the measured figures.
 //
-// Every function but aff_form_for returns AFF_OK or one of the numbers below.
+// Every function but aff_form and aff_form_for returns AFF_OK or one of the numbers below.
 //
-// Programs that were compiled with a header in which AFF_RECORD is 12 must be compiled again: aff_lookup has one more output, place.
+// Programs that were compiled with a header in which AFF_NUMBERS is 7 must be changed and compiled again: aff_begin takes the edition first, and the writer's
+// record has it as numbers[2], so that the numbers after it have moved by one. If AFF_RECORD is 12 there, aff_lookup has one more output, too: place.
 #ifndef AFF_H
 #define AFF_H
 
@@ -32,8 +36,8 @@ extern "C" {
 enum {
     AFF_OK = 0,
     AFF_ERR_LENGTH = 1,            // A work area or the form has a wrong length, or the image has more than 2,147,483,647 bytes.
-    AFF_ERR_SHORT = 2,             // The image is shorter than its header: 144 bytes, 168 in edition 2.
-    AFF_ERR_SIGNATURE = 3,         // The image does not begin with the text of an edition: it is no AFF file, or one that was never closed.
+    AFF_ERR_SHORT = 2,             // The image is shorter than its header: 144 bytes in edition 1, 168 in editions 2 and 3.
+    AFF_ERR_SIGNATURE = 3,         // The image does not begin with the text of an edition: it is no AFF file, or one that was never closed. aff_begin: the edition is not written.
     AFF_ERR_FORM = 4,              // The 12 bytes after that text differ from the form that was passed.
     AFF_ERR_HEADER_SUM = 5,        // The header's MD5 sum is wrong.
     AFF_ERR_SECTION = 6,           // A section ends past the image. Place: 1 symbols, 2 tree, 3 data.
@@ -56,22 +60,28 @@ enum {
     AFF_ERR_ALLOWANCE = 23,        // The allowance is smaller than the number of bytes to store. Place: how many were stored.
     AFF_ERR_MISMATCH = 24,         // Record, work areas and buffer do not belong together.
     AFF_ERR_TOO_MANY_STRINGS = 25, // The symbol table has over 2,048 strings. Place: 2,048, the first string beyond; strings are numbered from 0.
-    AFF_ERR_STRING_COUNT = 26,     // Edition 2: the number of strings is not the header's.
+    AFF_ERR_STRING_COUNT = 26,     // Editions 2 and 3: the number of strings is not the header's. Edition 1 has no such number.
     AFF_ERR_REPEATED_STRING = 27,  // A string of the symbol table equals an earlier one. Place: the lowest such string.
     AFF_ERR_ARGUMENT = 255         // aff_open_image: the record is too short. aff_decode: there is no such type.
 };
 
 // Lengths: the two work areas and the record of an opening, the writer's two work areas and its numbers, and the form.
-enum { AFF_STRINGS = 2048, AFF_ENTRIES = 2048, AFF_RECORD = 13, AFF_TEXT = 32768, AFF_TREE = 51200, AFF_NUMBERS = 7, AFF_FORM = 12 };
+enum { AFF_STRINGS = 2048, AFF_ENTRIES = 2048, AFF_RECORD = 13, AFF_TEXT = 32768, AFF_TREE = 51200, AFF_NUMBERS = 8, AFF_FORM = 12 };
 
 // The types of a node. A Void node has no data; a node of another type may have 0 elements.
 enum { AFF_VOID = 1, AFF_CHAR = 2, AFF_INT = 3, AFF_DOUBLE = 4, AFF_COMPLEX = 5 };
 
-// ---- Opening
+// ---- The form: the 12 signature bytes after the text
 
-// Stores the 12 signature bytes that a file with IEEE 754 doubles has, in the edition that the image's text names (else edition 2), at the front of
-// the output. Returns false and stores nothing if the output has fewer than 12 bytes.
+// Stores the 12 bytes that a file of an edition (1, 2 or 3) with IEEE 754 doubles has, at the front of the output. A writer passes them to aff_begin.
+// Returns false and stores nothing if there is no such edition or the output has fewer than 12 bytes.
+bool aff_form(uint32_t edition, uint8_t *output, size_t output_length);
+
+// The same for the edition that the image's text names, and for edition 2 if it names none. A reader passes them to aff_open_image. Returns false and
+// stores nothing if the output has fewer than 12 bytes.
 bool aff_form_for(const uint8_t *image, size_t image_length, uint8_t *output, size_t output_length);
+
+// ---- Opening
 
 // Checks a complete file in memory against all rules of the format, MD5 sums included, and fills both work areas and the record, which the reading
 // calls take. record[0] is the place of a refusal (else 0), [1] the image's length, [2] the edition, [3] and [4] offset and size of the symbol
@@ -82,8 +92,8 @@ bool aff_form_for(const uint8_t *image, size_t image_length, uint8_t *output, si
 // The faults are looked for in the order 1 to 7, 25 to 27, 9 to 13, and the first found is the number. The place is that of a section, a string, an entry
 // or a node, by the number. After 1 the work areas are unchanged, after another refusal they are all zero; record[1] to record[11] are 0 after every
 // refusal. Returns 255 and changes nothing if the record has fewer than 13 numbers.
-// After 10, record[12] is the place in the node's name of the first byte that breaks the rule for names (see aff_make), if the node's string exists and
-// is malformed; the parent may exist or not. For an empty name it is 0. It is also 0 if the string does not exist, or if only the parent is wrong: a 0
+// After 10, record[12] is the place in the node's name of the first byte that breaks the edition's rule for names (see aff_make), if the node's string
+// exists and is malformed; the parent may exist or not. For an empty name it is 0. It is also 0 if the string does not exist, or if only the parent is wrong: a 0
 // alone does not say that the name is malformed.
 uint32_t aff_open_image(const uint8_t *image, size_t image_length, const uint8_t *form, size_t form_length, uint32_t *strings,
     size_t strings_length, uint32_t *entries, size_t entries_length, uint64_t *record, size_t record_length);
@@ -99,7 +109,7 @@ uint32_t aff_open_image(const uint8_t *image, size_t image_length, const uint8_t
         const uint32_t *entries, size_t entries_length
 
 // Finds the node with a path such as "/a/n"; the root's path is "/". Returns 14 for a malformed path, 15 if no node has it. Any other path than "/" is one
-// or more times a '/' and a name; aff_make has the rule for names.
+// or more times a '/' and a name; aff_make has the rule for names in the edition of the image, record[2]. Names are compared byte by byte.
 // place is written in every case. After 14 it is the place in the path of the first byte that breaks this rule. If a name is empty, it is the place where
 // the name would begin: 1 in "//a", and 3, which is path_length, in "/a/". If the path does not begin with '/' or is empty, it is 0. After every other
 // answer it is 0.
@@ -114,6 +124,8 @@ uint32_t aff_listing(AFF_OPENED, bool all, uint32_t *output, size_t output_lengt
 // Finds a node's name: the size bytes at image + offset. It is not a C string: a zero byte usually follows it, but the last name of the symbol section
 // may end at the section's end, and then any byte or none follows. Use size. The root's name is empty, with offset and size 0. Returns 15 for a number
 // of no node.
+// A name of edition 3 may hold any byte but '/' and zero: spaces, line feeds, escape characters, bytes above 126. Print names and paths with care. The
+// programs `list` and `listall` print a byte below 33, above 126 or equal to 92 (the backslash) as \x and two hexadecimal digits.
 uint32_t aff_name(AFF_OPENED, uint64_t node, uint64_t *offset, uint64_t *size);
 
 // Finds a node's data: the size bytes at image + offset, big-endian as the file has them; size is 0 for a Void node. Returns 15 for a number of no
@@ -126,7 +138,7 @@ uint32_t aff_kind(AFF_OPENED, uint64_t node, uint64_t *kind);
 // Reports how many elements a node has; 0 for a Void node. Returns 15 for a number of no node.
 uint32_t aff_count(AFF_OPENED, uint64_t node, uint64_t *count);
 
-// Stores a node's path at the front of the output, with no zero after it, and its length in size. Returns 15 for a number of no node, 21 if the
+// Stores a node's path at the front of the output, as it is, with no zero after it, and its length in size. Returns 15 for a number of no node, 21 if the
 // output is too short; no call reports the length needed, so double the output and call again.
 // A path has at most record[10] * (record[4] + 1) bytes (1 for the root): at most 2,048 components, each a '/' and one string of the symbol section, which
 // may be all of it. A file of this library's writer has paths of at most 2,048 * 32,768 bytes, 64 MiB. A file from elsewhere may come near 2,048 *
@@ -142,30 +154,35 @@ uint32_t aff_element(AFF_OPENED, uint64_t node, uint64_t index, double *value, d
 // node's type. Returns 16 if the bytes hold no whole element of that index, and always for AFF_VOID; 255 if kind is not 1 to 5.
 uint32_t aff_decode(uint64_t kind, const uint8_t *bytes, size_t bytes_length, uint64_t index, double *value, double *imaginary);
 
-// ---- Writing a file of edition 2 into a buffer
+// ---- Writing a file of edition 2 or 3 into a buffer
 
-// The writer's record is 7 numbers and 12 bytes of form, kept. numbers[0] is what the last call reported; [1] is the buffer's length, [2] the number
-// of strings, [3] of bytes of text, [4] of nodes without the root, [5] of bytes of data; [6] is 1 while the file is open, and any other number means
-// closed or stopped. Pass record, work areas and buffer to each call as the last one left them. aff_make, aff_put and aff_close return 24 if they do not
-// belong together, and then 22 if the file is not open.
+// The writer's record is 8 numbers and 12 bytes of form, kept. numbers[0] is what the last call reported; [1] is the buffer's length, [2] the edition,
+// [3] the number of strings, [4] of bytes of text, [5] of nodes without the root, [6] of bytes of data; [7] is 1 while the file is open, and any other
+// number means closed or stopped. Pass record, work areas and buffer to each call as the last one left them. aff_make, aff_put and aff_close return 24
+// if they do not belong together, also if the recorded edition is not 2 or 3 (one above 32 bits counts as none), and then 22 if the file is not open.
 //
 // An allowance is the largest number of bytes that a call may store in the buffer; UINT64_MAX is no limit. After a refusal with 23 exactly that many
-// are stored, numbers[0] is their number, numbers[6] is 0, and the work areas are unchanged; the file cannot be continued. After any other refusal only
-// numbers[0] has changed: after 14 it is the place in the name, else it is 0. But aff_begin refused with 1 or 21 sets numbers and kept to zero.
+// are stored, numbers[0] is their number, numbers[7] is 0, and the work areas are unchanged; the file cannot be continued. After any other refusal only
+// numbers[0] has changed: after 14 it is the place in the name, else it is 0. But aff_begin refused with 1, 3 or 21 sets numbers and kept to zero, so that
+// every later call returns 24.
 //
 // From an accepted aff_begin on, until aff_close has stored its last byte, opening the buffer returns 3: a file that a killed process leaves behind is
 // never taken for a finished one. After a refused aff_begin the buffer is as it was. (This is proved of the stores in the order of the definitions. That the
 // compiled code makes the first of them first and the last one last is tested, see docs/EVIDENCE.md.) Loss of power is not covered, as the system writes
 // the pages of a file in any order. To survive it, write the file back after aff_close (msync, fsync), and only then give it the name that others open
-// (rename).
+// (rename). samples/write.c does so.
 #define AFF_WRITER uint64_t *numbers, const uint8_t *kept
 
-// Begins a file in a buffer of at least 168 bytes: stores a 0 at its front, clears both work areas, and sets numbers and kept (12 bytes). numbers[0] is
-// the number of bytes stored, 1. Returns 1 for a wrong length of form, text or tree or a buffer above 2,147,483,647 bytes, 21 for a buffer below 168.
-uint32_t aff_begin(uint8_t *buffer, size_t buffer_length, const uint8_t *form, size_t form_length, uint8_t *text, size_t text_length,
-    uint8_t *tree, size_t tree_length, uint64_t allowance, uint64_t *numbers, uint8_t *kept);
+// Begins a file of an edition, 2 or 3, in a buffer of at least 168 bytes, the size of the header in both: stores a 0 at its front, clears both work areas,
+// and sets numbers and kept (12 bytes). numbers[0] is the number of bytes stored, 1. The form is kept as it is; aff_form has the one that readers expect.
+// Returns 1 for a wrong length of form, text or tree or a buffer above 2,147,483,647 bytes, then 3 for an edition that is not written, which is any but 2 and
+// 3, then 21 for a buffer below 168. Refused, it stores nothing and clears nothing.
+uint32_t aff_begin(uint32_t edition, uint8_t *buffer, size_t buffer_length, const uint8_t *form, size_t form_length, uint8_t *text,
+    size_t text_length, uint8_t *tree, size_t tree_length, uint64_t allowance, uint64_t *numbers, uint8_t *kept);
 
-// Adds a Void node below a parent; numbers[0] is its number. A name begins with a letter, '_' or ':'; letters, digits and any of . - _ : may follow.
+// Adds a Void node below a parent; numbers[0] is its number. The edition has the rule for names:
+//   - Editions 1 and 2: a name begins with a letter, '_' or ':'; letters, digits and any of . - _ : may follow.
+//   - Edition 3: a name is one or more bytes, none of them '/' or zero.
 // Nothing is stored in the buffer. Returns 15 if there is no such parent, 14 for a malformed name, 17 if the parent has a child of that name, 20 if a
 // limit is passed, 21 if the finished file would not fit the buffer. After 14, numbers[0] is the place in the name of the first byte that breaks the rule,
 // which may be a '/' or a zero byte; it is 0 for an empty name.
@@ -178,8 +195,8 @@ uint32_t aff_make(const uint8_t *buffer, size_t buffer_length, AFF_WRITER, uint8
 uint32_t aff_put(uint8_t *buffer, size_t buffer_length, AFF_WRITER, const uint8_t *text, size_t text_length, uint8_t *tree, size_t tree_length,
     uint64_t node, uint64_t kind, const uint8_t *bytes, size_t bytes_length, uint64_t allowance);
 
-// Finishes the file: stores strings, entries, the header from byte 1 on, and last the first byte. numbers[0] is the number of bytes stored, numbers[6]
-// is 0. The file is then the first numbers[0] + numbers[5] bytes of the buffer, and the whole buffer opens too. An open file always fits its buffer.
+// Finishes the file: stores strings, entries, the header from byte 1 on, and last the first byte. numbers[0] is the number of bytes stored, numbers[7]
+// is 0. The file is then the first numbers[0] + numbers[6] bytes of the buffer, and the whole buffer opens too. An open file always fits its buffer.
 uint32_t aff_close(uint8_t *buffer, size_t buffer_length, AFF_WRITER, const uint8_t *text, size_t text_length, const uint8_t *tree,
     size_t tree_length, uint64_t allowance);
 

@@ -16,7 +16,7 @@ static const char *meaning(uint32_t number) {
         "accepted",
         "a length is wrong, or the file has more than 2,147,483,647 bytes",
         "the file is shorter than its header",
-        "this is no AFF file, or one that was never finished",
+        "this is no AFF file, or one that was never finished; of a writer, an edition that is not written",
         "the signature is not that of a file with IEEE 754 doubles",
         "the header is damaged: its MD5 sum is wrong",
         "a section ends past the file (1 symbols, 2 tree, 3 data)",

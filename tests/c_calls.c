@@ -1,18 +1,21 @@
 // Calls the library through include/aff.h and compares what it returns and leaves with what the header says:
-// `c_calls samples/worked.aff samples/unterminated.aff`. It makes document 01's worked file with every total allowance from 0 to 216, tries each refusal
-// of the writer with every other value of the record unchanged, passes null pointers with length 0 and records of every length, reads a file whose last
-// string has no zero, asks for the places in malformed names and paths, and reads special numbers. It prints counts; the exit status is 1 where anything
-// differs.
+// `c_calls samples/worked.aff samples/worked3.aff samples/unterminated.aff samples/wide_names.aff`. In both written editions it makes document 01's worked
+// file with every total allowance from 0 to 216, tries each refusal of the writer with every other value of the record unchanged, passes null pointers with
+// length 0 and records of every length, reads a file whose last string has no zero, and asks for the places in malformed names and paths. It tries editions
+// that are not written or do not exist, makes and reads names that only edition 3 allows, and reads special numbers. It prints counts; the exit status is
+// 1 where anything differs.
 #include "aff.h"
 #include <stdio.h>
 #include <stdlib.h>
 #include <string.h>
 
-enum { WORKED = 214, UNTERMINATED = 213, STORES = 215, BUFFER = 400 };
+enum { WORKED = 214, UNTERMINATED = 213, WIDE = 253, STORES = 215, BUFFER = 400 };
 
+// The edition of what is written, and the 12 signature bytes of editions 2 and 3.
+static uint32_t edition;
 static const uint8_t form[AFF_FORM] = {0, 64, 2, 53, 4, 0, 3, 253, 0, 0, 0, 168};
 static const uint8_t seventy[4] = {0xff, 0xff, 0xff, 0xba};
-static unsigned long checks, failures;
+static unsigned long checks, failures, refusals;
 
 #define CHECK(right) check((right), __LINE__, #right)
 
@@ -32,8 +35,12 @@ struct writer {
 
 #define WRITER(w) (w)->buffer, (w)->length, (w)->numbers, (w)->kept, (w)->text, AFF_TEXT, (w)->tree, AFF_TREE
 
+static uint32_t begin_edition(struct writer *w, uint32_t chosen, size_t form_length, uint64_t allowance) {
+    return aff_begin(chosen, w->buffer, w->length, form, form_length, w->text, AFF_TEXT, w->tree, AFF_TREE, allowance, w->numbers, w->kept);
+}
+
 static uint32_t begin(struct writer *w, uint64_t allowance) {
-    return aff_begin(w->buffer, w->length, form, AFF_FORM, w->text, AFF_TEXT, w->tree, AFF_TREE, allowance, w->numbers, w->kept);
+    return begin_edition(w, edition, AFF_FORM, allowance);
 }
 
 static uint32_t make(struct writer *w, uint64_t parent, const char *name) {
@@ -104,7 +111,8 @@ static void drill(const uint8_t *worked) {
             opened += number == AFF_OK;
         }
     }
-    printf("the worked file, total allowances 0 to %d: %u refused with 3, %u opened and samples/worked.aff byte for byte\n", STORES + 1, refused, opened);
+    printf("edition %u: the worked file, total allowances 0 to %d: %u refused with 3, %u opened and the sample byte for byte\n", (unsigned)edition, STORES + 1,
+        refused, opened);
 }
 
 // ---- What a refusal of the writer leaves
@@ -126,16 +134,22 @@ enum { ALL_FLAGS = sizeof FLAGS / sizeof *FLAGS };
     } while (0)
 #define REFUSED(w, expected, call) REFUSED_AT(w, expected, 0, call)
 
-// Malformed names and paths, with their lengths and the place of the first byte that breaks the rule.
+// Names and paths, with their lengths and the place of the first byte that breaks the rule: that of editions 1 and 2, and that of edition 3.
 struct malformed {
     const char *bytes;
     size_t length;
-    uint64_t place;
+    uint64_t narrow, wide;
 };
+#define LAWFUL UINT64_MAX
+
+static uint64_t place_in(const struct malformed *m, uint64_t of_edition) {
+    return of_edition == 3 ? m->wide : m->narrow;
+}
 
 static const struct malformed NAMES[] = {
-    {"", 0, 0}, {"9a", 2, 0}, {"9", 1, 0}, {"-a", 2, 0}, {"/", 1, 0}, {"/a", 2, 0}, {" ", 1, 0}, {"\0", 1, 0}, {"\377", 1, 0}, {"a/b", 3, 1}, {"a b", 3, 1},
-    {"a b c", 5, 1}, {"a\0", 2, 1}, {"a\377", 2, 1}, {"ab\0c", 4, 2}, {"abc/", 4, 3}, {"momentum,1", 10, 8}};
+    {"", 0, 0, 0}, {"/", 1, 0, 0}, {"/a", 2, 0, 0}, {"\0", 1, 0, 0}, {"a/b", 3, 1, 1}, {"a\0", 2, 1, 1}, {"ab\0c", 4, 2, 2}, {"abc/", 4, 3, 3}, {" /", 2, 0, 1},
+    {"\377\0/", 3, 0, 1}, {"a b/9", 5, 1, 3}, {"9a", 2, 0, LAWFUL}, {"9", 1, 0, LAWFUL}, {"-a", 2, 0, LAWFUL}, {" ", 1, 0, LAWFUL}, {"\377", 1, 0, LAWFUL},
+    {"..", 2, 0, LAWFUL}, {"a b", 3, 1, LAWFUL}, {"a b c", 5, 1, LAWFUL}, {"a\377", 2, 1, LAWFUL}, {"a\n", 2, 1, LAWFUL}, {"momentum,1", 10, 8, LAWFUL}};
 enum { ALL_NAMES = sizeof NAMES / sizeof *NAMES };
 
 // A file with the nodes /a, Void, and /b, an Int, in a buffer of some length.
@@ -147,31 +161,33 @@ static void two_nodes(struct writer *w, size_t length) {
 static void refusals_of_writer(void) {
     static struct writer w;
     static char name[AFF_TEXT + 1];
-    unsigned refusals = 0;
     memset(name, 'x', AFF_TEXT);
     two_nodes(&w, BUFFER);
     for (int k = 0; k < ALL_FLAGS; k++) {
-        w.numbers[6] = FLAGS[k];
+        w.numbers[7] = FLAGS[k];
         if (FLAGS[k] != 1) {
             REFUSED(&w, AFF_ERR_CLOSED, make(&w, 0, "c"));
             REFUSED(&w, AFF_ERR_CLOSED, put(&w, 1, AFF_INT, 4, UINT64_MAX));
             REFUSED(&w, AFF_ERR_CLOSED, finish(&w, UINT64_MAX));
         }
-        w.numbers[4] = 3000;
+        w.numbers[5] = 3000;
         REFUSED(&w, AFF_ERR_MISMATCH, make(&w, 0, "c"));
         REFUSED(&w, AFF_ERR_MISMATCH, put(&w, 1, AFF_INT, 4, 0));
         REFUSED(&w, AFF_ERR_MISMATCH, finish(&w, 0));
-        w.numbers[4] = 2;
+        w.numbers[5] = 2;
     }
-    w.numbers[6] = 1;
+    w.numbers[7] = 1;
     REFUSED(&w, AFF_ERR_NOT_FOUND, make(&w, 3, "c"));
     for (int k = 0; k < ALL_NAMES; k++) {
         const uint8_t *bad = (const uint8_t *)NAMES[k].bytes;
-        REFUSED_AT(&w, AFF_ERR_NAME, NAMES[k].place, aff_make(WRITER(&w), 0, bad, NAMES[k].length));
-        REFUSED_AT(&w, AFF_ERR_NAME, NAMES[k].place, aff_make(WRITER(&w), 2, bad, NAMES[k].length));
+        uint64_t place = place_in(&NAMES[k], edition);
+        if (place != LAWFUL) {
+            REFUSED_AT(&w, AFF_ERR_NAME, place, aff_make(WRITER(&w), 0, bad, NAMES[k].length));
+            REFUSED_AT(&w, AFF_ERR_NAME, place, aff_make(WRITER(&w), 2, bad, NAMES[k].length));
+        }
         REFUSED(&w, AFF_ERR_NOT_FOUND, aff_make(WRITER(&w), 3, bad, NAMES[k].length));
     }
-    name[AFF_TEXT - 1] = ',';
+    name[AFF_TEXT - 1] = '/';
     REFUSED_AT(&w, AFF_ERR_NAME, AFF_TEXT - 1, make(&w, 0, name));
     name[AFF_TEXT - 1] = 'x';
     REFUSED(&w, AFF_ERR_EXISTS, make(&w, 0, "a"));
@@ -184,24 +200,24 @@ static void refusals_of_writer(void) {
     REFUSED(&w, AFF_ERR_TYPE, put(&w, 1, 6, 4, 0));
     REFUSED(&w, AFF_ERR_TYPE, put(&w, 1, AFF_INT, 3, 0));
     REFUSED(&w, AFF_ERR_SPACE, aff_put(WRITER(&w), 1, AFF_CHAR, w.text + AFF_TEXT - 300, 300, 0));
-    printf("refused calls of the writer that change numbers[0] and nothing else: %u\n", refusals);
 }
 
 // 23 stores what the allowance permits, and clears the flag; a refused begin leaves a record of zeros, or after 23 a stopped one.
 static void stops_of_writer(void) {
     static struct writer w, before;
-    static const uint64_t zeros[AFF_NUMBERS], stopped[AFF_NUMBERS] = {0, BUFFER, 0, 0, 0, 0, 0};
+    static const uint64_t zeros[AFF_NUMBERS];
+    const uint64_t stopped[AFF_NUMBERS] = {0, BUFFER, edition, 0, 0, 0, 0, 0};
     two_nodes(&w, BUFFER);
     memcpy(&before, &w, sizeof before);
     CHECK(put(&w, 1, AFF_INT, 4, 2) == AFF_ERR_ALLOWANCE);
     memcpy(before.buffer + 172, seventy, 2);
     before.numbers[0] = 2;
-    before.numbers[6] = 0;
+    before.numbers[7] = 0;
     CHECK(memcmp(&before, &w, sizeof w) == 0);
     for (int call = 0; call < 3; call++) {
         reset(&w, call == 1 ? 167 : BUFFER, 0x44);
         memcpy(&before, &w, sizeof before);
-        uint32_t number = call == 0 ? aff_begin(w.buffer, w.length, form, 11, w.text, AFF_TEXT, w.tree, AFF_TREE, 9, w.numbers, w.kept) : begin(&w, 0);
+        uint32_t number = call == 0 ? begin_edition(&w, edition, 11, 9) : begin(&w, 0);
         CHECK(number == (uint32_t)(call == 0 ? AFF_ERR_LENGTH : call == 1 ? AFF_ERR_SPACE : AFF_ERR_ALLOWANCE));
         memcpy(before.numbers, call < 2 ? zeros : stopped, sizeof zeros);
         memcpy(before.kept, call < 2 ? (const uint8_t *)zeros : form, AFF_FORM);
@@ -209,15 +225,89 @@ static void stops_of_writer(void) {
     }
 }
 
-// After an accepted close the file is numbers[0] + numbers[5] bytes long; the whole buffer opens too.
+// After an accepted close the file is numbers[0] + numbers[6] bytes long; the whole buffer opens too.
 static void finished_size(const uint8_t *worked) {
     static struct writer w;
     reset(&w, BUFFER, 0x55);
     CHECK(begin(&w, 1) == AFF_OK && w.numbers[0] == 1 && open_image(w.buffer, BUFFER) == AFF_ERR_SIGNATURE);
     CHECK(make(&w, 0, "a") == AFF_OK && make(&w, 1, "n") == AFF_OK && w.numbers[0] == 2);
-    CHECK(put(&w, 2, AFF_INT, 4, 4) == AFF_OK && finish(&w, 210) == AFF_OK && w.numbers[6] == 0);
-    CHECK(w.numbers[0] + w.numbers[5] == WORKED && memcmp(w.buffer, worked, WORKED) == 0 && w.buffer[WORKED] == 0x55);
-    CHECK(open_image(w.buffer, WORKED) == AFF_OK && open_image(w.buffer, BUFFER) == AFF_OK && record[1] == BUFFER);
+    CHECK(put(&w, 2, AFF_INT, 4, 4) == AFF_OK && finish(&w, 210) == AFF_OK && w.numbers[7] == 0);
+    CHECK(w.numbers[0] + w.numbers[6] == WORKED && memcmp(w.buffer, worked, WORKED) == 0 && w.buffer[WORKED] == 0x55);
+    CHECK(open_image(w.buffer, WORKED) == AFF_OK && open_image(w.buffer, BUFFER) == AFF_OK && record[1] == BUFFER && record[2] == edition);
+}
+
+// ---- Editions
+
+// An edition that is not written: begin returns 3, after 1 and before 21 and 23, and leaves a record of zeros and everything else as it was. Later calls
+// return 24.
+static void unwritten_editions(void) {
+    static struct writer w, before;
+    static const uint32_t unwritten[] = {0, 1, 4, 5, 256 + 2, UINT32_MAX};
+    static const size_t lengths[] = {0, 143, 144, 167, 168, BUFFER};
+    for (size_t k = 0; k < sizeof unwritten / sizeof *unwritten; k++) {
+        for (size_t i = 0; i < sizeof lengths / sizeof *lengths; i++) {
+            reset(&w, lengths[i], 0x44);
+            memcpy(&before, &w, sizeof before);
+            memset(before.numbers, 0, sizeof before.numbers);
+            memset(before.kept, 0, sizeof before.kept);
+            for (uint64_t allowance = 0; allowance <= 1; allowance++) {
+                w.numbers[2] = edition;
+                CHECK(begin_edition(&w, unwritten[k], AFF_FORM, allowance) == AFF_ERR_SIGNATURE && memcmp(&before, &w, sizeof w) == 0);
+                CHECK(make(&w, 0, "a") == AFF_ERR_MISMATCH && put(&w, 0, AFF_INT, 0, 0) == AFF_ERR_MISMATCH && finish(&w, 0) == AFF_ERR_MISMATCH);
+                CHECK(begin_edition(&w, unwritten[k], AFF_FORM - 1, allowance) == AFF_ERR_LENGTH && memcmp(&before, &w, sizeof w) == 0);
+            }
+        }
+        two_nodes(&w, BUFFER);
+        memcpy(&before, &w, sizeof before);
+        memset(before.numbers, 0, sizeof before.numbers);
+        memset(before.kept, 0, sizeof before.kept);
+        CHECK(begin_edition(&w, unwritten[k], AFF_FORM, 1) == AFF_ERR_SIGNATURE && memcmp(&before, &w, sizeof w) == 0);
+    }
+}
+
+// A record whose edition is none of the written ones is 24, also one above 32 bits. With the other written edition it is a record of that edition.
+static void recorded_editions(void) {
+    static struct writer w;
+    static const uint64_t wrong[] = {0, 1, 4, 5, 256 + 2, UINT32_MAX, (uint64_t)1 << 32, (uint64_t)1 << 32 | 2, (uint64_t)1 << 32 | 3, UINT64_MAX};
+    uint32_t other = 5 - edition;
+    two_nodes(&w, BUFFER);
+    for (size_t k = 0; k < sizeof wrong / sizeof *wrong; k++) {
+        for (uint64_t flag = 0; flag <= 1; flag++) {
+            w.numbers[2] = wrong[k];
+            w.numbers[7] = flag;
+            REFUSED(&w, AFF_ERR_MISMATCH, make(&w, 0, "c"));
+            REFUSED(&w, AFF_ERR_MISMATCH, put(&w, 1, AFF_INT, 4, 0));
+            REFUSED(&w, AFF_ERR_MISMATCH, finish(&w, 0));
+        }
+    }
+    w.numbers[2] = other;
+    CHECK(make(&w, 0, "9") == (uint32_t)(other == 3 ? AFF_OK : AFF_ERR_NAME) && make(&w, 1, "c") == AFF_OK && w.numbers[2] == other);
+    CHECK(finish(&w, UINT64_MAX) == AFF_OK && open_image(w.buffer, BUFFER) == AFF_OK && record[2] == other && record[10] == (other == 3 ? 4 : 3));
+}
+
+// The 12 bytes of each edition; there is no other edition, and no shorter output.
+static void forms(const uint8_t *worked) {
+    static const uint32_t none[] = {0, 4, 5, 256 + 2, UINT32_MAX};
+    uint8_t bytes[AFF_FORM + 1], before[AFF_FORM + 1], image[WORKED], found[AFF_FORM];
+    memset(bytes, 0x77, sizeof bytes);
+    memset(before, 0x77, sizeof before);
+    for (size_t k = 0; k < sizeof none / sizeof *none; k++) {
+        CHECK(!aff_form(none[k], bytes, AFF_FORM) && !aff_form(none[k], NULL, 0) && memcmp(bytes, before, sizeof bytes) == 0);
+    }
+    for (uint32_t e = 1; e <= 3; e++) {
+        for (size_t length = 0; length < AFF_FORM; length++) {
+            CHECK(!aff_form(e, bytes, length) && memcmp(bytes, before, sizeof bytes) == 0);
+        }
+        CHECK(!aff_form(e, NULL, 0));
+        for (size_t length = AFF_FORM; length <= AFF_FORM + 1; length++) {
+            CHECK(aff_form(e, bytes, length) && memcmp(bytes, form, AFF_FORM - 1) == 0 && bytes[AFF_FORM] == 0x77);
+            CHECK(bytes[AFF_FORM - 1] == (e == 1 ? 144 : 168));
+        }
+        memcpy(image, worked, WORKED);
+        image[17] = (uint8_t)('0' + e);
+        CHECK(aff_form_for(image, WORKED, found, AFF_FORM) && memcmp(found, bytes, AFF_FORM) == 0);
+        memset(bytes, 0x77, sizeof bytes);
+    }
 }
 
 // ---- Null pointers with length 0, and other lengths
@@ -268,9 +358,9 @@ static void null_reading(const uint8_t *worked) {
 static void null_writing(void) {
     static struct writer w;
     reset(&w, BUFFER, 0);
-    CHECK(aff_begin(NULL, 0, form, AFF_FORM, w.text, AFF_TEXT, w.tree, AFF_TREE, 1, w.numbers, w.kept) == AFF_ERR_SPACE);
-    CHECK(aff_begin(w.buffer, BUFFER, NULL, 0, w.text, AFF_TEXT, w.tree, AFF_TREE, 1, w.numbers, w.kept) == AFF_ERR_LENGTH);
-    CHECK(aff_begin(w.buffer, BUFFER, form, AFF_FORM, NULL, 0, NULL, 0, 1, w.numbers, w.kept) == AFF_ERR_LENGTH);
+    CHECK(aff_begin(edition, NULL, 0, form, AFF_FORM, w.text, AFF_TEXT, w.tree, AFF_TREE, 1, w.numbers, w.kept) == AFF_ERR_SPACE);
+    CHECK(aff_begin(edition, w.buffer, BUFFER, NULL, 0, w.text, AFF_TEXT, w.tree, AFF_TREE, 1, w.numbers, w.kept) == AFF_ERR_LENGTH);
+    CHECK(aff_begin(edition, w.buffer, BUFFER, form, AFF_FORM, NULL, 0, NULL, 0, 1, w.numbers, w.kept) == AFF_ERR_LENGTH);
     CHECK(begin(&w, 1) == AFF_OK && aff_make(WRITER(&w), 0, NULL, 0) == AFF_ERR_NAME && make(&w, 0, "a") == AFF_OK);
     CHECK(aff_make(NULL, 0, w.numbers, w.kept, w.text, AFF_TEXT, w.tree, AFF_TREE, 0, form, 1) == AFF_ERR_MISMATCH);
     CHECK(aff_make(w.buffer, BUFFER, w.numbers, w.kept, NULL, 0, NULL, 0, 0, form, 1) == AFF_ERR_MISMATCH);
@@ -382,53 +472,111 @@ static void unterminated_names(const uint8_t *worked, const uint8_t *unterminate
 
 static void places_in_paths(const uint8_t *worked) {
     static const struct malformed paths[] = {
-        {"", 0, 0}, {"a", 1, 0}, {"a/n", 3, 0}, {"9", 1, 0}, {"\0", 1, 0}, {"\377", 1, 0}, {"//", 2, 1}, {"//a", 3, 1}, {"/9a", 3, 1}, {"/ ", 2, 1},
-        {"/\0", 2, 1}, {"/\377", 2, 1}, {"/a b/9", 6, 2}, {"/a\0", 3, 2}, {"/a\377/n", 5, 2}, {"/a/", 3, 3}, {"/a//n", 5, 3}, {"/a/9", 4, 3},
-        {"/a/n b", 6, 4}, {"/a/n/", 5, 5}, {"/momentum,1/x", 13, 9}};
+        {"", 0, 0, 0}, {"a", 1, 0, 0}, {"a/n", 3, 0, 0}, {"9", 1, 0, 0}, {"\0", 1, 0, 0}, {"\377", 1, 0, 0}, {"//", 2, 1, 1}, {"//a", 3, 1, 1}, {"/\0", 2, 1, 1},
+        {"/a\0", 3, 2, 2}, {"/a/", 3, 3, 3}, {"/a//n", 5, 3, 3}, {"/a/n/", 5, 5, 5}, {"/a b//", 6, 2, 5}, {"/\377/\n/", 5, 1, 5}, {"/9a", 3, 1, LAWFUL},
+        {"/ ", 2, 1, LAWFUL}, {"/\377", 2, 1, LAWFUL}, {"/a b/9", 6, 2, LAWFUL}, {"/a\377/n", 5, 2, LAWFUL}, {"/a/9", 4, 3, LAWFUL}, {"/a/n b", 6, 4, LAWFUL},
+        {"/momentum,1/x", 13, 9, LAWFUL}};
     static char path[65536];
-    CHECK(open_image(worked, WORKED) == AFF_OK && record[12] == 0);
-    for (size_t k = 0; k < sizeof paths / sizeof *paths; k++) {
-        looked_up(worked, WORKED, paths[k].bytes, paths[k].length, AFF_ERR_NAME, paths[k].place);
+    CHECK(open_image(worked, WORKED) == AFF_OK && record[2] == edition && record[12] == 0);
+    // The recorded edition decides: each of the three passes 24, another does not.
+    for (uint64_t e = 0; e <= 4; e++) {
+        record[2] = e;
+        bool exists = 0 < e && e < 4;
+        for (size_t k = 0; k < sizeof paths / sizeof *paths; k++) {
+            uint64_t place = place_in(&paths[k], e);
+            uint32_t expected = !exists ? AFF_ERR_MISMATCH : place == LAWFUL ? AFF_ERR_NOT_FOUND : AFF_ERR_NAME;
+            looked_up(worked, WORKED, paths[k].bytes, paths[k].length, expected, expected == AFF_ERR_NAME ? place : 0);
+        }
     }
+    record[2] = (uint64_t)1 << 32 | edition;
+    looked_up(worked, WORKED, "/a", 2, AFF_ERR_MISMATCH, 0);
+    record[2] = edition;
     for (int k = 0; k < ALL_NAMES; k++) {
+        uint64_t place = place_in(&NAMES[k], edition);
         path[0] = '/';
         memcpy(path + 1, NAMES[k].bytes, NAMES[k].length);
         // After a slash a name has its fault one place later. Left out: no name, and names with a slash, which is a fault in a name only.
-        if (NAMES[k].length != 0 && NAMES[k].bytes[NAMES[k].place] != '/') {
-            looked_up(worked, WORKED, path, NAMES[k].length + 1, AFF_ERR_NAME, NAMES[k].place + 1);
+        if (place == LAWFUL) {
+            looked_up(worked, WORKED, path, NAMES[k].length + 1, AFF_ERR_NOT_FOUND, 0);
+        } else if (NAMES[k].length != 0 && NAMES[k].bytes[place] != '/') {
+            looked_up(worked, WORKED, path, NAMES[k].length + 1, AFF_ERR_NAME, place + 1);
         }
     }
     memset(path, 'k', sizeof path);
     path[0] = '/';
     looked_up(worked, WORKED, path, sizeof path, AFF_ERR_NOT_FOUND, 0);
-    path[sizeof path - 1] = ' ';
+    path[sizeof path - 1] = 0;
     looked_up(worked, WORKED, path, sizeof path, AFF_ERR_NAME, sizeof path - 1);
     path[sizeof path - 1] = '/';
     looked_up(worked, WORKED, path, sizeof path, AFF_ERR_NAME, sizeof path);
 }
 
-// A file with the nodes /a and /a/abc, whose names are then others: the text area is altered before close, which does not look at names.
+// A file with the nodes /a and /a/abc, whose names are then others: the text area is altered before close, which does not look at names. By editions: the
+// lowest node with a malformed name and the place in it, or 0 where all names are lawful.
 static void second_numbers(void) {
     static struct writer w;
     static const struct {
         const char *first, *second;
-        uint64_t node, place;
-    } cases[] = {{"a", "a b", 2, 1}, {"a", "9ab", 2, 0}, {"a", "ab,", 2, 2}, {"a", "a ,", 2, 1}, {"a", "/ab", 2, 0}, {"a", "a\377b", 2, 1}, {" ", "a b", 1, 0}};
+        uint64_t narrow[2], wide[2];
+    } cases[] = {{"a", "a b", {2, 1}, {0, 0}}, {"a", "9ab", {2, 0}, {0, 0}}, {"a", "ab,", {2, 2}, {0, 0}}, {"a", "a ,", {2, 1}, {0, 0}},
+        {"a", "/ab", {2, 0}, {2, 0}}, {"a", "a/b", {2, 1}, {2, 1}}, {"a", " \n/", {2, 0}, {2, 2}}, {"a", "a\377b", {2, 1}, {0, 0}},
+        {" ", "a b", {1, 0}, {0, 0}}, {" ", "a /", {1, 0}, {2, 2}}, {"/", "a/b", {1, 0}, {1, 0}}};
     for (size_t k = 0; k < sizeof cases / sizeof *cases; k++) {
+        const uint64_t *expected = edition == 3 ? cases[k].wide : cases[k].narrow;
         reset(&w, BUFFER, 0);
         CHECK(begin(&w, 1) == AFF_OK && make(&w, 0, "a") == AFF_OK && make(&w, 1, "abc") == AFF_OK);
         memcpy(w.text, cases[k].first, 1);
         memcpy(w.text + 2, cases[k].second, 3);
         CHECK(finish(&w, UINT64_MAX) == AFF_OK);
         memset(record, 0x66, sizeof record);
-        CHECK(open_image(w.buffer, BUFFER) == AFF_ERR_NODE && record[0] == cases[k].node && record[12] == cases[k].place);
-        for (int i = 1; i < 12; i++) {
-            CHECK(record[i] == 0);
+        if (expected[0] == 0) {
+            CHECK(open_image(w.buffer, BUFFER) == AFF_OK && record[0] == 0 && record[10] == 2 && record[12] == 0);
+        } else {
+            CHECK(open_image(w.buffer, BUFFER) == AFF_ERR_NODE && record[0] == expected[0] && record[12] == expected[1]);
+            for (int i = 1; i < 12; i++) {
+                CHECK(record[i] == 0);
+            }
         }
         memset(record, 0x66, sizeof record);
         w.buffer[0] = 0;
         CHECK(open_image(w.buffer, BUFFER) == AFF_ERR_SIGNATURE && record[0] == 0 && record[12] == 0);
     }
+}
+
+// ---- Names that only edition 3 allows
+
+// samples/wide_names.aff, made and read: names and paths are the bytes as they are.
+static void wide_names(const uint8_t *expected) {
+    static struct writer w;
+    static const struct {
+        uint64_t parent, kind;
+        const char *name, *path;
+        size_t length;
+        uint8_t data[8];
+    } nodes[] = {{0, AFF_VOID, "9a", "/9a", 0, {0}}, {1, AFF_DOUBLE, "p x=\377\\", "/9a/p x=\377\\", 8, {0x40, 0x0c}},
+        {1, AFF_CHAR, "\n", "/9a/\n", 2, {'h', 'i'}}};
+    reset(&w, WIDE, 0);
+    CHECK(begin(&w, 1) == AFF_OK);
+    for (uint64_t n = 1; n <= 3; n++) {
+        CHECK(make(&w, nodes[n - 1].parent, nodes[n - 1].name) == AFF_OK && w.numbers[0] == n);
+    }
+    for (uint64_t n = 2; n <= 3; n++) {
+        CHECK(aff_put(WRITER(&w), n, nodes[n - 1].kind, nodes[n - 1].data, nodes[n - 1].length, 8) == AFF_OK);
+    }
+    CHECK(finish(&w, UINT64_MAX) == AFF_OK && w.numbers[0] + w.numbers[6] == WIDE && memcmp(w.buffer, expected, WIDE) == 0);
+    CHECK(open_image(expected, WIDE) == AFF_OK && record[2] == 3 && record[10] == 3);
+    for (uint64_t n = 1; n <= 3; n++) {
+        uint64_t offset = 77, size = 77, found = 77, place = 77;
+        const char *name = nodes[n - 1].name, *whole = nodes[n - 1].path;
+        uint8_t path[16];
+        CHECK(aff_name(OPENED(expected, WIDE), n, &offset, &size) == AFF_OK && size == strlen(name) && memcmp(expected + offset, name, size) == 0);
+        CHECK(aff_path(OPENED(expected, WIDE), n, path, sizeof path, &size) == AFF_OK && size == strlen(whole) && memcmp(path, whole, size) == 0);
+        CHECK(aff_lookup(OPENED(expected, WIDE), path, size, &found, &place) == AFF_OK && found == n && place == 0);
+    }
+    looked_up(expected, WIDE, "/9A", 3, AFF_ERR_NOT_FOUND, 0);
+    looked_up(expected, WIDE, "/9a/\\x0a", 8, AFF_ERR_NOT_FOUND, 0);
+    looked_up(expected, WIDE, "/9a/\n/", 6, AFF_ERR_NAME, 6);
+    looked_up(expected, WIDE, "/9a/\0", 5, AFF_ERR_NAME, 4);
 }
 
 static void special_numbers(void) {
@@ -472,23 +620,33 @@ static size_t loaded(const char *path, uint8_t *bytes, size_t most) {
 }
 
 int main(int argc, char **argv) {
-    static uint8_t worked[WORKED + 1], unterminated[UNTERMINATED + 1];
-    if (argc != 3 || loaded(argv[1], worked, sizeof worked) != WORKED || loaded(argv[2], unterminated, sizeof unterminated) != UNTERMINATED) {
-        fputs("usage: c_calls samples/worked.aff samples/unterminated.aff\n", stderr);
+    static uint8_t samples[2][WORKED + 1], unterminated[UNTERMINATED + 1], wide[WIDE + 1];
+    if (argc != 5 || loaded(argv[1], samples[0], WORKED + 1) != WORKED || loaded(argv[2], samples[1], WORKED + 1) != WORKED ||
+        loaded(argv[3], unterminated, sizeof unterminated) != UNTERMINATED || loaded(argv[4], wide, sizeof wide) != WIDE) {
+        fputs("usage: c_calls samples/worked.aff samples/worked3.aff samples/unterminated.aff samples/wide_names.aff\n", stderr);
         return 2;
     }
-    drill(worked);
-    refusals_of_writer();
-    stops_of_writer();
-    finished_size(worked);
-    null_reading(worked);
-    null_writing();
-    listings(worked);
-    outputs(worked);
-    unterminated_names(worked, unterminated);
-    places_in_paths(worked);
-    second_numbers();
+    for (edition = 2; edition <= 3; edition++) {
+        const uint8_t *worked = samples[edition - 2];
+        drill(worked);
+        refusals_of_writer();
+        stops_of_writer();
+        finished_size(worked);
+        unwritten_editions();
+        recorded_editions();
+        forms(worked);
+        null_reading(worked);
+        null_writing();
+        listings(worked);
+        outputs(worked);
+        unterminated_names(worked, unterminated);
+        places_in_paths(worked);
+        second_numbers();
+    }
+    edition = 3;
+    wide_names(wide);
     special_numbers();
+    printf("refused calls of the writer that change numbers[0] and nothing else: %lu\n", refusals);
     printf("%lu checks, %lu failed\n", checks, failures);
     return failures != 0;
 }

@@ -26,8 +26,8 @@ TARGET = os.path.join(ROOT, "target")
 FOLDER = os.path.join(TARGET, "evidence")
 SECOND = os.path.join(TARGET, "second_reader", "release", "second_reader")
 LIBRARY = os.path.join(TARGET, "staticlib", "libaff_c.a")
-WORKED_FILE = os.path.join(ROOT, "samples", "worked.aff")
-UNTERMINATED_FILE = os.path.join(ROOT, "samples", "unterminated.aff")
+WORKED_FILE, WORKED3_FILE, UNTERMINATED_FILE, WIDE_FILE = (
+    os.path.join(ROOT, "samples", f"{name}.aff") for name in ("worked", "worked3", "unterminated", "wide_names"))
 WARNINGS = ["-Wall", "-Wextra", "-pedantic", "-Werror", "-Wconversion", "-Wshadow", "-I", os.path.join(ROOT, "include")]
 
 # What is compared by the second reader, the command, how many, and what follows these on the command line.
@@ -50,6 +50,16 @@ POINTED = [
     ("", "\n\n^\n"),
     ("/a\t/n", "\n/a?/n\n  ^\n"),
     ("/x\u00e9/9", "\n/x??/9\n  ^\n"),
+]
+
+# Paths in samples/wide_names.aff, and what the sample program prints: where it ends with 0, the elements, else something on standard error.
+WIDE_PATHS = [
+    (b"/9a/p x=\xff\\", 0, "3.5\n", ""),
+    (b"/9a/\n", 0, "104\n105\n", ""),
+    (b"/9a", 0, "", "a Void node, which has no data"),
+    (b"/9a/p", 1, "", "refused 15 0"),
+    (b"/9a/\n/", 1, "", "refused 14 6: "),
+    (b"/9a//\n", 1, "", "\n/9a//?\n    ^\n"),
 ]
 
 
@@ -80,10 +90,10 @@ def program(name, *more, language="c", standard="c99"):
 
 def ends(command, status=0, out="", err=""):
     """Whether a command ends with a status, prints exactly `out`, and on standard error something with `err` in it (nothing where that is empty)."""
-    done = subprocess.run(command, stdout=subprocess.PIPE, stderr=subprocess.PIPE, text=True)
+    done = subprocess.run(command, stdout=subprocess.PIPE, stderr=subprocess.PIPE, text=True, errors="backslashreplace")
     right = done.returncode == status and done.stdout == out and (err in done.stderr if err else not done.stderr)
     if not right:
-        print(f"{' '.join(command)}: status {done.returncode}\n{done.stdout}{done.stderr}")
+        print(f"{' '.join(map(repr, command))}: status {done.returncode}\n{done.stdout}{done.stderr}")
     return right
 
 
@@ -94,8 +104,31 @@ def image_file(name, image):
     return path
 
 
+def content(path):
+    """The bytes of a file; None where there is none."""
+    if not os.path.exists(path):
+        return None
+    with open(path, "rb") as file:
+        return file.read()
+
+
+def written(write):
+    """samples/write.c in both written editions, over what is there, each beside the sample that was made without the library; then refused, which leaves
+    what is there."""
+    path = os.path.join(FOLDER, "written.aff")
+    runs = []
+    for edition, sample in (("2", WORKED_FILE), ("3", WORKED3_FILE)):
+        runs.append(ends([write, path, edition]) and content(path) == content(sample))
+    for words, status, err in (
+        (["1"], 1, "begin: refused 3 0"), (["0"], 1, "no edition 0"), (["4"], 1, "no edition 4"), (["4294967298"], 2, "usage"), ([], 2, "usage"),
+    ):
+        runs.append(ends([write, path, *words], status, err=err) and content(path) == content(WORKED3_FILE) and not os.path.exists(path + ".part"))
+    runs.append(ends([write, os.path.join(FOLDER, "no such folder", "x"), "3"], 1, err="No such file"))
+    return runs
+
+
 def sources():
-    """The header alone in C and C++, and the sample program in both, whose output is compared."""
+    """The header alone in C and C++, and the sample programs in both, whose output is compared."""
     header = os.path.join(ROOT, "include", "aff.h")
     right = []
     for compiler, language, standards in (("cc", "c", ("c99", "c11")), ("c++", "c++", ("c++98", "c++11", "c++17"))):
@@ -104,6 +137,7 @@ def sources():
     print(f"   include/aff.h: {sum(right)} of {len(right)} compilations without a warning")
     worked = make(2, WORKED)
     unfinished = image_file("unfinished.aff", b"\0" + worked[1:])
+    first = image_file("first.aff", make(1, WORKED))
     empty = image_file("empty.aff", make(2, [(0, b"e", DOUBLE, 0)]))
     repeated = image_file("repeated.aff", changed(2, strings=[b"a", b"n", b"a"]).bytes())
     runs = []
@@ -113,6 +147,9 @@ def sources():
             ends(compile_it),
             ends([read, WORKED_FILE, "/a/n"], out="-70\n"),
             ends([read, UNTERMINATED_FILE, "/a/n"], out="-70\n"),
+            ends([read, first, "/a/n"], out="-70\n"),
+            ends([read, WORKED3_FILE, "/a/n"], out="-70\n"),
+            *(ends([read, WIDE_FILE, os.fsdecode(path)], status, out, err) for path, status, out, err in WIDE_PATHS),
             ends([read, WORKED_FILE, "/a"], err="a Void node, which has no data"),
             ends([read, empty, "/e"], err="an empty array"),
             ends([read, WORKED_FILE, "/b"], 1, err="refused 15 0"),
@@ -122,13 +159,18 @@ def sources():
             ends([read], 2, err="usage"),
         ]
     print(f"   samples/read.c: {sum(runs)} of {len(runs)} compilations and runs as expected")
-    return all(right + runs)
+    writes = []
+    for language, standard in (("c", "c99"), ("c++", "c++11")):
+        compile_it, write = program("samples/write.c", language=language, standard=standard)
+        writes += [ends(compile_it), *written(write)]
+    print(f"   samples/write.c: {sum(writes)} of {len(writes)} compilations and runs as expected")
+    return all(right + runs + writes)
 
 
 def calls():
     """tests/c_calls.c prints its own counts."""
     compile_it, path = program("tests/c_calls.c")
-    return ends(compile_it) and subprocess.run([path, WORKED_FILE, UNTERMINATED_FILE]).returncode == 0
+    return ends(compile_it) and subprocess.run([path, WORKED_FILE, WORKED3_FILE, UNTERMINATED_FILE, WIDE_FILE]).returncode == 0
 
 
 def stack():
@@ -143,9 +185,9 @@ def second_reader(words):
 
 def parts(seed, part):
     """Each part: its name, what is compared, what runs, and the function that does it."""
-    yield "sources", "the header and the sample program in C and C++", "include/aff.h, samples/read.c", sources
-    yield "calls", "every call through the header: allowances, refusals, null pointers, numbers", "tests/c_calls.c", calls
-    yield "stack", "the stack of every call on chains of 2,048 nodes, at most 262,144 bytes", "tests/stack.c", stack
+    yield "sources", "the header and the sample programs in C and C++", "include/aff.h, samples/read.c, samples/write.c", sources
+    yield "calls", "every call through the header: allowances, refusals, editions, null pointers, numbers", "tests/c_calls.c", calls
+    yield "stack", "the stack of every call on chains of 2,048 nodes in every edition, at most 262,144 bytes", "tests/stack.c", stack
     for what, command, count, more in COMPARED:
         words = [command, str(seed), str(max(1, count // part)), *more]
         shown = [os.path.relpath(word, ROOT) if os.path.isabs(word) else word for word in words]

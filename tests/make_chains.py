@@ -1,5 +1,5 @@
 #!/usr/bin/env python3
-"""Makes the images that tests/stack.c reads: chains of 2,048 nodes with names of one byte, the deepest with one Complex, in both editions.
+"""Makes the images that tests/stack.c reads: chains of 2,048 nodes with names of one byte, the deepest with one Complex, in every edition.
 
     tests/make_chains.py FOLDER
 
@@ -8,7 +8,7 @@ In `up` each parent has a lower number than its child, in `down` a higher one. I
 import argparse
 import os
 
-from make_images import COMPLEX, VOID
+from make_images import COMPLEX, EDITIONS, VOID
 from make_listings import make
 
 NODES = 2048
@@ -16,7 +16,7 @@ NODES = 2048
 
 def chains():
     """Name and nodes of each chain; a node is (parent, name, kind, count), numbered from 1."""
-    for edition in (1, 2):
+    for edition in EDITIONS:
         up = [(k, b"x", VOID, 0) for k in range(NODES - 1)] + [(NODES - 1, b"x", COMPLEX, 1)]
         down = [(2, b"x", COMPLEX, 1)] + [(k + 1, b"x", VOID, 0) for k in range(2, NODES)] + [(0, b"x", VOID, 0)]
         yield f"up{edition}.aff", make(edition, up)

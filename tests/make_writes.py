@@ -2,24 +2,26 @@
 """Makes the script of the test program test_write, and what it must print.
 
 A script is a run of steps: the writer's calls, and between them what is printed, or changed without the writer. What must be printed is worked
-out here from document 01 and request C-18, with no code of the library: `Writer` answers the calls by its tables, and a finished file is laid out a second
-time by make_images. The refusal that a case is about is said by hand besides. It writes crates/test_write/stdin (each step after its length in 4 bytes)
-and stdout.
+out here from document 01, requests C-15 and C-18 and source document 000, with no code of the library: `Writer` answers the calls by its tables, and a
+finished file is laid out a second time by make_images. The refusal that a case is about is said by hand besides. Everything is run in both written editions.
+It writes crates/test_write/stdin (each step after its length in 4 bytes) and stdout.
 
     tests/make_writes.py [FOLDER]      FOLDER: where these are written, the repository where none is given
 """
 import struct
 
-from make_images import CHAR, COMPLEX, DOUBLE, INT, VOID, Image, destination, entry, fault, form, md5
+from make_images import CHAR, COMPLEX, DOUBLE, HEADER, INT, NAMES, VOID, WIDE, Image, destination, entry, fault, form, md5
 from make_listings import SIZE, brief, lines, write
 
 BUFFER_SIZE, TEXT, TREE, LIMIT = 65536, 32768, 51200, 2048
 MOST = 2**64 - 1
-FIELDS = ("length", "strings", "text", "nodes", "data", "open")
+WRITTEN = (2, 3)
+FIELDS = ("length", "edition", "strings", "text", "nodes", "data", "open")
 
 
 class Writer:
-    """Room, areas and record, and what each call answers: ("accepted", n) or ("refused", number, place)."""
+    """Buffer, areas and record, and what each call answers: ("accepted", n) or ("refused", number, place). The recorded edition decides the size of the
+    header, and with it the place of the data, the finished size and the least buffer; the order of the section headers; and the rule for names."""
 
     def __init__(self):
         self.buffer, self.text, self.tree = bytearray(BUFFER_SIZE), bytearray(TEXT + 1), bytearray(TREE + 1)
@@ -40,13 +42,18 @@ class Writer:
     def strings(self):
         return bytes(self.text[:self.rec["text"]]).split(b"\0")[:-1]
 
+    def header(self):
+        return HEADER[self.rec["edition"]]
+
     def size(self):
         kinds = [self.slot(k)[0] for k in range(1, self.rec["nodes"] + 1)]
-        return 168 + self.rec["data"] + self.rec["text"] + sum(13 if k == VOID else 25 for k in kinds)
+        return self.header() + self.rec["data"] + self.rec["text"] + sum(13 if k == VOID else 25 for k in kinds)
 
     def belongs(self):
         r, used = self.rec, self.text[:self.rec["text"]]
-        if self.passed != (r["length"], TEXT, TREE) or r["strings"] > LIMIT or r["text"] > TEXT or r["nodes"] > LIMIT:
+        if self.passed != (r["length"], TEXT, TREE) or r["edition"] not in WRITTEN:
+            return False
+        if r["strings"] > LIMIT or r["text"] > TEXT or r["nodes"] > LIMIT:
             return False
         if used.count(0) != r["strings"] or used[-1:] not in (b"", b"\0"):
             return False
@@ -54,7 +61,7 @@ class Writer:
             kind, parent, string, count, offset = self.slot(k)
             if not 1 <= kind <= 5 or parent >= k or string >= r["strings"]:
                 return False
-            if kind != VOID and not 168 <= offset <= 168 + r["data"] - count * SIZE[kind]:
+            if kind != VOID and not self.header() <= offset <= self.header() + r["data"] - count * SIZE[kind]:
                 return False
         return self.size() <= r["length"]
 
@@ -72,14 +79,16 @@ class Writer:
         self.rec["open"] = 0
         return ("refused", 23, allowance)
 
-    def begin(self, allowance, passed):
+    def begin(self, allowance, edition, passed):
         buffer, text, tree = self.passed
         self.none()
         if len(passed) != 12 or text != TEXT or tree != TREE:
             return ("refused", 1, 0)
-        if buffer < 168:
+        if edition not in WRITTEN:
+            return ("refused", 3, 0)
+        if buffer < HEADER[edition]:
             return ("refused", 21, 0)
-        self.rec.update(length=buffer, open=1)
+        self.rec.update(length=buffer, edition=edition, open=1)
         self.form = passed
         answer = self.store([(0, 0)], allowance)
         if answer[0] == "accepted":
@@ -95,8 +104,8 @@ class Writer:
             return wrong
         if parent > r["nodes"]:
             return ("refused", 15, 0)
-        if fault(name) is not None:
-            return ("refused", 14, fault(name))
+        if fault(r["edition"], name) is not None:
+            return ("refused", 14, fault(r["edition"], name))
         for k in range(1, r["nodes"] + 1):
             if self.slot(k)[1] == parent and strings[self.slot(k)[2]] == name:
                 return ("refused", 17, 0)
@@ -123,7 +132,7 @@ class Writer:
             return ("refused", 19, 0)
         if self.size() + 12 + len(data) > r["length"]:
             return ("refused", 21, 0)
-        at = 168 + r["data"]
+        at = self.header() + r["data"]
         answer = self.store([(at + i, b) for i, b in enumerate(data)], allowance)
         if answer[0] == "accepted":
             self.put_slot(node, kind, *self.slot(node)[1:3], len(data) // SIZE[kind], at)
@@ -134,24 +143,24 @@ class Writer:
         r, wrong = self.rec, self.judge()
         if wrong:
             return wrong
-        nodes = [self.slot(k) for k in range(1, r["nodes"] + 1)]
-        data = bytes(self.buffer[168:168 + r["data"]])
-        image = Image(2, strings=self.strings(), entries=[entry(*n) for n in nodes], data=data)
+        nodes, h = [self.slot(k) for k in range(1, r["nodes"] + 1)], self.header()
+        data = bytes(self.buffer[h:h + r["data"]])
+        image = Image(r["edition"], strings=self.strings(), entries=[entry(*n) for n in nodes], data=data)
         image.form = self.form
         image.count = {"data": sum(n[0] != VOID for n in nodes)}
         stores = list(enumerate(image.bytes()))
-        stores = stores[168 + len(data):] + stores[1:168] + stores[:1]
+        stores = stores[h + len(data):] + stores[1:h] + stores[:1]
         answer = self.store(stores, allowance)
         r["open"] = 0
         return answer
 
 
 class Script:
-    """Steps, with what they print. `tree` has the nodes that the accepted calls describe: parent, name, type, bytes;
-    `order` has those with data, in the order of the puts."""
+    """Steps, with what they print. `edition` is the one that begin is passed where a case names no other. `tree` has the nodes that the accepted calls
+    describe: parent, name, type, bytes; `order` has those with data, in the order of the puts."""
 
     def __init__(self):
-        self.w, self.stdin, self.out, self.tree, self.order, self.cases = Writer(), [], [], [], [], 0
+        self.w, self.stdin, self.out, self.tree, self.order, self.cases, self.edition = Writer(), [], [], [], [], 0, 2
 
     def step(self, letter, numbers=(), data=b""):
         block = letter.encode() + struct.pack(">3Q", *(list(numbers) + [0, 0, 0])[:3]) + data
@@ -160,13 +169,14 @@ class Script:
     def reported(self, name, answer, expect):
         assert expect is None or answer == expect, (self.out[-3:], name, answer, expect)
         r = self.w.rec
-        numbers = " ".join(str(r[f]) for f in FIELDS[:5])
+        numbers = " ".join(str(r[f]) for f in FIELDS[:6])
         self.out.append("%s %s, record %s %s %s\n" % (name, " ".join(map(str, answer)), numbers, "open" if r["open"] else "shut", self.w.form.hex()))
         return answer[0] == "accepted"
 
     def case(self, title, buffer=None, fill=0xEE):
         """Begins a case: its title, the lengths passed, and a buffer full of one byte."""
         self.cases += 1
+        title = f"edition {self.edition}: {title}"
         self.step("#", data=title.encode())
         self.out.append(title + "\n")
         if buffer is not None:
@@ -178,9 +188,11 @@ class Script:
         self.step("=", [buffer, text, tree])
         self.w.passed = (buffer, text, tree)
 
-    def begin(self, allowance=MOST, passed=form(2), expect=None):
-        self.step("b", [allowance], passed)
-        if self.reported("begin", self.w.begin(allowance, passed), expect):
+    def begin(self, allowance=MOST, passed=None, edition=None, expect=None):
+        edition = self.edition if edition is None else edition
+        passed = form(self.edition) if passed is None else passed
+        self.step("b", [allowance, edition], passed)
+        if self.reported("begin", self.w.begin(allowance, edition, passed), expect):
             self.tree, self.order = [], []
 
     def make(self, parent, name, expect=None):
@@ -217,18 +229,18 @@ class Script:
         self.out.append(self.w.buffer[:self.w.passed[0]].hex() + "\n")
 
     def layout(self):
-        """The file of the tree that the calls described, laid out from that alone."""
-        strings, data, entries = [], b"", []
+        """The file of the tree that the calls described, laid out from that and the recorded edition alone."""
+        strings, data, entries, edition = [], b"", [], self.w.rec["edition"]
         for parent, name, kind, held in self.tree:
             if name not in strings:
                 strings.append(name)
         at = {}
         for k in self.order:
-            at[k] = 168 + len(data)
+            at[k] = HEADER[edition] + len(data)
             data += self.tree[k - 1][3]
         for k, (parent, name, kind, held) in enumerate(self.tree, 1):
             entries.append(entry(kind, parent, strings.index(name), len(held) // SIZE.get(kind, 1), at.get(k, 0)))
-        image = Image(2, strings=strings, entries=entries, data=data)
+        image = Image(edition, strings=strings, entries=entries, data=data)
         image.count = {"data": len(at)}
         return image.bytes(), len(strings), len(at)
 
@@ -249,7 +261,7 @@ class Script:
         file, strings, full = self.layout()
         assert bytes(self.w.buffer[:len(file)]) == file
         self.step("o")
-        self.out.append("opened 2 %d %d %d\n" % (strings, len(self.tree), full))
+        self.out.append("opened %d %d %d %d\n" % (self.w.rec["edition"], strings, len(self.tree), full))
         paths = [b""]
         for k, (parent, name, kind, held) in enumerate([(0, b"", VOID, b"")] + self.tree):
             if k:
@@ -257,7 +269,7 @@ class Script:
             size = SIZE.get(kind, 1)
             elements = [element(kind, held[i:i + size]) for i in range(0, len(held), size)]
             front = "%d path %s name %s type %d count accepted %d bytes %s\n"
-            self.out.append(front % (k, (paths[k] or b"/").decode(), name.decode(), kind, len(elements), held.hex()))
+            self.out.append(front % (k, (paths[k] or b"/").decode("latin-1"), name.decode("latin-1"), kind, len(elements), held.hex()))
             self.out.append("  elements %s\n" % " ".join(elements + ["refused 16 0"]))
         self.out.append("%d path refused 15 0 name  type refused 15 0 count refused 15 0 bytes \n" % len(paths))
 
@@ -286,6 +298,10 @@ def yes(number):
     return ("accepted", number)
 
 
+# The MD5 sums of the worked file.
+SUMS = {2: "68aa038d934967d187bd25bfb6353110", 3: "b3ea9a372cc7394dbc2470f7b30eee3c"}
+
+
 def worked(s, buffer=214, fill=0xEE, title=None):
     s.case(title or "the worked file", buffer, fill)
     s.begin(expect=yes(1))
@@ -299,17 +315,18 @@ def whole_files(s):
     s.put(2, INT, INT70, 4, yes(4))
     s.sums()
     s.close(210, yes(210))
+    assert md5(bytes(s.w.buffer[:214])).hex() == SUMS[s.edition]
     s.sums()
     s.hex()
     s.listed()
     s.opened()
     for buffer in (0, 1, 167):
-        s.case("room %d" % buffer, buffer)
+        s.case("a buffer of %d" % buffer, buffer)
         s.begin(expect=no(21))
         s.make(0, b"a", no(24))
         s.close(expect=no(24))
         s.sums()
-    s.case("room 168: an empty tree", 168)
+    s.case("a buffer of 168: an empty tree", 168)
     s.begin(1, expect=yes(1))
     s.refused(3)
     s.make(0, b"a", no(21))
@@ -317,23 +334,23 @@ def whole_files(s):
     s.hex()
     s.listed()
     s.opened()
-    s.case("room 182: a child does not fit", 182)
+    s.case("a buffer of 182: a child does not fit", 182)
     s.begin()
     s.make(0, b"a", no(21))
     s.close(expect=yes(168))
     s.opened()
-    s.case("room 183: a child fits, a second does not", 183)
+    s.case("a buffer of 183: a child fits, a second does not", 183)
     s.begin()
     s.make(0, b"a", yes(1))
     s.make(1, b"a", no(21))
     s.close(expect=yes(183))
     s.opened()
-    worked(s, 213, title="room 213: the put is refused, and close finds room")
+    worked(s, 213, title="a buffer of 213: the put is refused, and the file fits without it")
     s.put(2, INT, INT70, expect=no(21))
     s.put(2, INT, b"", expect=yes(0))
     s.close(expect=yes(168 + 4 + 38))
     s.opened()
-    worked(s, 1000, title="a room longer than the file keeps its rest")
+    worked(s, 1000, title="a buffer longer than the file keeps its rest")
     s.put(2, INT, INT70)
     s.close(expect=yes(210))
     s.sums()
@@ -377,6 +394,36 @@ def every_kind(s):
         s.make(0, name)
     s.close()
     s.opened()
+    if s.edition == 3:
+        wide_names(s)
+
+
+def wide_names(s):
+    """Names that only edition 3 allows."""
+    s.case("a name that begins with a digit, one with a space, FF and a backslash, a line feed", 253)
+    s.begin()
+    for k, (parent, name) in enumerate(((0, b"9a"), (1, b"p x=\xff\\"), (1, b"\n")), 1):
+        s.make(parent, name, yes(k))
+    s.put(2, DOUBLE, struct.pack(">d", 3.5), expect=yes(8))
+    s.put(3, CHAR, b"hi", expect=yes(2))
+    s.close(expect=yes(243))
+    assert md5(bytes(s.w.buffer[:253])).hex() == "72c629f0dd1741bd4c8e2cee066c0fc7"
+    s.hex()
+    s.listed()
+    s.opened()
+    s.case("every byte but zero and the slash, in one name and each a name", BUFFER_SIZE)
+    s.begin()
+    s.make(0, WIDE, yes(1))
+    for k, x in enumerate(WIDE, 2):
+        s.make(1, b"%c" % x, yes(k))
+    s.make(0, b"\0", no(14, 0))
+    s.make(0, b"/", no(14, 0))
+    s.make(0, bytes(range(1, 256)), no(14, 46))
+    s.make(0, WIDE + b"\0", no(14, 254))
+    s.make(1, b"\xff", no(17))
+    s.close()
+    s.sums()
+    s.listed()
 
 
 def no_bytes(s):
@@ -394,10 +441,11 @@ def no_bytes(s):
 def limits(s):
     s.case("2,048 nodes, and the refusal of one more", BUFFER_SIZE)
     s.begin()
+    letter = {2: b"k", 3: b"\xff"}[s.edition]
     for k in range(1, LIMIT + 1):
-        s.make(k // 4, b"k%d" % k, yes(k))
+        s.make(k // 4, b"%s%d" % (letter, k), yes(k))
     s.make(0, b"one.more", no(20))
-    s.make(1, b"k1", no(20))
+    s.make(1, letter + b"1", no(20))
     s.put(LIMIT, INT, INT70 * 3, expect=yes(12))
     s.put(1, CHAR, b"first", expect=yes(5))
     s.sums()
@@ -407,7 +455,7 @@ def limits(s):
     assert s.layout()[0] == bytes(s.w.buffer[:len(s.layout()[0])])
     s.case("text of exactly 32,768 bytes", BUFFER_SIZE)
     s.begin()
-    for k, letter in enumerate((b"a", b"b", b"c"), 1):
+    for k, letter in enumerate({2: (b"a", b"b", b"c"), 3: (b"\1", b" ", b"\\")}[s.edition], 1):
         s.make(0, letter * 8191, yes(k))
     s.make(0, b"d" * 8192, no(20))
     s.make(0, b"d" * 8191, yes(4))
@@ -438,7 +486,7 @@ def limits(s):
 def begin_refusals(s):
     s.case("begin: 1", 214)
     for size in (0, 11, 13):
-        s.begin(passed=(form(2) + b"\1")[:size], expect=no(1))
+        s.begin(passed=(form(s.edition) + b"\1")[:size], expect=no(1))
     for text, tree in ((TEXT - 1, TREE), (TEXT + 1, TREE), (TEXT, TREE - 1), (TEXT, TREE + 1)):
         s.lend(214, text, tree)
         s.begin(expect=no(1))
@@ -475,22 +523,70 @@ def begin_refusals(s):
     s.refused(3)
     s.close(167, no(23, 167))
     s.refused(3)
+    s.case("begin over a finished file of the other edition", 168)
+    s.begin(edition=5 - s.edition)
+    s.close()
+    s.opened()
+    s.begin(1, expect=yes(1))
+    s.refused(3)
+    s.close(168, yes(168))
+    s.opened()
 
 
-# Malformed names, and the place of the first byte that breaks the rule.
-NAMES = (
-    (b"", 0), (b"9a", 0), (b"-a", 0), (b".a", 0), (b"/a", 0), (b"/", 0), (b"\0", 0), (b" ", 0), (b"9", 0), (b"\xff", 0), (b"9 a", 0),
-    (b"a b", 1), (b"a/b", 1), (b"a\0", 1), (b"a\xe9", 1), (b"a\xff", 1), (b"a@", 1), (b"a[", 1), (b"a`", 1), (b"a{", 1), (b"a,", 1), (b"a;", 1),
-    (b"a b c", 1), (b"ab\0c", 2), (b"abc/", 3), (b"momentum,1", 8),
+def unwritten_editions(s):
+    """Request C-15: 3 for an edition that is not written comes after 1 and before 21 and 23, changes nothing, and leaves the all-zero record."""
+    for s.edition in (0, 1, 4, MOST >> 32):
+        s.case("begin: 3 stores nothing and clears nothing; later calls get 24", 214)
+        s.poke("text", 0, 7)
+        s.poke("tree", 51199, 7)
+        s.begin(passed=form(2), expect=no(3))
+        all_24(s)
+        s.begin(0, passed=form(2), expect=no(3))
+        s.begin(passed=form(1), expect=no(3))
+        s.begin(passed=form(2)[:11], expect=no(1))
+        for passed in ((214, TEXT - 1, TREE), (214, TEXT, TREE + 1), (100, TEXT + 1, TREE)):
+            s.lend(*passed)
+            s.begin(0, passed=form(2), expect=no(1))
+        for buffer in (0, 143, 144, 167):
+            s.lend(buffer)
+            s.begin(passed=form(2), expect=no(3))
+            s.begin(0, passed=form(2), expect=no(3))
+            all_24(s)
+        s.lend(214)
+        s.sums()
+    for s.edition in WRITTEN:
+        worked(s, 214, title="begin with edition 1 in the middle of a file: buffer and areas stay, later calls get 24")
+        s.put(2, INT, INT70)
+        s.sums()
+        s.begin(edition=1, expect=no(3))
+        all_24(s)
+        s.sums()
+
+
+# Names, and the place of the first byte that breaks the rule: in edition 2, and in edition 3. None where the name is lawful.
+CALL_NAMES = NAMES + (
+    (b"\0", 0, 0), (b"a\0", 1, 1), (b"ab\0c", 2, 2), (b" \0", 0, 1), (b"\xff\0/", 0, 1), (b"9", 0, None), (b"a\xe9", 1, None), (b"a@", 1, None),
+    (b"a[", 1, None), (b"a`", 1, None), (b"a{", 1, None), (b"a,", 1, None), (b"a;", 1, None),
 )
 
 
 def make_refusals(s):
+    names = [(name, narrow if s.edition == 2 else wide) for name, narrow, wide in CALL_NAMES]
+    names, lawful = [pair for pair in names if pair[1] is not None], [name for name, place in names if place is None]
+    if lawful:
+        s.case("make: names that are 14 in edition 2", 2000)
+        s.begin()
+        for k, name in enumerate(lawful, 1):
+            s.make(k, name, no(15))
+            s.make(k - 1, name, yes(k))
+        s.close()
+        s.sums()
+        s.listed()
     s.case("make: 15, 14, 17", 400)
     s.begin()
     s.make(1, b"a", no(15))
     s.make(MOST, b"9", no(15))
-    for name, place in NAMES:
+    for name, place in names:
         s.make(0, name, no(14, place))
         s.make(1, name, no(15))
     s.make(0, b"a", yes(1))
@@ -502,16 +598,16 @@ def make_refusals(s):
     s.make(0, b"b", no(17))
     s.make(3, b"b", yes(4))
     s.make(5, b"b", no(15))
-    for name, place in NAMES:
+    for name, place in names:
         s.make(4, name, no(14, place))
-    s.make(5, b"a b", no(15))
+    s.make(5, b"a/b", no(15))
     s.sums()
     s.case("make: 17 comes before 20 and 21, 14 before all three", 185)
     s.begin()
     s.make(0, b"abc", yes(1))
     s.make(0, b"abc", no(17))
     s.make(0, b"a/b", no(14, 1))
-    s.make(0, b"k" * 33000 + b" ", no(14, 33000))
+    s.make(0, b"k" * 33000 + b"/", no(14, 33000))
     s.make(0, b"abd", no(21))
     s.close(expect=yes(185))
     s.opened()
@@ -583,7 +679,7 @@ def close_refusals(s):
     s.make(0, b"b", no(22))
     s.put(1, INT, b"", expect=no(22))
     s.opened()
-    worked(s, 214, title="close sums the data that stand in the room then")
+    worked(s, 214, title="close sums the data that are in the buffer then")
     s.put(2, INT, INT70)
     s.poke("buffer", 171, 0xBB)
     s.tree[1][3] = b"\xff\xff\xff\xbb"
@@ -602,6 +698,7 @@ def altered(s):
     s.put(2, INT, INT70, expect=yes(4))
     for field, values in (
         ("length", (0, 299, 301, MOST)),
+        ("edition", (0, 1, 4, 5, 256 + s.edition, MOST >> 32)),
         ("strings", (0, 1, 3, 2049, MOST)),
         ("text", (0, 3, 5, 6, 32769, MOST)),
         ("nodes", (3, 2049, MOST)),
@@ -658,7 +755,7 @@ def altered(s):
             s.poke(area, place, byte)
             all_24(s)
         s.poke(area, place, right)
-    s.case("what 24 does not judge: the rest of the areas, the last bytes of a Void slot, the room")
+    s.case("what 24 does not judge: the rest of the areas, the last bytes of a Void slot, the buffer")
     s.poke("text", 100, 1)
     s.poke("tree", 24, 9)
     s.poke("tree", 60, 9)
@@ -667,15 +764,44 @@ def altered(s):
     s.close(expect=yes(168 + 6 + 51))
     s.listed()
     s.opened()
+    other_edition(s)
+
+
+def other_edition(s):
+    """A record of the other written edition passes 24: it is one of that edition from then on."""
+    other = 5 - s.edition
+    worked(s, 300, title="the record altered to edition %d" % other)
+    s.put(2, INT, INT70)
+    s.alter("edition", other)
+    s.make(0, b"9a", yes(3) if other == 3 else no(14, 0))
+    s.make(0, b"b", yes(4) if other == 3 else yes(3))
+    s.close()
+    s.listed()
+    s.opened()
+    s.case("the record altered to edition %d and back" % other, 300)
+    s.begin()
+    s.make(0, b"a", yes(1))
+    s.alter("edition", other)
+    s.make(0, b" ", yes(2) if other == 3 else no(14, 0))
+    s.alter("edition", s.edition)
+    s.make(1, b" ", no(14, 0) if other == 3 else yes(2))
+    s.close()
+    # A file of edition 2 with a name of edition 3: close does not look at names.
+    if other == 3:
+        s.refused(10, 2)
+    else:
+        s.opened()
 
 
 def main():
     top = destination(__doc__)
     s = Script()
-    for part in (whole_files, every_kind, no_bytes, limits, begin_refusals, make_refusals, put_refusals, close_refusals, altered):
-        part(s)
+    for s.edition in WRITTEN:
+        for part in (whole_files, every_kind, no_bytes, limits, begin_refusals, make_refusals, put_refusals, close_refusals, altered):
+            part(s)
+    unwritten_editions(s)
     write(top, "crates/test_write/stdin", b"".join(s.stdin))
-    write(top, "crates/test_write/stdout", "".join(s.out).encode())
+    write(top, "crates/test_write/stdout", "".join(s.out).encode("latin-1"))
     print(s.cases, "cases,", len(s.stdin), "steps")
 
 

@@ -39,7 +39,7 @@ def content(path):
 
 
 def is_void(line):
-    """Whether a line is that of a Void node: path, space, type word, space, count. A path has no space."""
+    """Whether a line is that of a Void node: path, space, type word, space, count. A path has no space as it is printed: a space in a name is \\x20."""
     return line.split(b" ")[1:2] == [b"void"]
 
 

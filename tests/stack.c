@@ -1,7 +1,8 @@
 // The stack that each call of include/aff.h needs: `stack [-s BYTES] IMAGE...` runs every call in a thread with a stack of BYTES (327,680 where none
 // is given) in memory of its own, above a page that cannot be touched. The stack is filled with a pattern before each call; what a call needs is
 // counted from the frame of its caller down to the lowest byte that changed. An image is a chain of nodes: the calls are made for its last node in
-// listing order, the deepest, which has data. The writer makes a chain of 2,048 nodes, each below the last; its file is read too.
+// listing order, the deepest, which has data. The writer makes a chain of 2,048 nodes, each below the last, in both written editions; its files are read
+// too.
 // It prints a line for each call, `NAME BYTES`, the most over all chains; for aff_listing a line for each choice, `NAME, CHOICE BYTES`. The exit status is
 // 1 where that is above 262,144, or where a call is refused.
 #define _GNU_SOURCE
@@ -179,37 +180,44 @@ static void read_chain(const char *what) {
 
 // ---- Writing
 
+static uint32_t edition;
 static uint8_t buffer[BUFFER], text[AFF_TEXT], tree[AFF_TREE], kept[AFF_FORM];
 static uint64_t numbers[AFF_NUMBERS];
 static const uint8_t data[16] = {0x3f, 0xf0, 0, 0, 0, 0, 0, 0, 0xbf, 0xf0};
 
 #define WRITER buffer, BUFFER, numbers, kept, text, AFF_TEXT, tree, AFF_TREE
 
+static uint32_t call_form(void) {
+    return aff_form(edition, form, sizeof form) ? AFF_OK : AFF_ERR_ARGUMENT;
+}
+
 static uint32_t call_begin(void) {
-    return aff_begin(buffer, BUFFER, form, AFF_FORM, text, AFF_TEXT, tree, AFF_TREE, UINT64_MAX, numbers, kept);
+    return aff_begin(edition, buffer, BUFFER, form, AFF_FORM, text, AFF_TEXT, tree, AFF_TREE, UINT64_MAX, numbers, kept);
 }
 
 static uint32_t call_make(void) {
-    return aff_make(WRITER, numbers[4], (const uint8_t *)"x", 1);
+    return aff_make(WRITER, numbers[5], (const uint8_t *)"x", 1);
 }
 
 static uint32_t call_put(void) {
-    return aff_put(WRITER, numbers[4], AFF_COMPLEX, data, sizeof data, UINT64_MAX);
+    return aff_put(WRITER, numbers[5], AFF_COMPLEX, data, sizeof data, UINT64_MAX);
 }
 
 static uint32_t call_close(void) {
     return aff_close(WRITER, UINT64_MAX);
 }
 
-static struct call writing[] = {{"aff_begin", call_begin, 0}, {"aff_make", call_make, 0}, {"aff_put", call_put, 0}, {"aff_close", call_close, 0}};
+static struct call writing[] = {
+    {"aff_form", call_form, 0}, {"aff_begin", call_begin, 0}, {"aff_make", call_make, 0}, {"aff_put", call_put, 0}, {"aff_close", call_close, 0}};
 
 // A put to every node; the calls are measured for the first node, one in the middle and the last.
-static void write_chain(void) {
-    aff_form_for(NULL, 0, form, AFF_FORM);
+static void write_chain(uint32_t of_edition) {
+    edition = of_edition;
     measure(&writing[0]);
+    measure(&writing[1]);
     for (size_t k = 1; k <= NODES; k++) {
         bool measured = k == 1 || k == NODES / 2 || k == NODES;
-        for (int call = 1; call <= 2; call++) {
+        for (int call = 2; call <= 3; call++) {
             if (measured) {
                 measure(&writing[call]);
             } else if (writing[call].make() != AFF_OK) {
@@ -217,7 +225,7 @@ static void write_chain(void) {
             }
         }
     }
-    measure(&writing[3]);
+    measure(&writing[4]);
     image = buffer;
     length = BUFFER;
     read_chain("the writer's file");
@@ -265,7 +273,8 @@ int main(int argc, char **argv) {
         load(argv[k]);
         read_chain(argv[k]);
     }
-    write_chain();
+    write_chain(2);
+    write_chain(3);
     bool within = report(reading, sizeof reading / sizeof *reading);
     within = report(writing, sizeof writing / sizeof *writing) && within;
     free(path);

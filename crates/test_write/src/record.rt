@@ -12,10 +12,11 @@ pub fn sum(bytes: &[u8]) {
     io::print_hex(STDOUT_FILENO, number::be64(&sum, 8), 16);
 }
 
-// The record: length, strings, bytes of text, nodes, bytes of data, whether it is open; and its form.
+// The record: length, edition, strings, bytes of text, nodes, bytes of data, whether it is open; and its form.
 pub fn print(writer: Writer) {
     console::text(b", record");
     show::next(writer.length as u64);
+    show::next(writer.edition as u64);
     show::next(writer.strings as u64);
     show::next(writer.text as u64);
     show::next(writer.nodes as u64);

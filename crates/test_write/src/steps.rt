@@ -1,5 +1,5 @@
 // The steps of a script: a letter, three numbers of 8 bytes, and some bytes.
-// Calls: b begin (allowance; form), m make (parent; name), p put (node, type, allowance; data), c close (allowance).
+// Calls: b begin (allowance, edition; form), m make (parent; name), p put (node, type, allowance; data), c close (allowance).
 // Changes: = the lengths passed (buffer, text area, tree area), a a field of the record (field, value), f the buffer filled (byte), R S T one byte of
 // buffer, text area, tree area (place, byte).
 // Prints: # some text, s sums of what is passed, x the buffer, l the buffer as `listall` prints it, o the buffer opened and read.
@@ -70,20 +70,30 @@ fn chosen(field: u64, own: u64, value: u64, old: usize) -> usize {
     old
 }
 
-// The record with one field altered: length 0, strings 1, text 2, nodes 3, data 4, open 5.
+// The edition of a number; 0, which is no edition, where it has more than 32 bits.
+fn edition_of(value: u64) -> u32 {
+    if value < 4294967296 { value as u32 } else { 0 }
+}
+
+// The record with one field altered: length 0, edition 1, strings 2, text 3, nodes 4, data 5, open 6.
 fn altered(writer: Writer, field: u64, value: u64) -> Writer {
     let form = writer.form;
+    let mut edition = writer.edition;
+    if field == 1 {
+        edition = edition_of(value);
+    }
     let mut live = writer.live;
-    if field == 5 {
+    if field == 6 {
         live = value == 1;
     }
     Writer {
         length: chosen(field, 0, value, writer.length),
+        edition,
         form,
-        strings: chosen(field, 1, value, writer.strings),
-        text: chosen(field, 2, value, writer.text),
-        nodes: chosen(field, 3, value, writer.nodes),
-        data: chosen(field, 4, value, writer.data),
+        strings: chosen(field, 2, value, writer.strings),
+        text: chosen(field, 3, value, writer.text),
+        nodes: chosen(field, 4, value, writer.nodes),
+        data: chosen(field, 5, value, writer.data),
         live,
     }
 }
@@ -125,7 +135,7 @@ fn call(
     let third = step.third as usize;
     let letter = step.letter;
     match letter {
-        b'b' => aff_write::begin(buffer, bytes, text, tree, first),
+        b'b' => aff_write::begin(edition_of(step.second), buffer, bytes, text, tree, first),
         b'm' => aff_make::make(buffer, writer, text, tree, first, bytes),
         b'p' => aff_write::put(buffer, writer, text, tree, first, step.second, bytes, third),
         _ => aff_write::close(buffer, writer, text, tree, first),
