@@ -6,6 +6,8 @@ use Prim.Native.Nat.{ℕ, _≤_, _<_}
 use lib.Dec.{leb}
 use lib.ListN.{length, drop}
 use borrow.Author.Tests.{le-leb, lt-leb}
+use Rattle.aff_format.specs.Edition.{numberForm, editionOf, isKnown, editionBy}
+use Rattle.aff_format.specs.declared.edition.Edition.{Edition}
 use Rattle.aff_format.specs.declared.refusal.Refusal.{Refusal}
 use Rattle.aff_format.specs.declared.refusal.RefusalCode.{RefusalCode}
 use Rattle.aff_format.specs.Answer.{refusal}
@@ -15,7 +17,7 @@ use Rattle.aff_format.specs.declared.verdict.Verdict.the-variants.{Accepted, Re
 use Rattle.aff_open.specs.Opening.{openAnswer, answerOfOpening, verdictOf, readerAfter, stringsAfter, entriesAfter}
 use Rattle.aff_open.specs.Sections.{formFor}
 use Rattle.aff_open.specs.declared.opening.Opening.{Opening}
-use Rattle.aff_c.specs.Opening.{codeOfAnswer, numbersOf, numbersIn, numberReturned, recordLeft, stringsLeft, entriesLeft, withForm}
+use Rattle.aff_c.specs.Opening.{codeOfAnswer, numbersOf, numbersIn, numberReturned, recordLeft, stringsLeft, entriesLeft, withForm, hasFormOf, withFormOf}
 
 pub accepted-reported : (o : Opening) → o .verdict ≡ Accepted → refusal 0 ≡ codeOfAnswer (answerOfOpening o)
 accepted-reported o e = sym (ap (λ (v : Verdict). codeOfAnswer (verdictOf v (o .reader))) e)
@@ -54,3 +56,17 @@ pub form-written : (image o f p : List ℕ) → 12 ≤ length o → f ≡ formFo
     → (true ≡ leb 12 (length o)) × (p ≡ withForm image o)
 unfolding withForm
 form-written image o f p h e put = let l = le-leb 12 (length o) h in (rw l, rw (l, put, e))
+
+-- The same of the form of an edition by its number.
+pub form-of-short : (edition : ℕ) (o : List ℕ) → length o < 12 → (false ≡ hasFormOf edition o) × (o ≡ withFormOf edition o)
+unfolding withFormOf
+form-of-short edition o h = let e = lt-leb 12 (length o) h in (rw e, rw e)
+
+pub form-of-none : (edition : ℕ) (o : List ℕ) → 12 ≤ length o → isKnown (editionOf edition) ≡ false → (false ≡ hasFormOf edition o) × (o ≡ withFormOf edition o)
+unfolding withFormOf
+form-of-none edition o h k = let l = le-leb 12 (length o) h in (rw (l, k), rw (l, k))
+
+pub form-of-written : (edition : ℕ) (o f p : List ℕ) (e : Edition) → 12 ≤ length o → isKnown (editionOf edition) ≡ true → e ≡ editionBy edition → f ≡ numberForm e
+    → p ≡ f ++ drop 12 o → (true ≡ hasFormOf edition o) × (p ≡ withFormOf edition o)
+unfolding withFormOf
+form-of-written edition o f p e h k is form put = let l = le-leb 12 (length o) h in (rw (l, k), rw (l, k, put, form, is))

@@ -28,7 +28,7 @@ use Rattle.aff.proofs.Demand1Laws.{demand1}
 use Rattle.aff.proofs.Demand2Laws.{demand2}
 use Rattle.aff_format.specs.Subkey.{IsSubkey}
 use Rattle.aff_areas.specs.Belongs.{WriterBelongs}
-use Rattle.aff_areas.specs.Writer.{written, stopped}
+use Rattle.aff_areas.specs.Writer.{writerEdition, stopped}
 use Rattle.aff_areas.specs.declared.writer.Writer.{Writer}
 use Rattle.aff_make.specs.Make.{madeWriter}
 use Rattle.aff_c.specs.Writing.{given, makeReturned, numbersLeft, numbersMade}
@@ -54,7 +54,7 @@ make-place : (buffer numbers kept text tree : List ℕ) (parent : ℕ) (name : L
     → WriterBelongs (length buffer) (given buffer numbers kept text tree) text tree → given buffer numbers kept text tree .live ≡ true
     → parent ≤ given buffer numbers kept text tree .nodes → (p : ℕ)
     → ((numberBy (makeReturned buffer numbers kept text tree parent name) ≡ 14) × (getD (numbersMade buffer numbers kept text tree parent name) 0 0 ≡ p))
-    ↔ Breaks (IsSubkey written) name p
+    ↔ Breaks (IsSubkey (writerEdition (given buffer numbers kept text tree))) name p
 unfolding numbersMade
 make-place buffer numbers kept text tree parent name long b live there p =
     let w = given buffer numbers kept text tree in

@@ -70,6 +70,6 @@ withdrawn-in-c =
       opening = opening-number;
       reading = reading-numbers;
       decode = decode-number;
-      begin = λ buffer form text tree allowance. other-number _ (withdrawn .begin buffer form text tree allowance);
+      begin = λ edition buffer form text tree allowance. other-number _ (withdrawn .begin edition buffer form text tree allowance);
       writing = writing-numbers;
     }

@@ -39,18 +39,18 @@ module _ (numbers : List ℕ) (t : RefusalCode) (w : Writer) (n p : ℕ) (number
   pub not-spent : (n ≡ 23 → ⊥) → (n ≡ t .number) × (set numbers 0 p ≡ numbersRefused numbers t w)
   not-spent h = let z : eqb (t .number) 23 ≡ false = rw (← number) (ne-eqb n 23 h) in (number, rw (place, z))
 
-module _ (buffer form text tree : List ℕ) (allowance : ℕ) (done : Writing) (r : ℕ) (l : List ℕ)
+module _ (edition : ℕ) (buffer form text tree : List ℕ) (allowance : ℕ) (done : Writing) (r : ℕ) (l : List ℕ)
     (number : r ≡ numberBy (answerOfNumber (done .answer))) (numbers : l ≡ numbersBy (reportedNumber (answerOfNumber (done .answer))) (done .writer)) where
   pub begin-left : (o x y : List ℕ)
-      → (answerOfNumber (done .answer) ≡ beginAnswer buffer form text tree allowance)
-      × ((done .writer ≡ beginWriter (answerOfNumber (done .answer)) (length buffer) form)
+      → (answerOfNumber (done .answer) ≡ beginAnswer edition buffer form text tree allowance)
+      × ((done .writer ≡ beginWriter (answerOfNumber (done .answer)) edition (length buffer) form)
       × ((o ≡ bufferAfter (answerOfNumber (done .answer)) beginStores buffer)
       × ((x ≡ beginArea (answerOfNumber (done .answer)) text) × (y ≡ beginArea (answerOfNumber (done .answer)) tree))))
-      → (r ≡ numberBy (beginReturned buffer form text tree allowance))
-      × ((l ≡ numbersBy (reportedNumber (beginReturned buffer form text tree allowance)) (beginRecord buffer form text tree allowance))
-      × ((done .writer .form ≡ beginRecord buffer form text tree allowance .form)
-      × ((o ≡ bufferAfter (beginReturned buffer form text tree allowance) beginStores buffer)
-      × ((x ≡ beginArea (beginReturned buffer form text tree allowance) text) × (y ≡ beginArea (beginReturned buffer form text tree allowance) tree)))))
+      → (r ≡ numberBy (beginReturned edition buffer form text tree allowance))
+      × ((l ≡ numbersBy (reportedNumber (beginReturned edition buffer form text tree allowance)) (beginRecord edition buffer form text tree allowance))
+      × ((done .writer .form ≡ beginRecord edition buffer form text tree allowance .form)
+      × ((o ≡ bufferAfter (beginReturned edition buffer form text tree allowance) beginStores buffer)
+      × ((x ≡ beginArea (beginReturned edition buffer form text tree allowance) text) × (y ≡ beginArea (beginReturned edition buffer form text tree allowance) tree)))))
   begin-left o x y h = (
     rw (number, h .0),
     (

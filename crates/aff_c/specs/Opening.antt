@@ -1,10 +1,11 @@
 -- What the exported functions hand back and leave in the caller's slices, as numbers and bytes. Assumes nothing.
-use mathlib.Core.Bool.{cond}
+use mathlib.Core.Bool.{Bool, cond, _&&_}
 use mathlib.Core.List.{List, [], _∷_, _++_}
 use Prim.Native.Nat.{ℕ}
 use lib.Dec.{leb}
 use lib.ListN.{length, drop}
 use Rattle.aff_format.specs.Answer.{Answer, accepted, refused, refusal}
+use Rattle.aff_format.specs.Edition.{numberForm, editionOf, isKnown, editionBy}
 use Rattle.aff_format.specs.declared.refusal.RefusalCode.{RefusalCode}
 use Rattle.aff_open.specs.Opening.{openAnswer, readerAfter, stringsAfter, entriesAfter}
 use Rattle.aff_open.specs.Sections.{formFor}
@@ -54,3 +55,10 @@ module _ (image form strings entries output : List ℕ) where
 -- The output o with the form of an image in its first 12 bytes, where it has so many; where it has fewer, as it was.
 unfoldable pub withForm : List ℕ → List ℕ → List ℕ
 withForm image o = cond (leb 12 (length o)) (formFor image ++ drop 12 o) o
+
+-- The same with the form of an edition by its number, where there is one.
+abbrev pub hasFormOf : ℕ → List ℕ → Bool
+hasFormOf edition o = leb 12 (length o) && isKnown (editionOf edition)
+
+unfoldable pub withFormOf : ℕ → List ℕ → List ℕ
+withFormOf edition o = cond (hasFormOf edition o) (numberForm (editionBy edition) ++ drop 12 o) o

@@ -17,7 +17,7 @@ use Rattle.aff_reader.specs.Belongs.{ReaderBelongs}
 use Rattle.aff_reader.specs.declared.reader.Reader.{Reader}
 use Rattle.aff_read.specs.Paths.{lookupAnswer}
 use Rattle.aff_areas.specs.Belongs.{WriterBelongs}
-use Rattle.aff_areas.specs.Writer.{written}
+use Rattle.aff_areas.specs.Writer.{writerEdition}
 use Rattle.aff_c.specs.Writing.{given, makeReturned, numbersMade}
 use Rattle.aff_c.specs.Opening.{numberReturned, recordLeft}
 use Rattle.aff_c.specs.Reading.{numberBy, placeBy}
@@ -35,7 +35,7 @@ pub record PlacesInC : Type 0 where
       → WriterBelongs (length buffer) (given buffer numbers kept text tree) text tree → given buffer numbers kept text tree .live ≡ true
       → parent ≤ given buffer numbers kept text tree .nodes → (p : ℕ)
       → ((numberBy (makeReturned buffer numbers kept text tree parent name) ≡ 14) × (getD (numbersMade buffer numbers kept text tree parent name) 0 0 ≡ p))
-      ↔ Breaks (IsSubkey written) name p
+      ↔ Breaks (IsSubkey (writerEdition (given buffer numbers kept text tree))) name p
   -- Where `aff_open_image` returns 10, into a record of 13 numbers or more, record[0] is the lowest bad node and record[12] the second number that `FirstBadLink`
   -- says. Where it returns any other number, 0 included, record[12] is 0.
   pub opening : (image form strings entries output : List ℕ) → 13 ≤ length output → numberReturned image form strings entries output ≡ 10

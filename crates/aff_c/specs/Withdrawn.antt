@@ -19,5 +19,5 @@ pub record WithdrawnInC : Type 0 where
   pub opening : (image form strings entries output : List ℕ) → numberReturned image form strings entries output ≡ 8 → ⊥
   pub reading : (image : List ℕ) (r : Reader) (strings entries : List ℕ) → EachReading OtherReturned image r strings entries
   pub decode : (code : ℕ) (bytes : List ℕ) (index : ℕ) → OtherReturned _ (decodedAnswer code bytes index)
-  pub begin : (buffer form text tree : List ℕ) (allowance : ℕ) → OtherReturned _ (beginReturned buffer form text tree allowance)
+  pub begin : (edition : ℕ) (buffer form text tree : List ℕ) (allowance : ℕ) → OtherReturned _ (beginReturned edition buffer form text tree allowance)
   pub writing : (buffer : List ℕ) (w : Writer) (text tree : List ℕ) → EachWriting OtherReturned buffer w text tree

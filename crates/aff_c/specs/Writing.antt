@@ -9,27 +9,29 @@ use Rattle.aff_format.specs.declared.refusal.RefusalCode.{RefusalCode}
 use Rattle.aff_areas.specs.Stores.{bufferAfter}
 use Rattle.aff_areas.specs.Writer.{stopped, areaAfter}
 use Rattle.aff_areas.specs.declared.writer.Writer.{Writer}
+use Rattle.aff_c.specs.Reading.{editionNumberIn}
 use Rattle.aff_write.specs.Begin.{beginAnswer, beginWriter}
 use Rattle.aff_write.specs.Close.{closeStores, closeAnswer}
 use Rattle.aff_make.specs.Make.{madeWriter, madeText, madeTree, makeAnswer}
 use Rattle.aff_write.specs.Put.{putStores, putWriter, putTree, putAnswer}
 
--- The record of 7 numbers and 12 bytes of form; the first number, what the last call reported, is no part of it.
+-- The record of 8 numbers and 12 bytes of form; the first number, what the last call reported, is no part of it. An edition above 32 bits is none.
 unfoldable pub writerIn : List ℕ → List ℕ → Writer
 writerIn l form =
     record {
       length = getD l 1 0;
+      edition = editionNumberIn (getD l 2 0);
       form = form;
-      strings = getD l 2 0;
-      text = getD l 3 0;
-      nodes = getD l 4 0;
-      «data» = getD l 5 0;
-      live = eqb (getD l 6 0) 1;
+      strings = getD l 3 0;
+      text = getD l 4 0;
+      nodes = getD l 5 0;
+      «data» = getD l 6 0;
+      live = eqb (getD l 7 0) 1;
     }
 
--- What a call reported and a record as 7 numbers.
+-- What a call reported and a record as 8 numbers.
 unfoldable pub numbersBy : ℕ → Writer → List ℕ
-numbersBy reported w = reported ∷ w .length ∷ w .strings ∷ w .text ∷ w .nodes ∷ w .«data» ∷ cond (w .live) 1 0 ∷ []
+numbersBy reported w = reported ∷ w .length ∷ w .edition ∷ w .strings ∷ w .text ∷ w .nodes ∷ w .«data» ∷ cond (w .live) 1 0 ∷ []
 
 -- What an answer reports: its value, or the refusal's place.
 abbrev pub reportedNumber : Answer ℕ → ℕ
@@ -46,12 +48,12 @@ module _ (numbers : List ℕ) where
   numbersLeft (accepted n) next halted = numbersBy n next
   numbersLeft (refused t) next halted = numbersRefused t halted
 
-module _ (buffer form text tree : List ℕ) (allowance : ℕ) where
+module _ (edition : ℕ) (buffer form text tree : List ℕ) (allowance : ℕ) where
   abbrev pub beginReturned : Answer ℕ
-  beginReturned = beginAnswer buffer form text tree allowance
+  beginReturned = beginAnswer edition buffer form text tree allowance
 
   abbrev pub beginRecord : Writer
-  beginRecord = beginWriter beginReturned (length buffer) form
+  beginRecord = beginWriter beginReturned edition (length buffer) form
 
 module _ (buffer numbers kept text tree : List ℕ) where
   abbrev pub given : Writer

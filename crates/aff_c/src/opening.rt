@@ -1,4 +1,5 @@
 // Opening for programs in C and Rust: `aff_form_for` and `aff_open_image` of include/aff.h.
+use aff_format::Edition;
 use aff_format::RefusalCode;
 use aff_format::Verdict;
 use aff_open::Opening;
@@ -9,7 +10,7 @@ ghost use Prim.Native.Nat.{_≤_};
 ghost use lib.Dec.{leb};
 ghost use lib.ListN.{length, drop};
 ghost use Rattle.aff_open.specs.Opening.{answerOfOpening};
-ghost use Rattle.aff_c.specs.Opening.{codeOfAnswer, numbersOf, numberReturned, recordLeft, stringsLeft, entriesLeft, withForm};
+ghost use Rattle.aff_c.specs.Opening.{codeOfAnswer, numbersOf, numberReturned, recordLeft, stringsLeft, entriesLeft, withForm, hasFormOf, withFormOf};
 
 // What an opening reports: zeros for acceptance.
 fn code_of(opening: Opening) -> RefusalCode
@@ -111,5 +112,23 @@ pub extern "C" fn aff_form_for(image: &[u8], output: &mut [u8]) -> bool
         return false;
     }
     put_bytes(output, aff_open::form_for(image));
+    true
+}
+
+// Writes the 12 bytes of an edition, as our programs expect them after the signature text, into the first 12 bytes of the output, and returns true.
+// Where there is no such edition, or the output has fewer bytes, it writes nothing and returns false.
+#[no_mangle]
+pub extern "C" fn aff_form(edition: u32, output: &mut [u8]) -> bool
+    ensures written { λ r. ⌜ r ≡ hasFormOf edition (now (output .entry)) ⌝ }
+    ensures output { λ _. ⌜ now (output .exit) ≡ withFormOf edition (now (output .entry)) ⌝ }
+{
+    if output.len() < 12 {
+        return false;
+    }
+    if !Edition::exists(edition) {
+        return false;
+    }
+    let found = Edition::by_number(edition);
+    put_bytes(output, found.number_form());
     true
 }

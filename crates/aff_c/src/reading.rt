@@ -25,7 +25,8 @@ ghost use Rattle.aff_nodes.specs.Recall.{pathAt};
 ghost use Rattle.aff_c.specs.Reading.{editionNumberIn, readerIn, numberBy, placeBy, choiceBy, leftBy, realPart, imaginaryPart, decodedAnswer};
 ghost use Rattle.aff_listing.specs.ListingOrder.{listingOrder, listingAnswer};
 
-fn edition_of(number: u64) -> u32
+// The number of an edition in a record; 0, which is no edition, where it has more than 32 bits.
+pub fn edition_of(number: u64) -> u32
     ensures { λ r. ⌜ r ≡ editionNumberIn number ⌝ }
 {
     if 4294967295 < number {

@@ -1,7 +1,8 @@
-// Writing for programs in C and Rust: begin, make a child, put data, close, as include/aff.h declares them. The record is 7 numbers and the 12 bytes of
-// form. The numbers are what the last call returned (the bytes stored, the new node, or a refusal's place), the buffer's length, strings, bytes of
+// Writing for programs in C and Rust: begin, make a child, put data, close, as include/aff.h declares them. The record is 8 numbers and the 12 bytes of
+// form. The numbers are what the last call returned (the bytes stored, the new node, or a refusal's place), the buffer's length, the edition, strings, bytes of
 // text, nodes, bytes of data, and 1 while the file is neither closed nor stopped. Each function returns 0 where the call is accepted, else the
 // refusal's number.
+use crate::reading;
 use aff_format::NumberAnswer;
 use aff_format::Refusal;
 use aff_write::Writer;
@@ -15,18 +16,19 @@ ghost use Rattle.aff_write.specs.Begin.{beginStores, beginArea};
 ghost use Rattle.aff_c.specs.Reading.{numberBy};
 ghost use Rattle.aff_c.specs.Writing.{writerIn, numbersBy, reportedNumber, numbersRefused, numbersLeft, beginReturned, beginRecord, makeReturned, numbersMade, textMade, treeMade, putReturned, numbersPut, bufferPut, treePut, closeReturned, numbersClosed, bufferClosed};
 
-fn writer_of(numbers: &[u64; 7], kept: &[u8; 12]) -> Writer
+fn writer_of(numbers: &[u64; 8], kept: &[u8; 12]) -> Writer
     ensures { λ r. ⌜ r ≡ writerIn (now (numbers .entry)) (now (kept .entry)) ⌝ }
 {
     let form = *kept;
     Writer {
         length: numbers[1] as usize,
+        edition: reading::edition_of(numbers[2]),
         form,
-        strings: numbers[2] as usize,
-        text: numbers[3] as usize,
-        nodes: numbers[4] as usize,
-        data: numbers[5] as usize,
-        live: numbers[6] == 1,
+        strings: numbers[3] as usize,
+        text: numbers[4] as usize,
+        nodes: numbers[5] as usize,
+        data: numbers[6] as usize,
+        live: numbers[7] == 1,
     }
 }
 
@@ -36,12 +38,13 @@ fn flag(live: bool) -> u64
     if live { 1 } else { 0 }
 }
 
-fn numbers_by(reported: usize, writer: Writer) -> [u64; 7]
+fn numbers_by(reported: usize, writer: Writer) -> [u64; 8]
     ensures { λ r. ⌜ r ≡ numbersBy reported writer ⌝ }
 {
     [
         reported as u64,
         writer.length as u64,
+        writer.edition as u64,
         writer.strings as u64,
         writer.text as u64,
         writer.nodes as u64,
@@ -68,8 +71,8 @@ fn reported_number(answer: NumberAnswer) -> usize
     }
 }
 
-// Stores what begin returned and its record: all zero after 1 and 21, stopped after 23.
-fn leave(done: Writing, numbers: &mut [u64; 7]) -> u32
+// Stores what begin returned and its record: all zero after 1, 3 and 21, stopped after 23.
+fn leave(done: Writing, numbers: &mut [u64; 8]) -> u32
     ensures number { λ r. ⌜ r ≡ numberBy (answerOfNumber (done .answer)) ⌝ }
     ensures numbers { λ _. ⌜ now (numbers .exit) ≡ numbersBy (reportedNumber (answerOfNumber (done .answer))) (done .writer) ⌝ }
 {
@@ -80,7 +83,7 @@ fn leave(done: Writing, numbers: &mut [u64; 7]) -> u32
 }
 
 // Stores what a refusal leaves: after 23 the record, which is stopped; after any other refusal only its place, in numbers[0].
-fn leave_refused(refusal: Refusal, writer: Writer, numbers: &mut [u64; 7]) -> u32
+fn leave_refused(refusal: Refusal, writer: Writer, numbers: &mut [u64; 8]) -> u32
     ensures number { λ r. ⌜ r ≡ codeOfRefusal refusal .number ⌝ }
     ensures numbers { λ _. ⌜ now (numbers .exit) ≡ numbersRefused (now (numbers .entry)) (codeOfRefusal refusal) writer ⌝ }
 {
@@ -95,7 +98,7 @@ fn leave_refused(refusal: Refusal, writer: Writer, numbers: &mut [u64; 7]) -> u3
 }
 
 // Stores what a make, put or close leaves: what it returned and its record where it is accepted, else what the refusal leaves.
-fn leave_next(done: Writing, numbers: &mut [u64; 7]) -> u32
+fn leave_next(done: Writing, numbers: &mut [u64; 8]) -> u32
     ensures number { λ r. ⌜ r ≡ numberBy (answerOfNumber (done .answer)) ⌝ }
     ensures numbers { λ _. ⌜ now (numbers .exit) ≡ numbersLeft (now (numbers .entry)) (answerOfNumber (done .answer)) (done .writer) (done .writer) ⌝ }
 {
@@ -113,22 +116,23 @@ fn leave_next(done: Writing, numbers: &mut [u64; 7]) -> u32
 // Begins a file in a buffer, as `aff_write::begin` does, and leaves the record's numbers and form.
 #[no_mangle]
 pub extern "C" fn aff_begin(
+    edition: u32,
     buffer: &mut [u8],
     form: &[u8],
     text: &mut [u8],
     tree: &mut [u8],
     allowance: u64,
-    numbers: &mut [u64; 7],
+    numbers: &mut [u64; 8],
     kept: &mut [u8; 12],
 ) -> u32
-    ensures number { λ r. ⌜ r ≡ numberBy (beginReturned (now (buffer .entry)) (now (form .entry)) (now (text .entry)) (now (tree .entry)) allowance) ⌝ }
-    ensures numbers { λ _. ⌜ now (numbers .exit) ≡ numbersBy (reportedNumber (beginReturned (now (buffer .entry)) (now (form .entry)) (now (text .entry)) (now (tree .entry)) allowance)) (beginRecord (now (buffer .entry)) (now (form .entry)) (now (text .entry)) (now (tree .entry)) allowance) ⌝ }
-    ensures kept { λ _. ⌜ now (kept .exit) ≡ beginRecord (now (buffer .entry)) (now (form .entry)) (now (text .entry)) (now (tree .entry)) allowance .form ⌝ }
-    ensures buffer { λ _. ⌜ now (buffer .exit) ≡ bufferAfter (beginReturned (now (buffer .entry)) (now (form .entry)) (now (text .entry)) (now (tree .entry)) allowance) beginStores (now (buffer .entry)) ⌝ }
-    ensures text { λ _. ⌜ now (text .exit) ≡ beginArea (beginReturned (now (buffer .entry)) (now (form .entry)) (now (text .entry)) (now (tree .entry)) allowance) (now (text .entry)) ⌝ }
-    ensures tree { λ _. ⌜ now (tree .exit) ≡ beginArea (beginReturned (now (buffer .entry)) (now (form .entry)) (now (text .entry)) (now (tree .entry)) allowance) (now (tree .entry)) ⌝ }
+    ensures number { λ r. ⌜ r ≡ numberBy (beginReturned edition (now (buffer .entry)) (now (form .entry)) (now (text .entry)) (now (tree .entry)) allowance) ⌝ }
+    ensures numbers { λ _. ⌜ now (numbers .exit) ≡ numbersBy (reportedNumber (beginReturned edition (now (buffer .entry)) (now (form .entry)) (now (text .entry)) (now (tree .entry)) allowance)) (beginRecord edition (now (buffer .entry)) (now (form .entry)) (now (text .entry)) (now (tree .entry)) allowance) ⌝ }
+    ensures kept { λ _. ⌜ now (kept .exit) ≡ beginRecord edition (now (buffer .entry)) (now (form .entry)) (now (text .entry)) (now (tree .entry)) allowance .form ⌝ }
+    ensures buffer { λ _. ⌜ now (buffer .exit) ≡ bufferAfter (beginReturned edition (now (buffer .entry)) (now (form .entry)) (now (text .entry)) (now (tree .entry)) allowance) beginStores (now (buffer .entry)) ⌝ }
+    ensures text { λ _. ⌜ now (text .exit) ≡ beginArea (beginReturned edition (now (buffer .entry)) (now (form .entry)) (now (text .entry)) (now (tree .entry)) allowance) (now (text .entry)) ⌝ }
+    ensures tree { λ _. ⌜ now (tree .exit) ≡ beginArea (beginReturned edition (now (buffer .entry)) (now (form .entry)) (now (text .entry)) (now (tree .entry)) allowance) (now (tree .entry)) ⌝ }
 {
-    let done = aff_write::begin(buffer, form, text, tree, allowance as usize);
+    let done = aff_write::begin(edition, buffer, form, text, tree, allowance as usize);
     let writer = done.writer;
     let bytes = writer.form;
     *kept = bytes;
@@ -139,7 +143,7 @@ pub extern "C" fn aff_begin(
 #[no_mangle]
 pub extern "C" fn aff_make(
     buffer: &[u8],
-    numbers: &mut [u64; 7],
+    numbers: &mut [u64; 8],
     kept: &[u8; 12],
     text: &mut [u8],
     tree: &mut [u8],
@@ -160,7 +164,7 @@ pub extern "C" fn aff_make(
 #[no_mangle]
 pub extern "C" fn aff_put(
     buffer: &mut [u8],
-    numbers: &mut [u64; 7],
+    numbers: &mut [u64; 8],
     kept: &[u8; 12],
     text: &[u8],
     tree: &mut [u8],
@@ -192,7 +196,7 @@ pub extern "C" fn aff_put(
 #[no_mangle]
 pub extern "C" fn aff_close(
     buffer: &mut [u8],
-    numbers: &mut [u64; 7],
+    numbers: &mut [u64; 8],
     kept: &[u8; 12],
     text: &[u8],
     tree: &[u8],

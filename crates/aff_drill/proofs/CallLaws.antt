@@ -7,6 +7,8 @@ use native.Mathlib.Omega.{arith}
 use lib.ListN.{length}
 use lib.Seq.{take-nil}
 use borrow.Author.Tests.{eq-eqb, ne-eqb}
+use Rattle.aff_format.specs.Edition.{editionNumber}
+use Rattle.aff_format.specs.declared.edition.Edition.the-variants.{Two}
 use Rattle.aff_format.specs.Answer.{Answer, accepted, refused}
 use Rattle.aff_format.specs.declared.refusal.RefusalCode.{RefusalCode}
 use Rattle.aff_areas.specs.Stores.{applyStores, storesReported, bufferAfter}
@@ -121,7 +123,7 @@ filled-cut w x t i allowance w₁ x₁ t₁ after hw hx ht h most le =
     ∙ ap (λ (q : State). q .buffer) (sym (after-make s 0 nameA allowance (make 1 nameN ∷ lastCalls most) ∙ after-make t 1 nameN allowance (lastCalls most)))
 
 module _ (buffer form text tree : List ℕ) (k : ℕ) (a : Answer ℕ) (w : Writer) (x t i : List ℕ) (rest : ℕ) (after : List ℕ)
-    (ha : a ≡ beginAnswer buffer form text tree k) (hw : w ≡ beginWriter a (length buffer) form) (hi : i ≡ bufferAfter a beginStores buffer)
+    (ha : a ≡ beginAnswer (editionNumber Two) buffer form text tree k) (hw : w ≡ beginWriter a (editionNumber Two) (length buffer) form) (hi : i ≡ bufferAfter a beginStores buffer)
     (hx : x ≡ beginArea a text) (ht : t ≡ beginArea a tree) (hr : rest ≡ k - storesReported a) where
   abbrev began : Run
   began = drillRun buffer form text tree k

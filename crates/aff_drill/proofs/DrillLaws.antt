@@ -9,8 +9,9 @@ use lib.Dec.{ltb}
 use lib.ListN.{length, getD, replicate, length-replicate}
 use lib.Seq.{take-all}
 use borrow.Author.Tests.{ltb-true, ltb-false}
+use Rattle.aff_format.specs.declared.edition.Edition.the-variants.{Two}
 use Rattle.aff_format.specs.Answer.{accepted, refused, refusal, Check, firstWrong}
-use Rattle.aff_format.specs.Edition.{numberForm}
+use Rattle.aff_format.proofs.EditionLaws.{length-numberForm}
 use Rattle.aff_format.specs.Limits.{stringLimit, nodeLimit, textArea, treeArea}
 use Rattle.aff_format.specs.Verdict.{answerOfVerdict}
 use Rattle.aff_format.specs.declared.verdict.Verdict.{Verdict}
@@ -39,35 +40,33 @@ module _ (buffer text tree : List ℕ) (r : length buffer ≡ 214) (z : getD buf
   most = k + 215
 
   abbrev run : Run
-  run = drillRun buffer workedForm text tree most
+  run = drillRun buffer (workedForm Two) text tree most
 
-  whole : WorkedRun run
-  whole = worked buffer text tree most most most r x t (omega arith) (omega arith) (omega arith)
+  whole : WorkedRun Two run
+  whole = worked Two refl buffer text tree most most most r x t (omega arith) (omega arith) (omega arith)
 
-  none-made : openAnswer buffer workedForm stringLimit nodeLimit ≡ refused (refusal 3)
-  unfolding numberForm
-  none-made = zero-refused buffer workedForm refl (omega arith) (omega arith) z
+  none-made : openAnswer buffer (workedForm Two) stringLimit nodeLimit ≡ refused (refusal 3)
+  none-made = zero-refused buffer (workedForm Two) (length-numberForm Two) (omega arith) (omega arith) z
 
-  some-made : (j : ℕ) → j ≡ k → k < 215 → openAnswer (bufferAt run k) workedForm stringLimit nodeLimit ≡ refused (refusal 3)
-  unfolding numberForm
+  some-made : (j : ℕ) → j ≡ k → k < 215 → openAnswer (bufferAt run k) (workedForm Two) stringLimit nodeLimit ≡ refused (refusal 3)
   some-made zero e l =
-      ap (λ (i : List ℕ). openAnswer i workedForm stringLimit nodeLimit) (demand3 run k (omega arith) .none-made (sym e)) ∙ none-made
+      ap (λ (i : List ℕ). openAnswer i (workedForm Two) stringLimit nodeLimit) (demand3 run k (omega arith) .none-made (sym e)) ∙ none-made
   some-made (suc j) e l =
       let n = whole .stores in
-      demand3 run k (omega arith) .otherwise (omega arith) (λ q. let m = q .0 in omega arith) workedForm refl
+      demand3 run k (omega arith) .otherwise (omega arith) (λ q. let m = q .0 in omega arith) (workedForm Two) (length-numberForm Two)
 
-  all-made : 215 ≤ k → (reader : Reader) × (openAnswer (bufferAt run k) workedForm stringLimit nodeLimit ≡ accepted reader)
+  all-made : 215 ≤ k → (reader : Reader) × (openAnswer (bufferAt run k) (workedForm Two) stringLimit nodeLimit ≡ accepted reader)
   all-made l =
       let n = whole .stores in
-      let e : bufferAt run k ≡ workedFile = ap (applyStores buffer) (take-all k (runStores run) (omega arith)) ∙ whole .file in
-      (whole .shows .reader, ap (λ (i : List ℕ). openAnswer i workedForm stringLimit nodeLimit) e ∙ whole .shows .opens)
+      let e : bufferAt run k ≡ workedFile Two = ap (applyStores buffer) (take-all k (runStores run) (omega arith)) ∙ whole .file in
+      (whole .shows .reader, ap (λ (i : List ℕ). openAnswer i (workedForm Two) stringLimit nodeLimit) e ∙ whole .shows .opens)
 
-  module _ (after : List ℕ) (h : CutRun buffer workedForm text tree k after) where
+  module _ (after : List ℕ) (h : CutRun buffer (workedForm Two) text tree k after) where
     after-is : after ≡ bufferAt run k
     after-is = h most (omega arith) ∙ demand3-cut run k .buffer-left
 
     abbrev checks : List Check
-    checks = openChecks (bufferAt run k) workedForm stringLimit nodeLimit
+    checks = openChecks (bufferAt run k) (workedForm Two) stringLimit nodeLimit
 
     by-count : (b : Bool) → ltb k 215 ≡ b → reopened (bufferAt run k) ≡ cond b (refused (refusal 3)) (accepted tt)
     by-count true e = same-refusal checks _ tt (some-made k refl (ltb-true k 215 e))
@@ -77,7 +76,7 @@ module _ (buffer text tree : List ℕ) (r : length buffer ≡ 214) (z : getD buf
     reopened-is = ap reopened after-is ∙ by-count (ltb k 215) refl
 
 -- What the drill leaves and answers, in any buffer of 214 bytes.
-module _ (buffer after form : List ℕ) (n : length buffer ≡ 214) (k : ℕ) (o : Opening) (f : form ≡ workedForm)
+module _ (buffer after form : List ℕ) (n : length buffer ≡ 214) (k : ℕ) (o : Opening) (f : form ≡ (workedForm Two))
     (h : CutRun buffer form (replicate textArea 0) (replicate treeArea 0) k after) (reported : answerOfOpening o ≡ openAnswer after form stringLimit nodeLimit) where
   cut : CutDrill buffer k after
   cut = subst (λ (l : List ℕ). CutRun buffer l (replicate textArea 0) (replicate treeArea 0) k after) f h

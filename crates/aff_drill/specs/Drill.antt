@@ -1,4 +1,4 @@
--- The cut drill: document 01, 'The lister'. The worked file is made in a buffer of 214 bytes with one total allowance, handed down: begin gets all
+-- The cut drill: document 01, 'The lister'. The worked file of edition 2 is made in a buffer of 214 bytes with one total allowance, handed down: begin gets all
 -- of it, put what is left after begin, close what is left then. The buffer is opened with the writer's form.
 use mathlib.Core.Path.{_≡_}
 use mathlib.Core.Bool.{cond}
@@ -7,6 +7,8 @@ use Prim.Native.Nat.{ℕ, _≤_}
 use lib.Dec.{ltb}
 use lib.ListN.{replicate}
 use Rattle.aff_format.specs.Answer.{Answer, accepted, refused, refusal, firstWrong}
+use Rattle.aff_format.specs.Edition.{editionNumber}
+use Rattle.aff_format.specs.declared.edition.Edition.the-variants.{Two}
 use Rattle.aff_format.specs.Limits.{stringLimit, nodeLimit, textArea, treeArea}
 use Rattle.aff_open.specs.Opening.{openChecks}
 use Rattle.aff_areas.specs.declared.writer.Writer.{Writer}
@@ -32,18 +34,19 @@ CutFrom s left calls after = (most : ℕ) → left ≤ most → after ≡ stateA
 
 -- The same of the worked run.
 abbrev pub drillRun : List ℕ → List ℕ → List ℕ → List ℕ → ℕ → Run
-drillRun buffer form text tree most = record { buffer = buffer; form = form; text = text; tree = tree; allowance = most; calls = workedCalls most most }
+drillRun buffer form text tree most =
+    record { edition = editionNumber Two; buffer = buffer; form = form; text = text; tree = tree; allowance = most; calls = workedCalls most most }
 
 abbrev pub CutRun : List ℕ → List ℕ → List ℕ → List ℕ → ℕ → List ℕ → Type 0
 CutRun buffer form text tree k after = (most : ℕ) → k ≤ most → after ≡ runState (cut (drillRun buffer form text tree most) k) .buffer
 
 -- The same for the drill: the writer's form, and areas of zeros.
 abbrev pub CutDrill : List ℕ → ℕ → List ℕ → Type 0
-CutDrill buffer k after = CutRun buffer workedForm (replicate textArea 0) (replicate treeArea 0) k after
+CutDrill buffer k after = CutRun buffer (workedForm Two) (replicate textArea 0) (replicate treeArea 0) k after
 
 -- The verdict of opening a buffer.
 abbrev pub reopened : List ℕ → Answer (Unit {0})
-reopened buffer = firstWrong (openChecks buffer workedForm stringLimit nodeLimit) tt
+reopened buffer = firstWrong (openChecks buffer (workedForm Two) stringLimit nodeLimit) tt
 
 -- What the drill answers where the buffer was all zero: 3 below 215 stores, and from there on it opens.
 abbrev pub drilled : ℕ → Answer (Unit {0})

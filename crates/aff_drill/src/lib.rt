@@ -103,11 +103,11 @@ fn fill(buffer: &mut [u8], writer: Writer, text: &mut [u8], tree: &mut [u8], all
     finish(buffer, both, text, tree, allowance);
 }
 
-// The whole run.
+// The whole run, in edition 2.
 fn write(buffer: &mut [u8], form: &[u8], text: &mut [u8], tree: &mut [u8], allowance: usize)
     ensures { λ _. ⌜ CutRun (now (buffer .entry)) (now (form .entry)) (now (text .entry)) (now (tree .entry)) allowance (now (buffer .exit)) ⌝ }
 {
-    let start = aff::begin(buffer, form, text, tree, allowance);
+    let start = aff::begin(2, buffer, form, text, tree, allowance);
     let answer = start.answer;
     let rest = left(allowance, answer);
     fill(buffer, start.writer, text, tree, rest);

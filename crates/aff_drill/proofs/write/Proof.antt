@@ -10,7 +10,7 @@ returns c =
     let l = c .before .before .before .before .before .before .before .before .before .before .left in
     let g = c .before .before .before .before .before .before .before .before .before .before .before .before .before .before .before .before .before .begin in
     let a = c .before .before .before .before .before .before .before .before .before .before .before .before .before .before .before .before .before .before .before .before .before .before .before .before .before .args in
-    run-cut (a .buffer .now) (a .form .now) (a .text .now) (a .tree .now) (a .allowance) _ (g .result .writer) (g .last .1 .1 .0) (g .last .1 .1 .1 .0) (g .last .0) (l .result) (e .last .0)
+    run-cut (a .buffer .now) (a .form .now) (a .text .now) (a .tree .now) (a .allowance) _ (g .result .writer) (g .last .1 .1 .1 .0) (g .last .1 .1 .1 .1 .0) (g .last .1 .0) (l .result) (e .last .0)
     (g .ensures .0) (g .ensures .1 .0) (g .ensures .1 .1 .0) (g .ensures .1 .1 .1 .0) (g .ensures .1 .1 .1 .1) (l .ensures) (e .ensures)
 
 pub write-spec : {M : Type 1} → statement M

@@ -9,4 +9,6 @@ unfolding numbersBy
 returns c = rw (c .flag .ensures)
 
 pub numbers-by-spec : {M : Type 1} → statement M
-numbers-by-spec = tie.close (tie.spec (λ c κs. search needs) returns)
+numbers-by-spec =
+    tie.close
+    (tie.spec (λ c. search needs) (λ c κs. search needs) returns)
