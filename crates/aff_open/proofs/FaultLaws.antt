@@ -12,7 +12,7 @@ use borrow.Author.Tests.{eqb-true, eq-eqb, ltb-false, le-ltb, leb-true, leb-fals
 use Rattle.md5.specs.Md5.{md5}
 use Rattle.aff_format.specs.Answer.{accepted, refused, refusalAt, refusalWith}
 use Rattle.aff_format.specs.Bytes.{part, sameBytes}
-use Rattle.aff_format.specs.Edition.{headerSize, headerSumAt, hasCounts, signatureText, isKnown}
+use Rattle.aff_format.specs.Edition.{headerSize, headerSumAt, leastHeader, hasCounts, signatureText, isKnown}
 use Rattle.aff_format.specs.Limits.{imageLimit, stringLimit, nodeLimit}
 use Rattle.aff_format.specs.Lowest.{lowestFrom, isAt}
 use Rattle.aff_format.specs.declared.section.Section.{Section}
@@ -209,7 +209,7 @@ module _ (image form : List ℕ) (strings entries : ℕ) where
   unfolding openChecks upToTables rules
   opening-asks =
       one (lengths-asks image form strings entries)
-      (λ h. one (below-asks (length image) 144)
+      (λ h. one (below-asks (length image) leastHeader)
       (λ h. one (text-asks image)
       (λ h. edition-asks (editionIn image) image form)))
 

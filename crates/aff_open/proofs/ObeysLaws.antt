@@ -9,7 +9,7 @@ use lib.ListN.{length, getD}
 use borrow.Author.Tests.{eqb-false, ne-eqb}
 use Rattle.aff_format.specs.Answer.{accepted, refusalAt}
 use Rattle.aff_format.specs.Bytes.{Without, EachWithout, Octets}
-use Rattle.aff_format.specs.Edition.{signatureText, orTwo}
+use Rattle.aff_format.specs.Edition.{signatureText, leastHeader, orTwo}
 use Rattle.aff_format.specs.Limits.{stringLimit, nodeLimit}
 use Rattle.aff_format.specs.Strings.{stringsOf, endsInZero}
 use Rattle.aff_format.specs.declared.section.Section.{Section}
@@ -178,7 +178,7 @@ module _ {image form : List ℕ} (o : Obeys image form) where
   unfolding rules
   obeys-hold =
       let whole = o .whole-header in
-      let long : 144 ≤ length image = omega (arith, header-least (o .edition)) in
+      let long : leastHeader ≤ length image = omega (arith, header-least (o .edition)) in
       let twelve : length form ≡ 12 = ap length (sym (o .number-form)) ∙ length-part 20 12 image (omega arith) in
       rw edition-found ((twelve, refl, refl, o .size), (long, ((o .edition, o .text), (whole, (o .number-form, (o .header-sum, sections-hold))))))
 

@@ -32,7 +32,8 @@ fn looked_up(answer: NumberAnswer) {
     }
 }
 
-// A node: its line, its first elements, and what a lookup answers that takes the line for a path: 14, with the place of the blank after the path.
+// A node: its line, its first elements, and what a lookup answers that takes the line and a zero for a path: 14, with the place of the blank after the path,
+// in edition 3 that of the zero.
 fn node(image: &[u8], reader: Reader, strings: &[u32], entries: &[u32], k: usize) {
     let mut line = [0u8; 262164];
     match line::line(image, reader, strings, entries, k, &mut line) {
