@@ -15,6 +15,7 @@ use Rattle.aff_format.specs.Tree.{Tree}
 use Rattle.aff_format.specs.declared.edition.Edition.{Edition}
 use Rattle.aff_format.specs.declared.refusal.RefusalCode.{RefusalCode}
 use Rattle.aff_format.proofs.AnswerLaws.{Others, others-reported}
+use Rattle.aff_format.proofs.EditionLaws.{edition-numbers, written-numbers}
 use Rattle.aff_reader.specs.Belongs.{readerBelongs, ReaderBelongs}
 use Rattle.aff_open.specs.Opening.{stringsAfter, entriesAfter}
 use Rattle.aff_reader.specs.Reader.{noReader}
@@ -185,6 +186,8 @@ demand1 =
       decode = decode-by;
       begin = begin-by;
       writing = writing-by;
+      editions-read = edition-numbers;
+      editions-written = written-numbers;
       opening-leaves = opening-leaves;
       reading-leaves = reading-leaves;
       begin-leaves = begin-leaves;

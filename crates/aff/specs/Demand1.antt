@@ -7,11 +7,11 @@
 use mathlib.Core.Path.{_≡_}
 use mathlib.Core.Bool.{Bool, true, false, _||_}
 use mathlib.Core.List.{List, [], _∷_}
-use mathlib.Core.Logic.{_↔_}
-use Prim.Native.Nat.{ℕ}
+use mathlib.Core.Logic.{_⊎_, _↔_}
+use Prim.Native.Nat.{ℕ, _≤_}
 use lib.ListN.{length}
 use Rattle.aff_format.specs.Answer.{Answer, accepted, refused, refusal}
-use Rattle.aff_format.specs.Edition.{editionBy}
+use Rattle.aff_format.specs.Edition.{editionNumber, editionBy, NamesWritten}
 use Rattle.aff_format.specs.Element.{elementAt, decoded}
 use Rattle.aff_format.specs.Tree.{Tree}
 use Rattle.aff_format.specs.declared.edition.Edition.{Edition}
@@ -96,6 +96,9 @@ pub record Demand1 : Type 0 where
   pub begin : (edition : ℕ) (buffer form text tree : List ℕ) (allowance : ℕ)
       → By (beginRules edition buffer form text tree allowance) (Is 1) (beginAnswer edition buffer form text tree allowance)
   pub writing : (buffer : List ℕ) (w : Writer) (text tree : List ℕ) → WritingByRules buffer w text tree
+  -- Which numbers name an edition, and which one that is written (request C-15).
+  pub editions-read : (n : ℕ) → ((e : Edition) × (editionNumber e ≡ n)) ↔ ((1 ≤ n) × (n ≤ 3))
+  pub editions-written : (n : ℕ) → NamesWritten n ↔ ((n ≡ 2) ⊎ (n ≡ 3))
   -- What each call leaves in the caller's memory, by its answer.
   pub opening-leaves : (image form strings entries : List ℕ) → OpeningLeaves image form strings entries
   pub reading-leaves : (image : List ℕ) (r : Reader) (strings entries : List ℕ) → ReadingLeaves image r strings entries

@@ -2,6 +2,7 @@
 use mathlib.Core.Path.{_≡_, refl, sym, ap, _∙_}
 use mathlib.Core.Bool.{Bool, true, false, cond}
 use mathlib.Core.List.{List, [], _∷_, _++_, append-nil}
+use mathlib.Core.Logic.{_⊎_, inl, inr, ⊎-elim, _↔_}
 use Prim.Native.Nat.{ℕ, zero, suc, _+_, _*_, _≤_, _<_}
 use native.Mathlib.Omega.{arith}
 use lib.Dec.{eqb}
@@ -210,3 +211,26 @@ edition-by-number e = ap orTwo (edition-of-number e)
 
 pub written-edition : (n : ℕ) → NamesWritten n → isWritten (editionBy n) ≡ true
 written-edition n (e, is, w) = rw (← is, edition-by-number e) w
+
+-- Which numbers name an edition, and which one that is written.
+pub edition-numbers : (n : ℕ) → ((e : Edition) × (editionNumber e ≡ n)) ↔ ((1 ≤ n) × (n ≤ 3))
+edition-numbers n = (to, from n)
+  where
+    to : (e : Edition) × (editionNumber e ≡ n) → (1 ≤ n) × (n ≤ 3)
+    to (One, is) = (omega (arith, is), omega (arith, is))
+    to (Two, is) = (omega (arith, is), omega (arith, is))
+    to (Three, is) = (omega (arith, is), omega (arith, is))
+    from : (m : ℕ) → (1 ≤ m) × (m ≤ 3) → (e : Edition) × (editionNumber e ≡ m)
+    from zero (l, h) = absurd (omega arith)
+    from (suc zero) (l, h) = (One, refl)
+    from (suc (suc zero)) (l, h) = (Two, refl)
+    from (suc (suc (suc zero))) (l, h) = (Three, refl)
+    from (suc (suc (suc (suc m)))) (l, h) = absurd (omega arith)
+
+pub written-numbers : (n : ℕ) → NamesWritten n ↔ ((n ≡ 2) ⊎ (n ≡ 3))
+written-numbers n = (to, ⊎-elim (λ p. (Two, sym p, refl)) (λ p. (Three, sym p, refl)))
+  where
+    to : NamesWritten n → (n ≡ 2) ⊎ (n ≡ 3)
+    to (One, is, w) = absurd-bool w
+    to (Two, is, w) = inl (sym is)
+    to (Three, is, w) = inr (sym is)

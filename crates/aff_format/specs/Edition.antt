@@ -1,7 +1,6 @@
 -- The layout of each edition: document 01, 'Layout of a file', and source document 003, sections 6.1 and 6.2; of edition 3 (request C-15) source document
--- 000, section 6. What an edition has of its own is at the
--- front: its number, its text, the size of a section header, whether that has a record count, the order of the section headers, and whether
--- the writer writes it. (Its rule for names is in Subkey.antt.) All other sizes and places are computed from these.
+-- 000, section 6. What an edition has of its own is at the front: its number, its text, the size of a section header, whether that has a record count, the
+-- order of the section headers, and whether the writer writes it. (Its rule for names is in Subkey.antt.) All other sizes and places are computed from these.
 use mathlib.Core.Path.{_≡_}
 use mathlib.Core.Bool.{Bool, true, false, cond}
 use mathlib.Core.List.{List, [], _∷_, _++_}
