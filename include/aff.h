@@ -2,8 +2,8 @@
 //
 // Link with target/staticlib/libaff_c.a, which `rt staticlib aff_c` builds (x86-64). samples/read.c and samples/write.c are complete programs.
 //
-// There are three editions of the format: 1, 2 and 3 are read, 2 and 3 are written. Editions 1 and 2 have narrow names, edition 3 takes almost any bytes;
-// aff_make has both rules.
+// The format has three editions: 1, 2 and 3 are read, 2 and 3 are written. In editions 1 and 2 few characters are allowed in names; in edition 3 all bytes
+// but '/' and zero are. The comment at aff_make has both rules.
 //
 // All memory is the caller's: the library allocates nothing, keeps nothing between calls, and does no input or output. Calls from several threads
 // need no lock unless one of them writes memory that another one uses.
@@ -18,8 +18,9 @@
 //
 // Every function but aff_form and aff_form_for returns AFF_OK or one of the numbers below.
 //
-// Programs that were compiled with a header in which AFF_NUMBERS is 7 must be changed and compiled again: aff_begin takes the edition first, and the writer's
-// record has it as numbers[2], so that the numbers after it have moved by one. If AFF_RECORD is 12 there, aff_lookup has one more output, too: place.
+// Programs written for an older header, in which AFF_NUMBERS is 7, must be changed and compiled again: aff_begin takes the edition as its first argument,
+// and numbers[2] of the writer's record is the edition, so that the numbers after it have moved by one. If AFF_RECORD is 12 in the older header, the record
+// of an opening has one number more, and aff_lookup has one more output, place.
 #ifndef AFF_H
 #define AFF_H
 
@@ -36,14 +37,14 @@ extern "C" {
 enum {
     AFF_OK = 0,
     AFF_ERR_LENGTH = 1,            // A work area or the form has a wrong length, or the image has more than 2,147,483,647 bytes.
-    AFF_ERR_SHORT = 2,             // The image is shorter than its header: 144 bytes in edition 1, 168 in editions 2 and 3.
-    AFF_ERR_SIGNATURE = 3,         // The image does not begin with the text of an edition: it is no AFF file, or one that was never closed. aff_begin: the edition is not written.
+    AFF_ERR_SHORT = 2,             // The image is shorter than 144 bytes, or than 168 bytes if its text is that of edition 2 or 3.
+    AFF_ERR_SIGNATURE = 3,         // The image does not begin with the text of an edition: it is no AFF file, or one that was never closed. aff_begin: the edition is not 2 or 3.
     AFF_ERR_FORM = 4,              // The 12 bytes after that text differ from the form that was passed.
     AFF_ERR_HEADER_SUM = 5,        // The header's MD5 sum is wrong.
     AFF_ERR_SECTION = 6,           // A section ends past the image. Place: 1 symbols, 2 tree, 3 data.
     AFF_ERR_SECTION_SUM = 7,       // A section's MD5 sum is wrong. Place: 1 symbols, 2 tree, 3 data.
     AFF_ERR_SYMBOLS = 8,           // Withdrawn; no call returns it. In old logs: the symbol table's last byte is not zero, or, before 25 to 27 were added, one of these.
-    AFF_ERR_TREE = 9,              // A tree entry is cut short, of no type, or the 2,049th. Place: the entry; 0 if their number is not the header's.
+    AFF_ERR_TREE = 9,              // A tree entry is cut short, of no type, or the 2,049th. Place: the entry; 0 if their number is not the one in the header (editions 2 and 3).
     AFF_ERR_NODE = 10,             // A node's parent or string does not exist, or its name is malformed. Place: the lowest such node. record[12]: where its name is malformed, else 0.
     AFF_ERR_CYCLE = 11,            // A node's parents do not lead to the root. Place: the lowest such node.
     AFF_ERR_SIBLING = 12,          // A node has the name of a sibling with a lower number. Place: the lowest such node.
@@ -58,9 +59,9 @@ enum {
     AFF_ERR_SPACE = 21,            // The buffer is too short for the file, or the output for the path or the listing.
     AFF_ERR_CLOSED = 22,           // The file is closed or stopped.
     AFF_ERR_ALLOWANCE = 23,        // The allowance is smaller than the number of bytes to store. Place: how many were stored.
-    AFF_ERR_MISMATCH = 24,         // Record, work areas and buffer do not belong together.
+    AFF_ERR_MISMATCH = 24,         // Record, work areas and image or buffer do not belong together; or the recorded edition is not 1 to 3 (reading), not 2 or 3 (writing).
     AFF_ERR_TOO_MANY_STRINGS = 25, // The symbol table has over 2,048 strings. Place: 2,048, the first string beyond; strings are numbered from 0.
-    AFF_ERR_STRING_COUNT = 26,     // Editions 2 and 3: the number of strings is not the header's. Edition 1 has no such number.
+    AFF_ERR_STRING_COUNT = 26,     // Editions 2 and 3: the number of strings is not the one in the header. The header of edition 1 has no such number.
     AFF_ERR_REPEATED_STRING = 27,  // A string of the symbol table equals an earlier one. Place: the lowest such string.
     AFF_ERR_ARGUMENT = 255         // aff_open_image: the record is too short. aff_decode: there is no such type.
 };
@@ -73,12 +74,12 @@ enum { AFF_VOID = 1, AFF_CHAR = 2, AFF_INT = 3, AFF_DOUBLE = 4, AFF_COMPLEX = 5 
 
 // ---- The form: the 12 signature bytes after the text
 
-// Stores the 12 bytes that a file of an edition (1, 2 or 3) with IEEE 754 doubles has, at the front of the output. A writer passes them to aff_begin.
-// Returns false and stores nothing if there is no such edition or the output has fewer than 12 bytes.
+// Stores the 12 bytes that follow the text in files of an edition (1, 2 or 3) with IEEE 754 doubles, at the front of the output. Pass them to aff_begin.
+// Returns true; returns false and stores nothing if there is no such edition or the output has fewer than 12 bytes.
 bool aff_form(uint32_t edition, uint8_t *output, size_t output_length);
 
-// The same for the edition that the image's text names, and for edition 2 if it names none. A reader passes them to aff_open_image. Returns false and
-// stores nothing if the output has fewer than 12 bytes.
+// The same for the edition that the text of an image names, and for edition 2 if it names none. Pass them to aff_open_image. Returns true; returns false
+// and stores nothing if the output has fewer than 12 bytes.
 bool aff_form_for(const uint8_t *image, size_t image_length, uint8_t *output, size_t output_length);
 
 // ---- Opening
@@ -86,7 +87,7 @@ bool aff_form_for(const uint8_t *image, size_t image_length, uint8_t *output, si
 // Checks a complete file in memory against all rules of the format, MD5 sums included, and fills both work areas and the record, which the reading
 // calls take. record[0] is the place of a refusal (else 0), [1] the image's length, [2] the edition, [3] and [4] offset and size of the symbol
 // section, [5] and [6] of the tree section, [7] and [8] of the data section, [9] the number of strings, [10] of nodes without the root, [11] of data
-// records as the header has it, [12] the second number of a refusal with 10 (else 0).
+// records as the header has it (0 in edition 1), [12] the second number of a refusal with 10 (else 0).
 // The strings of the symbol section are separated by zero bytes: each ends at its zero. If the section's last byte is not zero, the bytes after its last
 // zero are one more string, which ends at the section's end. 25 to 27 are about the strings found this way.
 // The faults are looked for in the order 1 to 7, 25 to 27, 9 to 13, and the first found is the number. The place is that of a section, a string, an entry
@@ -102,14 +103,15 @@ uint32_t aff_open_image(const uint8_t *image, size_t image_length, const uint8_t
 
 // What every reading call takes first: the image, the record (its first 12 numbers are read) and the work areas, as the opening left them. A node is a
 // number: 0 is the root, the others go from 1 to record[10]. Each call first validates all of that, in time proportional to the number of strings and
-// nodes, and returns 24 if it does not belong together. A string must begin inside the recorded symbol section, before the section's end; it ends at the
+// nodes, and returns 24 if it does not belong together or the recorded edition is not 1, 2 or 3. A string must begin inside the recorded symbol section, before the section's end; it ends at the
 // first zero from there on, or at the section's end. A refused call leaves its outputs unchanged, except place of aff_lookup.
 #define AFF_OPENED                                                                                                                     \
     const uint8_t *image, size_t image_length, const uint64_t *record, const uint32_t *strings, size_t strings_length,                \
         const uint32_t *entries, size_t entries_length
 
 // Finds the node with a path such as "/a/n"; the root's path is "/". Returns 14 for a malformed path, 15 if no node has it. Any other path than "/" is one
-// or more times a '/' and a name; aff_make has the rule for names in the edition of the image, record[2]. Names are compared byte by byte.
+// or more times a '/' and a name; the rule for names is that of the image's edition, record[2], and the comment at aff_make has it. Names are compared byte
+// by byte.
 // place is written in every case. After 14 it is the place in the path of the first byte that breaks this rule. If a name is empty, it is the place where
 // the name would begin: 1 in "//a", and 3, which is path_length, in "/a/". If the path does not begin with '/' or is empty, it is 0. After every other
 // answer it is 0.
@@ -125,7 +127,8 @@ uint32_t aff_listing(AFF_OPENED, bool all, uint32_t *output, size_t output_lengt
 // may end at the section's end, and then any byte or none follows. Use size. The root's name is empty, with offset and size 0. Returns 15 for a number
 // of no node.
 // A name of edition 3 may hold any byte but '/' and zero: spaces, line feeds, escape characters, bytes above 126. Print names and paths with care. The
-// programs `list` and `listall` print a byte below 33, above 126 or equal to 92 (the backslash) as \x and two hexadecimal digits.
+// programs `list` and `listall` print a byte below 33, above 126 or equal to 92 (the backslash) as \x and two small hexadecimal digits; the calls here never
+// do so.
 uint32_t aff_name(AFF_OPENED, uint64_t node, uint64_t *offset, uint64_t *size);
 
 // Finds a node's data: the size bytes at image + offset, big-endian as the file has them; size is 0 for a Void node. Returns 15 for a number of no
@@ -138,7 +141,7 @@ uint32_t aff_kind(AFF_OPENED, uint64_t node, uint64_t *kind);
 // Reports how many elements a node has; 0 for a Void node. Returns 15 for a number of no node.
 uint32_t aff_count(AFF_OPENED, uint64_t node, uint64_t *count);
 
-// Stores a node's path at the front of the output, as it is, with no zero after it, and its length in size. Returns 15 for a number of no node, 21 if the
+// Stores a node's path at the front of the output, with the bytes of the names as they are and no zero after it, and its length in size. Returns 15 for a number of no node, 21 if the
 // output is too short; no call reports the length needed, so double the output and call again.
 // A path has at most record[10] * (record[4] + 1) bytes (1 for the root): at most 2,048 components, each a '/' and one string of the symbol section, which
 // may be all of it. A file of this library's writer has paths of at most 2,048 * 32,768 bytes, 64 MiB. A file from elsewhere may come near 2,048 *
@@ -158,8 +161,8 @@ uint32_t aff_decode(uint64_t kind, const uint8_t *bytes, size_t bytes_length, ui
 
 // The writer's record is 8 numbers and 12 bytes of form, kept. numbers[0] is what the last call reported; [1] is the buffer's length, [2] the edition,
 // [3] the number of strings, [4] of bytes of text, [5] of nodes without the root, [6] of bytes of data; [7] is 1 while the file is open, and any other
-// number means closed or stopped. Pass record, work areas and buffer to each call as the last one left them. aff_make, aff_put and aff_close return 24
-// if they do not belong together, also if the recorded edition is not 2 or 3 (one above 32 bits counts as none), and then 22 if the file is not open.
+// number means closed or stopped. Pass record, work areas and buffer to each call as the last one left them. aff_make, aff_put and aff_close first return 24
+// if they do not belong together or the recorded edition is not 2 or 3, and then 22 if the file is not open.
 //
 // An allowance is the largest number of bytes that a call may store in the buffer; UINT64_MAX is no limit. After a refusal with 23 exactly that many
 // are stored, numbers[0] is their number, numbers[7] is 0, and the work areas are unchanged; the file cannot be continued. After any other refusal only
@@ -174,13 +177,13 @@ uint32_t aff_decode(uint64_t kind, const uint8_t *bytes, size_t bytes_length, ui
 #define AFF_WRITER uint64_t *numbers, const uint8_t *kept
 
 // Begins a file of an edition, 2 or 3, in a buffer of at least 168 bytes, the size of the header in both: stores a 0 at its front, clears both work areas,
-// and sets numbers and kept (12 bytes). numbers[0] is the number of bytes stored, 1. The form is kept as it is; aff_form has the one that readers expect.
-// Returns 1 for a wrong length of form, text or tree or a buffer above 2,147,483,647 bytes, then 3 for an edition that is not written, which is any but 2 and
-// 3, then 21 for a buffer below 168. Refused, it stores nothing and clears nothing.
+// and sets numbers and kept (12 bytes). numbers[0] is the number of bytes stored, 1. The 12 bytes of form are written to the file as they are; aff_form
+// stores those that readers expect. Returns, in this order, 1 for a wrong length of form, text or tree or a buffer above 2,147,483,647 bytes, 3 for an
+// edition other than 2 and 3, 21 for a buffer below 168 bytes, 23 for an allowance of 0. Refused, it stores nothing in the buffer and clears nothing.
 uint32_t aff_begin(uint32_t edition, uint8_t *buffer, size_t buffer_length, const uint8_t *form, size_t form_length, uint8_t *text,
     size_t text_length, uint8_t *tree, size_t tree_length, uint64_t allowance, uint64_t *numbers, uint8_t *kept);
 
-// Adds a Void node below a parent; numbers[0] is its number. The edition has the rule for names:
+// Adds a Void node below a parent; numbers[0] is its number. The rule for names depends on the edition:
 //   - Editions 1 and 2: a name begins with a letter, '_' or ':'; letters, digits and any of . - _ : may follow.
 //   - Edition 3: a name is one or more bytes, none of them '/' or zero.
 // Nothing is stored in the buffer. Returns 15 if there is no such parent, 14 for a malformed name, 17 if the parent has a child of that name, 20 if a
