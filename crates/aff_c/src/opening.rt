@@ -1,4 +1,4 @@
-// Opening for programs in C and Rust: `aff_form_for` and `aff_open_image` of include/aff.h.
+// Opening for programs in C and Rust: `aff_form`, `aff_form_for` and `aff_open_image` of include/aff.h.
 use aff_format::Edition;
 use aff_format::RefusalCode;
 use aff_format::Verdict;

@@ -12,7 +12,7 @@ const LARGEST: usize = 3000;
 const ELEMENTS: u64 = 8;
 
 /// Bytes of the area that the program writes a line to. It then looks up all of it, so a zero comes after the line.
-const LINE: usize = 131_072;
+const LINE: usize = 262_164;
 
 /// Images one after another, each after its length in 4 bytes, and the answers.
 pub struct Sample {
