@@ -220,6 +220,7 @@ edition-numbers n = (to, from n)
     to (One, is) = (omega (arith, is), omega (arith, is))
     to (Two, is) = (omega (arith, is), omega (arith, is))
     to (Three, is) = (omega (arith, is), omega (arith, is))
+
     from : (m : ℕ) → (1 ≤ m) × (m ≤ 3) → (e : Edition) × (editionNumber e ≡ m)
     from zero (l, h) = absurd (omega arith)
     from (suc zero) (l, h) = (One, refl)
