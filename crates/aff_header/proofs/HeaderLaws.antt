@@ -49,7 +49,7 @@ length-headerFront e form h f n =
 
 pub length-withSum : (e : Edition) (front : List ℕ) → length front ≡ headerSumAt e → length (withSum front) ≡ headerSize e
 unfolding withSum
-length-withSum e front h = length-append front (md5 front) ∙ omega (arith, h, length-md5 front)
+length-withSum e front h = simp (length-append, length-md5) (omega (arith, h))
 
 -- The front of an area is the run that was written there.
 pub take-front : (n : ℕ) (x l : List ℕ) → length x ≡ n → take n (spliced 0 x l) ≡ x
