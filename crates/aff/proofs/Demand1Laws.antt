@@ -4,7 +4,7 @@
 use mathlib.Core.Path.{_≡_, refl, sym, ap, _∙_}
 use mathlib.Core.Bool.{Bool, true, false, cond, not, _||_, true≢false}
 use mathlib.Core.List.{List, [], _∷_}
-use mathlib.Core.Logic.{_↔_}
+use mathlib.Core.Logic.{_⊎_, _↔_}
 use Prim.Native.Nat.{ℕ}
 use native.Mathlib.Omega.{arith}
 use lib.Dec.{ltb, leb}
@@ -136,6 +136,13 @@ module _ (buffer : List ℕ) (w : Writer) (text tree : List ℕ) where
       each-writing (Is24Unless (WriterBelongs (length buffer) w text tree)) buffer w text tree
       (λ A more a l. belongs-unless more a l (belongsHere (length buffer) w text tree) writer-clauses writer-belongs)
 
+  unwritten-writes : ((w .edition ≡ 2) ⊎ (w .edition ≡ 3) → ⊥) → EachWriting Is24 buffer w text tree
+  unwritten-writes other = go (belongsHere (length buffer) w text tree) refl
+    where
+      go : (b : Bool) → belongsHere (length buffer) w text tree ≡ b → EachWriting Is24 buffer w text tree
+      go true h = absurd (other (written-numbers (w .edition) .0 (writer-clauses h .edition-written)))
+      go false h = wrong-writes h
+
 -- ---- What a run's answers say of 24 and 22.
 
 -- The checks of a call of a run report neither.
@@ -194,6 +201,7 @@ demand1 =
       writing-leaves = writing-leaves;
       reading-24 = reads-24;
       writing-24 = writes-24;
+      unwritten-24 = unwritten-writes;
       opened-reads = λ image form strings entries h.
           reads image _ (stringsAfter image form strings entries) (entriesAfter image form strings entries) (opened-belongs image form strings entries h);
       refused-reads = λ image form strings entries h other ss es. rw h (wrong-reads other noReader ss es (none-belongs other ss es));

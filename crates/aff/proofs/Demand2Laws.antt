@@ -23,7 +23,7 @@ use Rattle.aff_format.specs.declared.edition.Edition.{Edition}
 use Rattle.aff_format.specs.declared.entry.Entry.{Entry}
 use Rattle.aff_format.specs.declared.section.Section.the-variants.{Data}
 use Rattle.aff_format.proofs.BreaksLaws.{path-breaks, no-path-breaks}
-use Rattle.aff_format.proofs.EditionLaws.{edition-by-number}
+use Rattle.aff_format.proofs.EditionLaws.{edition-by-number, layouts}
 use Rattle.aff_format.proofs.PathLaws.{path-complete}
 use Rattle.aff_format.proofs.ClimbLaws.{reaches-within}
 use Rattle.aff_format.proofs.TreeLaws.{front-root, front-step, path-other, front-same}
@@ -325,6 +325,7 @@ demand2 =
       opened-reads = reads-file;
       reads = reads;
       cases = cases-hold;
+      layouts = layouts;
       wide-cases = wide-cases-hold;
       name-bytes = bytes-of-names;
     }

@@ -28,15 +28,15 @@ use Rattle.aff_areas.proofs.StoreLaws.{apply-append, apply-length}
 use Rattle.aff_run.specs.TreeSizes.{nonVoidCount, sizeOf}
 use Rattle.aff_run.specs.Run.{State, storesOf, Run, runBegin, runStart, runStores, runState, runTree, runClosed}
 use Rattle.aff_read.specs.Shows.{Shows}
-use Rattle.aff_run.proofs.BeginInvariantLaws.{begin-invariant, begin-form, begin-stores}
+use Rattle.aff_run.proofs.BeginInvariantLaws.{begin-invariant, begin-edition, begin-form, begin-stores}
 use Rattle.aff_run.proofs.BeginRefusedLaws.{none-run, none-closed}
-use Rattle.aff_run.proofs.ClosedLaws.{closed, closed-shows, closed-counts}
+use Rattle.aff_run.proofs.ClosedLaws.{contents, rest, lawful, tree-held, closed, closed-is, closed-shows, closed-counts}
 use Rattle.aff_run.proofs.CutLaws.{cut-run-stores, cut-run-buffer, cut-begin, cut-run-answers-before, cut-begin-out, cut-run-answer-out}
 use Rattle.aff_run.proofs.InvariantLaws.{Invariant}
 use Rattle.aff_run.proofs.PlaceLaws.{FromPlace, after-first, shaped-take, run-shape}
 use Rattle.aff_run.proofs.RunLaws.{run-holds}
 use Rattle.aff_run.proofs.StepLaws.{run-buffer}
-use Rattle.aff.specs.Demand3.{bufferAt, Killed, Demand3, Demand3Cut, DataCounted}
+use Rattle.aff.specs.Demand3.{bufferAt, Killed, Demand3, Demand3Cut, DataCounted, FileWritten, FileMade}
 
 -- ---- A buffer with a zero at place 0.
 
@@ -103,12 +103,16 @@ module _ (run : Run) {n : ℕ} (h : runBegin run .answer ≡ accepted n) where
       (omega (arith, kept .fits, kept .buffer-length, header-least (writerEdition (runStart run .writer))), omega (arith, kept .buffer-length, kept .buffer-allowed), f)
 
   -- What holds of each closed buffer holds of the buffer after all stores.
-  all-holds : (P : List ℕ → List ℕ → Tree → Type 0) → ((s : State) (tree : Tree) (g : Invariant s tree) → P (closed s tree g) (s .writer .form) tree)
-      → runClosed run ≡ true → P (applyStores (run .buffer) (runStores run)) (run .form) (runTree run)
+  all-holds : (P : ℕ → List ℕ → List ℕ → Tree → Type 0)
+      → ((s : State) (tree : Tree) (g : Invariant s tree) → P (s .writer .edition) (closed s tree g) (s .writer .form) tree)
+      → runClosed run ≡ true → P (run .edition) (applyStores (run .buffer) (runStores run)) (run .form) (runTree run)
   all-holds P closes c =
-      subst (λ (f : List ℕ). P (applyStores (run .buffer) (runStores run)) f (runTree run)) (begin-form run h)
-      (subst (λ (r : List ℕ). P r (runStart run .writer .form) (runTree run)) (sym (apply-append (run .buffer) (runBegin run .stores) later))
-      (run-holds P closes (run .calls) (runStart run) [] kept c))
+      let all = applyStores (run .buffer) (runStores run) in
+      let begun = runStart run .writer in
+      subst (λ (e : ℕ). P e all (run .form) (runTree run)) (begin-edition run h)
+      (subst (λ (f : List ℕ). P (begun .edition) all f (runTree run)) (begin-form run h)
+      (subst (λ (r : List ℕ). P (begun .edition) r (begun .form) (runTree run)) (sym (apply-append (run .buffer) (runBegin run .stores) later))
+      (run-holds P closes (run .calls) (runStart run) [] kept c)))
 
   all-is : runStores run ≡ record { at = 0; byte = 0 } ∷ later
   all-is = ap (λ (b : List Store). b ++ later) (begin-stores run h)
@@ -138,7 +142,7 @@ module _ (run : Run) {n : ℕ} (h : runBegin run .answer ≡ accepted n) where
       record {
         none-made = λ q. rw q;
         all-left = all-buffer run k;
-        all-made = λ q c. rw (all-stored run k q) (all-holds Shows closed-shows c);
+        all-made = λ q c. rw (all-stored run k q) (all-holds (λ _. Shows) closed-shows c);
         otherwise = refused-3 k le;
       }
 
@@ -161,8 +165,27 @@ demand3-cut run k =
     }
 
 counted-by : (a : Answer ℕ) (run : Run) → runBegin run .answer ≡ a → runClosed run ≡ true → Counted (runState run .buffer) (run .form) (runTree run)
-counted-by (accepted n) run h c = rw (run-buffer run) (all-holds run h Counted closed-counts c)
+counted-by (accepted n) run h c = rw (run-buffer run) (all-holds run h (λ _. Counted) closed-counts c)
 counted-by (refused t) run h c = absurd (true≢false (sym c ∙ none-closed run t h))
 
 pub data-counted : DataCounted
 data-counted run c = counted-by (runBegin run .answer) run refl c
+
+-- ---- The finished file.
+
+file-written : (s : State) (tree : Tree) (g : Invariant s tree) → FileWritten (s .writer .edition) (closed s tree g) (s .writer .form) tree
+file-written s tree g =
+    record {
+      contents = contents s tree g;
+      rest = rest s tree g;
+      lawful = lawful s tree g;
+      file = closed-is s tree g;
+      described = tree-held s tree g;
+    }
+
+made-by : (a : Answer ℕ) (run : Run) → runBegin run .answer ≡ a → runClosed run ≡ true → FileWritten (run .edition) (runState run .buffer) (run .form) (runTree run)
+made-by (accepted n) run h c = rw (run-buffer run) (all-holds run h FileWritten file-written c)
+made-by (refused t) run h c = absurd (true≢false (sym c ∙ none-closed run t h))
+
+pub file-made : FileMade
+file-made run c = made-by (runBegin run .answer) run refl c

@@ -107,6 +107,8 @@ pub record Demand1 : Type 0 where
   -- By these rules, 24 is reported exactly when the record does not belong to the memory passed.
   pub reading-24 : (image : List ℕ) (r : Reader) (strings entries : List ℕ) → EachReading (Is24Unless (ReaderBelongs image r strings entries)) image r strings entries
   pub writing-24 : (buffer : List ℕ) (w : Writer) (text tree : List ℕ) → EachWriting (Is24Unless (WriterBelongs (length buffer) w text tree)) buffer w text tree
+  -- So each writing call with a record of another edition than 2 and 3 answers 24 (request C-15).
+  pub unwritten-24 : (buffer : List ℕ) (w : Writer) (text tree : List ℕ) → ((w .edition ≡ 2) ⊎ (w .edition ≡ 3) → ⊥) → EachWriting Is24 buffer w text tree
   -- Reading. After an accepted opening no reading call on its record, the image and the areas as it left them answers 24.
   pub opened-reads : (image form strings entries : List ℕ) {r : Reader} → openAnswer image form (length strings) (length entries) ≡ accepted r
       → EachReading Not24 image r (stringsAfter image form strings entries) (entriesAfter image form strings entries)

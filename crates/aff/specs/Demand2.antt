@@ -14,6 +14,7 @@ use Rattle.aff_format.specs.Answer.{accepted, refused, refusal, refusalAt}
 use Rattle.aff_format.specs.Breaks.{Breaks}
 use Rattle.aff_format.specs.Bytes.{Octets, part}
 use Rattle.aff_format.specs.Edition.{editionBy, editionNumber}
+use Rattle.aff_format.specs.Layouts.{Layouts}
 use Rattle.aff_format.specs.Element.{elementAt}
 use Rattle.aff_format.specs.Kind.{elementSize, isVoid}
 use Rattle.aff_format.specs.Limits.{stringLimit, nodeLimit}
@@ -162,6 +163,8 @@ pub record Demand2 : Type 0 where
   pub reads : (image : List ℕ) (r : Reader) (strings entries : List ℕ) → ReaderBelongs image r strings entries → Reads image r strings entries
   -- Document 01's table of cases, P1 to P10.
   pub cases : EachHolds caseTable
+  -- The layouts of the three editions in numbers, as the papers have them (crates/aff_format/specs/Layouts.antt).
+  pub layouts : Layouts
   -- The same for edition 3, and which bytes a name may have in each edition.
   pub wide-cases : EachHolds wideTable
   pub name-bytes : NameBytes

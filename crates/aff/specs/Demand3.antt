@@ -16,9 +16,12 @@ use mathlib.Core.List.{List, [], _∷_, _++_}
 use Prim.Native.Nat.{ℕ, _-_, _≤_, _<_}
 use lib.ListN.{length, take, drop}
 use Rattle.aff_format.specs.Answer.{accepted, refused, refusal, refusalAt}
+use Rattle.aff_format.specs.Edition.{editionBy}
 use Rattle.aff_format.specs.Limits.{stringLimit, nodeLimit}
+use Rattle.aff_format.specs.Tree.{Tree}
 use Rattle.aff_open.specs.Opening.{openAnswer}
 use Rattle.aff_reader.specs.declared.reader.Reader.{Reader}
+use Rattle.aff_file.specs.File.{FileContents, fileOf, contentsTree, Lawful}
 use Rattle.aff_areas.specs.Stores.{applyStores}
 use Rattle.aff_run.specs.Cut.{cut}
 use Rattle.aff_run.specs.TreeSizes.{nonVoidCount}
@@ -67,3 +70,15 @@ Demand3Cut = (run : Run) (k : ℕ) → Cut run k
 abbrev pub DataCounted : Type 0
 DataCounted = (run : Run) → runClosed run ≡ true
     → (r : Reader) → openAnswer (runState run .buffer) (run .form) stringLimit nodeLimit ≡ accepted r → r .records ≡ nonVoidCount (runTree run)
+
+-- A buffer is the finished file of some contents, then the bytes after it; the contents are lawful, and their tree is this one (crates/aff_file/specs).
+pub record FileWritten (edition : ℕ) (buffer form : List ℕ) (tree : Tree) : Type 0 where
+  pub contents : FileContents
+  pub rest : List ℕ
+  pub lawful : Lawful (editionBy edition) contents form (length rest)
+  pub file : buffer ≡ fileOf (editionBy edition) contents form ++ rest
+  pub described : contentsTree (editionBy edition) contents ≡ tree
+
+-- Every run with an accepted close leaves such a buffer, of the edition and the form that begin was given, with the tree described (request C-15).
+abbrev pub FileMade : Type 0
+FileMade = (run : Run) → runClosed run ≡ true → FileWritten (run .edition) (runState run .buffer) (run .form) (runTree run)

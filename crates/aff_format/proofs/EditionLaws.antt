@@ -9,6 +9,7 @@ use lib.Dec.{eqb}
 use lib.ListN.{length, getD}
 use borrow.Author.Tests.{eqb-true, eq-eqb, ne-eqb}
 use Rattle.aff_format.specs.Edition.{editions, editionNumber, signatureText, sectionHeaderSize, hasCounts, headerOrder, isWritten, sectionRank, sectionAt, sectionHeaderAt, sectionSumAt, headerSumAt, headerSize, numberForm, firstEdition, editionOf, isKnown, orTwo, editionBy, isFoundWritten, namesWritten, NamesWritten}
+use Rattle.aff_format.specs.Layouts.{Layouts}
 use Rattle.aff_format.specs.Bytes.{spliced, sameBytes}
 use Rattle.aff_format.specs.Number.{beBytes}
 use Rattle.aff_format.specs.Section.{sectionNumber}
@@ -235,3 +236,23 @@ written-numbers n = (to, ⊎-elim (λ p. (Two, sym p, refl)) (λ p. (Three, sym 
     to (One, is, w) = absurd-bool w
     to (Two, is, w) = inl (sym is)
     to (Three, is, w) = inr (sym is)
+
+-- ---- The layouts in numbers.
+
+text-is : (e : Edition) → signatureText e
+    ≡ 76 ∷ 72 ∷ 80 ∷ 67 ∷ 32 ∷ 65 ∷ 70 ∷ 70 ∷ 32 ∷ 118 ∷ 101 ∷ 114 ∷ 115 ∷ 105 ∷ 111 ∷ 110 ∷ 32 ∷ (48 + editionNumber e) ∷ 46 ∷ 48 ∷ []
+unfolding signatureText
+text-is One = refl
+text-is Two = refl
+text-is Three = refl
+
+pub layouts : Layouts
+layouts =
+    record {
+      one = record { symbols-at = refl; tree-at = refl; data-at = refl; sum-at = refl; size-is = refl; counts-are = refl };
+      two = record { symbols-at = refl; tree-at = refl; data-at = refl; sum-at = refl; size-is = refl; counts-are = refl };
+      three = record { symbols-at = refl; tree-at = refl; data-at = refl; sum-at = refl; size-is = refl; counts-are = refl };
+      text = text-is;
+      least = refl;
+      most = refl;
+    }

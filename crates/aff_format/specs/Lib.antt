@@ -4,6 +4,7 @@ pub mod Answer
 pub mod Rule
 pub mod Section
 pub mod Edition
+pub mod Layouts
 pub mod Kind
 pub mod Refusal
 pub mod Number

@@ -1,4 +1,5 @@
 // Tree entries.
+use crate::edition::Edition;
 use crate::kind::FoundKind;
 use crate::kind::Kind;
 use crate::number;
@@ -95,10 +96,10 @@ fn put_data(slot: &mut [u8], count: u64, offset: u64)
 
 impl Entry {
     // The 25 bytes of the entry in the writer's tree area; the first 13, or all, are its bytes in a file.
-    pub fn slot(self) -> [u8; 25]
+    pub fn slot(self) -> [u8; Edition::DATA_ENTRY]
         ensures { λ r. ⌜ r ≡ slotBytes self ⌝ }
     {
-        let mut out = [0u8; 25];
+        let mut out = [0u8; Edition::DATA_ENTRY];
         let kind = self.kind;
         out[0] = kind.code();
         number::put_be(&mut out, 1, 8, self.parent);

@@ -89,7 +89,7 @@ rulesBefore10 image form strings entries =
     ++ eachFrom (refusalAt 27) (Unrepeated (stringsIn (editionIn image) image)) (length (stringsIn (editionIn image) image)) 0
     (treeRules (editionIn image) image (nodesIn (editionIn image) image))
 
--- Order: 1, then 2, text 3, edition 2's length 2, then 4 to 7, 25 to 27, 9 to 13.
+-- Order: 1, then 2, text 3, its edition's length 2, then 4 to 7, 25 to 27, 9 to 13.
 unfoldable pub rules : List ℕ → List ℕ → ℕ → ℕ → List Rule
 rules image form strings entries =
     rulesBefore27 image form strings entries

@@ -40,7 +40,7 @@ formChecks e image form =
     ∷ check (headerSumWrong e image) (refusal 5)
     ∷ []
 
--- 2, text 3, edition 2's length 2, 4, 5.
+-- 2, text 3, its edition's length 2, 4, 5.
 abbrev pub headerChecks : List ℕ → List ℕ → List Check
 headerChecks image form =
     check (ltb (length image) leastHeader) (refusal 2)
@@ -94,12 +94,12 @@ contentsIn e image = contentsOf (stringsIn e image) (nodesIn e image)
 abbrev pub nodesChecked : Edition → List ℕ → List Check
 nodesChecked e image = nodeChecks e (sectionOffset e Data image) (sectionSize e Data image) (contentsIn e image)
 
--- 1, then 2, text 3, edition 2's length 2, then 4 to 7, 25 to 27, 9: up to the tables.
+-- 1, then 2, text 3, its edition's length 2, then 4 to 7, 25 to 27, 9: up to the tables.
 unfoldable pub upToTables : List ℕ → List ℕ → ℕ → ℕ → List Check
 upToTables image form strings entries =
     check (lengthsWrong image form strings entries) (refusal 1) ∷ (headerChecks image form ++ bodyChecks (editionIn image) image)
 
--- Order: 1, then 2, text 3, edition 2's length 2, then 4 to 7, 25 to 27, 9 to 13.
+-- Order: 1, then 2, text 3, its edition's length 2, then 4 to 7, 25 to 27, 9 to 13.
 unfoldable pub openChecks : List ℕ → List ℕ → ℕ → ℕ → List Check
 openChecks image form strings entries = upToTables image form strings entries ++ nodesChecked (editionIn image) image
 

@@ -115,25 +115,28 @@ close-made s (make parent name) (accepted n) h z = absurd (true≢false (sym z))
 close-made s (put node type bytes allowance) (accepted n) h z = absurd (true≢false (sym z))
 close-made s (close allowance) (accepted n) h z = needed-made s (close allowance) h
 
--- What holds of each closed buffer, with the writer's form and the tree described, holds of the buffer that a run with an accepted close leaves.
-module _ (P : List ℕ → List ℕ → Tree → Type 0) (closes : (s : State) (tree : Tree) (g : Invariant s tree) → P (closed s tree g) (s .writer .form) tree) where
+-- What holds of each closed buffer, with the writer's edition and form and the tree described, holds of the buffer that a run with an accepted close leaves.
+module _ (P : ℕ → List ℕ → List ℕ → Tree → Type 0)
+    (closes : (s : State) (tree : Tree) (g : Invariant s tree) → P (s .writer .edition) (closed s tree g) (s .writer .form) tree) where
   abbrev HoldsFrom : List Call → Type 0
   HoldsFrom cs = (s : State) (tree : Tree) → Invariant s tree → closedBy cs (answersOf s cs) ≡ true
-      → P (applyStores (s .buffer) (storesOf s cs)) (s .writer .form) (treeAfter tree cs (answersOf s cs))
+      → P (s .writer .edition) (applyStores (s .buffer) (storesOf s cs)) (s .writer .form) (treeAfter tree cs (answersOf s cs))
 
   module _ (s : State) (tree : Tree) (g : Invariant s tree) (c : Call) (cs : List Call) (later : HoldsFrom cs) where
     -- The same, after call c.
     abbrev HoldsAfter : Tree → Type 0
     HoldsAfter after =
-        P (applyStores (s .buffer) (step s c .stores ++ storesOf (afterCall s c) cs)) (s .writer .form) (treeAfter after cs (answersOf (afterCall s c) cs))
+        P (s .writer .edition) (applyStores (s .buffer) (step s c .stores ++ storesOf (afterCall s c) cs)) (s .writer .form)
+        (treeAfter after cs (answersOf (afterCall s c) cs))
 
     goes-on : (after : Tree) → Invariant (afterCall s c) after → closedBy cs (answersOf (afterCall s c) cs) ≡ true → HoldsAfter after
     goes-on after kept z =
         let n = afterCall s c in
         let all = applyStores (s .buffer) (step s c .stores ++ storesOf n cs) in
         let shown = treeAfter after cs (answersOf n cs) in
-        subst (λ (f : List ℕ). P all f shown) (step-form s c)
-        (subst (λ (r : List ℕ). P r (n .writer .form) shown) (sym (apply-append (s .buffer) (step s c .stores) (storesOf n cs))) (later n after kept z))
+        subst (λ (e : ℕ). P e all (s .writer .form) shown) (step-edition s c)
+        (subst (λ (f : List ℕ). P (n .writer .edition) all f shown) (step-form s c)
+        (subst (λ (r : List ℕ). P (n .writer .edition) r (n .writer .form) shown) (sym (apply-append (s .buffer) (step s c .stores) (storesOf n cs))) (later n after kept z)))
 
     -- What comes after an accepted close changes nothing.
     closes-buffer : Sleeps s (step s c) → (isAccepted (step s c .answer) && isClose c) ≡ true → HoldsAfter tree

@@ -28,8 +28,8 @@ fn lengths_wrong(buffer: &[u8], form: &[u8], text: &[u8], tree: &[u8]) -> bool
     limits::IMAGE_LIMIT < buffer.len()
 }
 
-// Begins a file of a written edition in a buffer: 1, 3, 21, 23. `edition` is its number: 2. `form` has the 12 bytes that come after the signature text. An accepted begin stores 0
-// at the buffer's place 0, so that nothing opens there until the file is closed, and clears both areas.
+// Begins a file of a written edition in a buffer: 1, 3, 21, 23. `edition` is its number, 2 or 3; `form` has the 12 bytes that come after the signature text. An
+// accepted begin stores 0 at the buffer's place 0, so that nothing opens there until the file is closed, and clears both areas.
 pub fn begin(
     edition: u32,
     buffer: &mut [u8],
