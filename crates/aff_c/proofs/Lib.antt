@@ -4,3 +4,4 @@ mod ReadingLaws
 mod WritingLaws
 mod WithdrawnLaws
 mod PlacesLaws
+mod RecordsLaws

@@ -4,3 +4,4 @@ pub mod Reading
 pub mod Writing
 pub mod Withdrawn
 pub mod Places
+pub mod Records
