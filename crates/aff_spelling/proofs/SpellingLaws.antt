@@ -1,22 +1,25 @@
 -- What is printed for a name: printable bytes only, another text for another name, a subkey of edition 1 or 2 as it is, and a path by its names. Byte by
 -- byte, by whether the byte is printed as it is. Assumes nothing.
 use mathlib.Core.Path.{_≡_, refl, sym, ap, ap₂, _∙_}
-use mathlib.Core.Bool.{Bool, true, false, cond, _&&_, _||_}
+use mathlib.Core.Bool.{Bool, true, false, cond, not, _&&_, _||_, true≢false}
 use mathlib.Core.List.{List, [], _∷_, _++_, append-assoc, append-nil}
 use mathlib.Core.Logic.{_⊎_, inl, inr, ⊎-elim}
 use Prim.Native.Nat.{ℕ, zero, suc, _+_, _*_, _/_, _%_, _≤_, _<_}
 use native.Mathlib.Omega.{arith}
 use lib.Dec.{eqb, ltb, leb}
-use lib.ListN.{length}
+use lib.ListN.{length, getD}
 use borrow.Author.Tests.{not-true, leb-true, eqb-true, eqb-false, ltb-true, ltb-false, le-leb, ne-eqb}
 use Rattle.aff_format.specs.Bytes.{Octets}
+use Rattle.aff_format.specs.Lowest.{lowestFrom}
 use Rattle.aff_format.specs.Subkey.{isLetter, isDigit, narrowFirst, narrowNext, isSubkey, mayBegin, mayFollow, AllFollow, IsSubkey}
 use Rattle.aff_format.specs.Tree.{frontBy, pathBy}
 use Rattle.aff_format.specs.declared.edition.Edition.{Edition}
 use Rattle.aff_format.specs.declared.edition.Edition.the-variants.{One, Two}
+use Rattle.aff_format.specs.declared.lowest.Lowest.the-variants.{Nothing}
 use Rattle.aff_format.proofs.BreaksLaws.{subkey-exact}
+use Rattle.aff_format.proofs.LowestLaws.{none-holds}
 use Rattle.aff_format.proofs.TestLaws.{both}
-use Rattle.aff_spelling.specs.Spelling.{hexDigit, isPlain, shownByte, shown, Printable, Escapes}
+use Rattle.aff_spelling.specs.Spelling.{hexDigit, hexDigits, isPlain, shownByte, shown, Printable, Escapes}
 
 -- ---- One byte.
 
@@ -161,6 +164,44 @@ module _ (parent : ℕ → ℕ) (name : ℕ → List ℕ) where
       go true = shown-plain 47 [] slash-plain ∙ ap (λ (k : List ℕ). 47 ∷ k) shown-nil
       go false = shown-front steps n
 
+-- ---- One byte alone.
+
+one-plain : (x : ℕ) → 33 ≤ x → x ≤ 126 → (x ≡ 92 → ⊥) → shown (x ∷ []) ≡ x ∷ []
+one-plain x a b c = shown-plain x [] (is-plain x a b c) ∙ ap (λ (l : List ℕ). x ∷ l) shown-nil
+
+not-plain : (x : ℕ) → (x < 33) ⊎ ((126 < x) ⊎ (x ≡ 92)) → isPlain x ≡ false
+not-plain x h = go (isPlain x) refl
+  where
+    go : (b : Bool) → isPlain x ≡ b → b ≡ false
+    go false e = refl
+    go true e =
+        let (a, b, c) = plain-is x e in
+        absurd (⊎-elim (λ (i : x < 33). omega arith) (⊎-elim (λ (i : 126 < x). omega arith) c) h)
+
+-- Whether a digit is not the one in the list; of none below 16, by computation.
+unlisted : ℕ → Bool
+unlisted n = not (eqb (hexDigit n) (getD hexDigits n 0))
+
+none-unlisted : lowestFrom unlisted 16 0 ≡ Nothing
+unfolding lowestFrom unlisted hexDigit
+none-unlisted = refl
+
+digit-listed : (n : ℕ) → n < 16 → hexDigit n ≡ getD hexDigits n 0
+unfolding unlisted
+digit-listed n h = go (eqb (hexDigit n) (getD hexDigits n 0)) refl (none-holds unlisted 16 0 none-unlisted n (omega arith) (omega arith))
+  where
+    go : (b : Bool) → eqb (hexDigit n) (getD hexDigits n 0) ≡ b → not b ≡ false → hexDigit n ≡ getD hexDigits n 0
+    go true e q = eqb-true (hexDigit n) (getD hexDigits n 0) e
+    go false e q = absurd (true≢false q)
+
+one-escaped : (x : ℕ) → x < 256 → (x < 33) ⊎ ((126 < x) ⊎ (x ≡ 92))
+    → shown (x ∷ []) ≡ 92 ∷ 120 ∷ getD hexDigits (x / 16) 0 ∷ getD hexDigits (x % 16) 0 ∷ []
+unfolding shownByte
+one-escaped x s h =
+    shown-one x
+    ∙ ap (λ (b : Bool). cond b (x ∷ []) (92 ∷ 120 ∷ hexDigit (x / 16) ∷ hexDigit (x % 16) ∷ [])) (not-plain x h)
+    ∙ ap₂ (λ (a b : ℕ). 92 ∷ 120 ∷ a ∷ b ∷ []) (digit-listed (x / 16) (omega arith)) (digit-listed (x % 16) (omega arith))
+
 -- ---- Subkeys of editions 1 and 2.
 
 or-by : {A : Type 0} (a b : Bool) → (a ≡ true → A) → (b ≡ true → A) → (a || b) ≡ true → A
@@ -207,4 +248,14 @@ pub shown-narrow : (l : List ℕ) → (isSubkey One l ≡ true) ⊎ (isSubkey Tw
 shown-narrow l = ⊎-elim (subkey-shown One first-plain next-plain l) (subkey-shown Two first-plain next-plain l)
 
 pub escapes : Escapes
-escapes = record { printable = shown-printable; one-to-one = shown-injective; narrow = shown-narrow; sizes = length-shown; path = shown-path }
+escapes =
+    record {
+      as-is = one-plain;
+      escaped = one-escaped;
+      joined = shown-append;
+      printable = shown-printable;
+      one-to-one = shown-injective;
+      narrow = shown-narrow;
+      sizes = length-shown;
+      path = shown-path;
+    }

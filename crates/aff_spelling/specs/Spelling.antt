@@ -40,8 +40,19 @@ spelled Escaped l = shown l
 abbrev pub Printable : List ℕ → Type 0
 Printable l = (i : ℕ) → i < length l → (33 ≤ getD l i 0) × (getD l i 0 ≤ 126)
 
+-- The small hex digits as characters: '0' to '9', 'a' to 'f'.
+abbrev pub hexDigits : List ℕ
+hexDigits = 48 ∷ 49 ∷ 50 ∷ 51 ∷ 52 ∷ 53 ∷ 54 ∷ 55 ∷ 56 ∷ 57 ∷ 97 ∷ 98 ∷ 99 ∷ 100 ∷ 101 ∷ 102 ∷ []
+
 -- What is proved of `shown`: `escapes` in proofs/SpellingLaws.antt.
 pub record Escapes : Type 0 where
+  -- A byte from 33 to 126 other than 92 is printed as it is.
+  pub as-is : (x : ℕ) → 33 ≤ x → x ≤ 126 → (x ≡ 92 → ⊥) → shown (x ∷ []) ≡ x ∷ []
+  -- Any other byte as `\x` and two small hex digits.
+  pub escaped : (x : ℕ) → x < 256 → (x < 33) ⊎ ((126 < x) ⊎ (x ≡ 92))
+      → shown (x ∷ []) ≡ 92 ∷ 120 ∷ getD hexDigits (x / 16) 0 ∷ getD hexDigits (x % 16) 0 ∷ []
+  -- A text is printed byte by byte.
+  pub joined : (l m : List ℕ) → shown (l ++ m) ≡ shown l ++ shown m
   -- Of bytes, only bytes from 33 to 126 are printed.
   pub printable : (l : List ℕ) → Octets l → Printable (shown l)
   -- Two different names are printed differently.
