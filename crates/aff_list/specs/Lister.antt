@@ -2,6 +2,7 @@
 use mathlib.Core.Path.{_≡_}
 use mathlib.Core.Bool.{Bool, true, cond}
 use mathlib.Core.List.{List, [], _∷_, _++_}
+use mathlib.Core.Logic.{_↔_}
 use Prim.Native.Nat.{ℕ, _+_, _≤_, _<_}
 use lib.Dec.{ltb}
 use lib.ListN.{length, getD, take, drop, replicate}
@@ -15,7 +16,7 @@ use Rattle.aff_open.specs.Opening.{openAnswer, verdictOf, stringsAfter, entries
 use Rattle.aff_open.specs.Sections.{formFor}
 use Rattle.aff_reader.specs.declared.reader.Reader.{Reader}
 use Rattle.aff_read.specs.Paths.{frontWritten}
-use Rattle.aff_listing.specs.ListingOrder.{listingOrder, listedCount}
+use Rattle.aff_listing.specs.ListingOrder.{isListed, listingOrder, listedCount}
 use Rattle.aff_listing.specs.Once.{occurrences}
 use Rattle.aff_nodes.specs.Recall.{kindAt, pathAt}
 use Rattle.aff_listing.specs.declared.choice.Choice.{Choice}
@@ -174,6 +175,11 @@ zeroArea = replicate 2048 0
 unfoldable pub printed : Choice → List ℕ → List ℕ
 printed choice input = cond (isLong input) tooLongLine (listed input choice zeroArea zeroArea)
 
+-- Of the nodes that a choice lists, one has a path of more than 65,536 bytes. Its own bytes count, not those that are printed for them.
+abbrev pub LongPath : List ℕ → Reader → List ℕ → List ℕ → Choice → Type 0
+LongPath image reader strings entries choice =
+    (node : ℕ) × (node ≤ reader .nodes) × (isListed image entries choice node ≡ true) × (65536 < length (pathAt image reader strings entries node))
+
 -- What is proved of these definitions: `printing` in proofs/PrintedLaws.antt.
 pub record Printing : Type 0 where
   -- The limit of `inDecimal` cuts no number off: any larger one gives the same digits.
@@ -193,6 +199,10 @@ pub record Printing : Type 0 where
       → openAnswer input (formFor input) (length strings) (length entries) ≡ accepted r
       → ((node : ℕ) → node ≤ r .nodes → isVoid (kindAt input (entriesAfter input (formFor input) strings entries) node) ≡ true)
       → printed NotVoid input ≡ []
+  -- A file that opens: 21 exactly where a node listed has a path that is too long.
+  pub long-path : (choice : Choice) (input strings entries : List ℕ) {r : Reader} → openAnswer input (formFor input) (length strings) (length entries) ≡ accepted r
+      → (judged input choice strings entries ≡ refused (refusal 21))
+      ↔ LongPath input r (stringsAfter input (formFor input) strings entries) (entriesAfter input (formFor input) strings entries) choice
   -- The first block, and the blocks filled one after another from the place where it ends: their bytes in that order are what is printed.
   pub in-order : (choice : Choice) {input : List ℕ} {reader : Reader} {strings entries numbers : List ℕ} {lines next used : ℕ} {before after rest : List ℕ}
       → Starts input reader strings entries (printed choice input) numbers lines next used before after
