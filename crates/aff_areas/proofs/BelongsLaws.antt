@@ -3,7 +3,7 @@
 use mathlib.Core.Path.{_≡_, refl, sym, ap, _∙_}
 use mathlib.Core.Bool.{Bool, true, false, _&&_, and-false, true≢false}
 use mathlib.Core.List.{List, _++_}
-use Prim.Native.Nat.{ℕ, _+_, _*_, _≤_, _<_}
+use Prim.Native.Nat.{ℕ, _+_, _-_, _*_, _≤_, _<_}
 use native.Mathlib.Omega.{arith}
 use lib.Dec.{eqb, leb}
 use lib.ListN.{length}
@@ -33,7 +33,7 @@ use Rattle.aff_format.proofs.EntryLaws.{data-asks}
 use Rattle.aff_format.specs.Edition.{namesWritten}
 use Rattle.aff_areas.specs.Areas.{usedText, namesIn, foundSlot, slotEntry, entrySizes, finishedSize}
 use Rattle.aff_areas.specs.Belongs.{writerBelongs, WriterBelongs, writerSizesBelong, textBelongs, slotLost, writerNodeLost, writerNodesBelong, writerChecks}
-use Rattle.aff_areas.specs.Writer.{dataPlace, noWriter}
+use Rattle.aff_areas.specs.Writer.{dataPlace, dataSize, noWriter}
 use Rattle.aff_areas.specs.declared.writer.Writer.{Writer}
 use Rattle.aff_areas.proofs.AreaLaws.{slot-found}
 
@@ -89,20 +89,26 @@ unfolding textBelongs
 zeros-decide writer text h = rw (h, strings-zeros (usedText writer text) h)
 
 module _ (writer : Writer) (tree : List ℕ) where
-  pub lost-decides : {k from : ℕ} → from ≡ dataPlace writer → lowestFrom (writerNodeLost (writer .strings) from (writer .«data») tree) (writer .nodes) 1 ≡ At k → writerNodesBelong writer tree ≡ false
+  pub header-decides : writer .end < dataPlace writer → writerNodesBelong writer tree ≡ false
   unfolding writerNodesBelong
-  lost-decides p h = rw (← p, h)
+  header-decides h = rw (lt-leb (dataPlace writer) (writer .end) h)
 
-  pub size-decides : {from : ℕ} → from ≡ dataPlace writer → lowestFrom (writerNodeLost (writer .strings) from (writer .«data») tree) (writer .nodes) 1 ≡ Nothing
+  pub lost-decides : {k from : ℕ} → from ≡ dataPlace writer → lowestFrom (writerNodeLost (writer .strings) from (writer .end - from) tree) (writer .nodes) 1 ≡ At k
+      → writerNodesBelong writer tree ≡ false
+  unfolding writerNodesBelong
+  lost-decides p h = rw (← p, h, and-false)
+
+  pub size-decides : {from : ℕ} → from ≡ dataPlace writer → dataPlace writer ≤ writer .end
+      → lowestFrom (writerNodeLost (writer .strings) from (writer .end - from) tree) (writer .nodes) 1 ≡ Nothing
       → writerNodesBelong writer tree ≡ leb (finishedSize writer tree) (writer .length)
   unfolding writerNodesBelong
-  size-decides p h = rw (← p, h)
+  size-decides p l h = rw (le-leb (dataPlace writer) (writer .end) l, ← p, h)
 
   -- The finished size does not fit where header and data do not.
-  pub data-decide : writer .length < dataPlace writer + writer .«data» → writerNodesBelong writer tree ≡ false
+  pub end-decides : writer .length < writer .end → writerNodesBelong writer tree ≡ false
   unfolding writerNodesBelong finishedSize
-  data-decide h =
-      rw (lt-leb (dataPlace writer + writer .«data» + writer .text + entrySizes tree (writer .nodes)) (writer .length) (omega arith), and-false)
+  end-decides h =
+      simp (lt-leb (writer .end + writer .text + entrySizes tree (writer .nodes)) (writer .length) (omega arith), and-false)
 
 -- ---- Nodes.
 
@@ -147,9 +153,12 @@ belongs-record {size} {writer} {text} {tree} h =
     let p = both (writerSizesBelong size writer text tree) (textBelongs writer text && writerNodesBelong writer tree) (w .1) in
     let q = both (textBelongs writer text) (writerNodesBelong writer tree) (p .1) in
     let t = both (endsInZero (usedText writer text)) (eqb (length (namesIn writer text)) (writer .strings)) (q .0) in
-    let n = both (noneFrom (writerNodeLost (writer .strings) (dataPlace writer) (writer .«data») tree) (writer .nodes) 1) (leb (finishedSize writer tree) (writer .length)) (q .1) in
+    let none = noneFrom (writerNodeLost (writer .strings) (dataPlace writer) (dataSize writer) tree) (writer .nodes) 1 in
+    let d = both (leb (dataPlace writer) (writer .end)) (none && leb (finishedSize writer tree) (writer .length)) (q .1) in
+    let n = both none (leb (finishedSize writer tree) (writer .length)) (d .1) in
     let s = sizes-hold size writer text tree (p .0) in
-    let node = nodes-kept (writer .strings) (dataPlace writer) (writer .«data») (writer .nodes) tree (none-at _ (not-true _ (n .0))) in
+    let after = leb-true (dataPlace writer) (writer .end) (d .0) in
+    let node = nodes-kept (writer .strings) (dataPlace writer) (dataSize writer) (writer .nodes) tree (none-at _ (not-true _ (n .0))) in
     record {
       edition-written = names-written (writer .edition) (w .0);
       length-recorded = s .0;
@@ -164,8 +173,9 @@ belongs-record {size} {writer} {text} {tree} h =
       slot-whole = λ k l m. node k l m .0;
       parent-lower = λ k l m. node k l m .1 .parent;
       string-exists = λ k l m. node k l m .1 .string;
+      end-after-header = after;
       data-begins = λ k l m v. node k l m .1 .inside v .0;
-      data-ends = λ k l m v. node k l m .1 .inside v .1;
+      data-ends = λ k l m v. omega (arith, node k l m .1 .inside v .1, after);
       size-fits = leb-true _ _ (n .1);
     }
 
@@ -179,24 +189,33 @@ module _ {size : ℕ} {writer : Writer} {text tree : List ℕ} (b : WriterBelong
   unfolding textBelongs
   text-true = rw (b .text-ends) (eq-eqb _ _ (b .text-strings))
 
-  nodes-none : lowestFrom (writerNodeLost (writer .strings) (dataPlace writer) (writer .«data») tree) (writer .nodes) 1 ≡ Nothing
+  nodes-none : lowestFrom (writerNodeLost (writer .strings) (dataPlace writer) (dataSize writer) tree) (writer .nodes) 1 ≡ Nothing
   unfolding writerNodeLost
   nodes-none =
       holds-none _ (writer .nodes) 1
       (λ k l m.
       let h : k ≤ writer .nodes = omega arith in
-      kept-slot (writer .strings) (dataPlace writer) (writer .«data») k (slotEntry tree k) (foundSlot tree k) (b .slot-whole k l h)
+      kept-slot (writer .strings) (dataPlace writer) (dataSize writer) k (slotEntry tree k) (foundSlot tree k) (b .slot-whole k l h)
       (record {
         parent = b .parent-lower k l h;
         string = b .string-exists k l h;
-        inside = λ v. (b .data-begins k l h v, b .data-ends k l h v);
+        inside = λ v. (b .data-begins k l h v, omega (arith, b .data-ends k l h v, b .end-after-header));
       }))
 
   pub record-belongs : writerBelongs size writer text tree ≡ true
   record-belongs =
       nodes-decide size writer text tree (written-named (writer .edition) (b .edition-written)) sizes-true text-true
-      ∙ size-decides writer tree refl nodes-none
+      ∙ size-decides writer tree refl (b .end-after-header) nodes-none
       ∙ le-leb (finishedSize writer tree) (writer .length) (b .size-fits)
+
+-- The end of data is inside the finished size, so that of a record that belongs is inside the buffer: what `finished_size` asks for.
+pub end-inside : (writer : Writer) (tree : List ℕ) → writer .end ≤ finishedSize writer tree
+unfolding finishedSize
+end-inside writer tree = omega arith
+
+pub sizes-small : {size : ℕ} {writer : Writer} {text tree : List ℕ} → WriterBelongs size writer text tree
+    → (writer .end ≤ imageLimit) × (writer .text ≤ textArea) × (writer .nodes ≤ nodeLimit)
+sizes-small {size} {writer} {text} {tree} b = (omega (arith, end-inside writer tree, b .size-fits, b .length-allowed), b .text-inside, b .few-nodes)
 
 -- The all-zero record never belongs: its edition, 0, does not exist.
 pub none-belongs : (size : ℕ) (text tree : List ℕ) → writerBelongs size noWriter text tree ≡ false

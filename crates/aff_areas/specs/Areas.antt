@@ -9,7 +9,6 @@ use Rattle.aff_format.specs.Kind.{entrySize, isVoid}
 use Rattle.aff_format.specs.Strings.{stringsOf}
 use Rattle.aff_format.specs.declared.entry.Entry.{Entry}
 use Rattle.aff_format.specs.declared.entry.FoundEntry.{FoundEntry}
-use Rattle.aff_areas.specs.Writer.{dataPlace}
 use Rattle.aff_areas.specs.declared.writer.Writer.{Writer}
 
 -- The used part of the text area, and the strings in it.
@@ -50,6 +49,6 @@ unfoldable pub dataNodes : List ℕ → ℕ → ℕ
 dataNodes tree zero = 0
 dataNodes tree (suc n) = dataNodes tree n + cond (isVoid (slotEntry tree (n + 1) .kind)) 0 1
 
--- Finished size: the header, data bytes, string bytes with their zeros, 13 for each Void node, 25 for each other.
+-- Finished size: header and data up to their end, padding included; string bytes with their zeros; 13 for each Void node, 25 for each other.
 unfoldable pub finishedSize : Writer → List ℕ → ℕ
-finishedSize writer tree = dataPlace writer + writer .«data» + writer .text + entrySizes tree (writer .nodes)
+finishedSize writer tree = writer .end + writer .text + entrySizes tree (writer .nodes)

@@ -15,7 +15,7 @@ use Rattle.aff_format.specs.declared.entry.FoundEntry.the-variants.{Whole, Brok
 use Rattle.aff_format.specs.Lowest.{noneFrom}
 use Rattle.aff_format.specs.Entry.{noString, outside}
 use Rattle.aff_areas.specs.Areas.{usedText, namesIn, foundSlot, slotEntry, finishedSize}
-use Rattle.aff_areas.specs.Writer.{dataPlace}
+use Rattle.aff_areas.specs.Writer.{dataPlace, dataSize}
 use Rattle.aff_areas.specs.declared.writer.Writer.{Writer}
 
 -- ---- As a test.
@@ -42,10 +42,12 @@ slotLost strings from size k (Whole e) = leb k (e .parent) || (noString strings 
 unfoldable pub writerNodeLost : ℕ → ℕ → ℕ → List ℕ → ℕ → Bool
 writerNodeLost strings from size tree k = slotLost strings from size k (foundSlot tree k)
 
--- The nodes, and the finished size, which has to fit.
+-- What was put begins after the header, so the data do not end inside it; then the nodes, and the finished size, which has to fit.
 unfoldable pub writerNodesBelong : Writer → List ℕ → Bool
 writerNodesBelong writer tree =
-    noneFrom (writerNodeLost (writer .strings) (dataPlace writer) (writer .«data») tree) (writer .nodes) 1 && leb (finishedSize writer tree) (writer .length)
+    leb (dataPlace writer) (writer .end)
+    && (noneFrom (writerNodeLost (writer .strings) (dataPlace writer) (dataSize writer) tree) (writer .nodes) 1
+    && leb (finishedSize writer tree) (writer .length))
 
 -- For a buffer of so many bytes.
 unfoldable pub writerBelongs : ℕ → Writer → List ℕ → List ℕ → Bool
@@ -68,13 +70,15 @@ pub record WriterBelongs (size : ℕ) (writer : Writer) (text tree : List ℕ) :
   -- The text area holds the recorded number of strings, each with its zero, in the recorded length.
   pub text-ends : endsInZero (usedText writer text) ≡ true
   pub text-strings : length (namesIn writer text) ≡ writer .strings
+  -- The data do not end inside the header (request C-22).
+  pub end-after-header : dataPlace writer ≤ writer .end
   -- Each entry has a type that exists, a parent lower than the node, a string that exists, and data inside what was put.
   pub slot-whole : (k : ℕ) → 0 < k → k ≤ writer .nodes → foundSlot tree k ≡ Whole (slotEntry tree k)
   pub parent-lower : (k : ℕ) → 0 < k → k ≤ writer .nodes → slotEntry tree k .parent < k
   pub string-exists : (k : ℕ) → 0 < k → k ≤ writer .nodes → slotEntry tree k .string < writer .strings
   pub data-begins : (k : ℕ) → 0 < k → k ≤ writer .nodes → isVoid (slotEntry tree k .kind) ≡ false → dataPlace writer ≤ slotEntry tree k .offset
   pub data-ends : (k : ℕ) → 0 < k → k ≤ writer .nodes → isVoid (slotEntry tree k .kind) ≡ false
-      → slotEntry tree k .offset + slotEntry tree k .count * elementSize (slotEntry tree k .kind) ≤ dataPlace writer + writer .«data»
+      → slotEntry tree k .offset + slotEntry tree k .count * elementSize (slotEntry tree k .kind) ≤ writer .end
   -- The finished size fits.
   pub size-fits : finishedSize writer tree ≤ writer .length
 

@@ -1,7 +1,7 @@
 -- The writer's record, and what a call leaves of it: document 01, 'Writing keys' and 'Numbers handed back'.
 use mathlib.Core.Bool.{Bool, true, false, cond, not}
 use mathlib.Core.List.{List, [], _∷_}
-use Prim.Native.Nat.{ℕ}
+use Prim.Native.Nat.{ℕ, _-_}
 use lib.Dec.{eqb}
 use lib.ListN.{replicate}
 use Rattle.aff_format.specs.Answer.{Answer, accepted, refused}
@@ -17,13 +17,18 @@ writerEdition w = editionBy (w .edition)
 abbrev pub dataPlace : Writer → ℕ
 dataPlace w = headerSize (writerEdition w)
 
+-- Bytes of the data section: from there to the end of data, padding included.
+abbrev pub dataSize : Writer → ℕ
+dataSize w = w .end - dataPlace w
+
 -- The all-zero record: what a begin refused by 1, 3 or 21 leaves.
 abbrev pub noWriter : Writer
-noWriter = record { length = 0; edition = 0; form = replicate 12 0; strings = 0; text = 0; nodes = 0; «data» = 0; live = false }
+noWriter = record { length = 0; edition = 0; form = replicate 12 0; strings = 0; text = 0; nodes = 0; end = 0; live = false }
 
--- The record of an accepted begin.
+-- The record of an accepted begin. No data yet: they end where they begin.
 abbrev pub freshWriter : ℕ → ℕ → List ℕ → Writer
-freshWriter edition size form = record { length = size; edition = edition; form = form; strings = 0; text = 0; nodes = 0; «data» = 0; live = true }
+freshWriter edition size form =
+    record { length = size; edition = edition; form = form; strings = 0; text = 0; nodes = 0; end = headerSize (editionBy edition); live = true }
 
 -- The record, but closed or stopped.
 abbrev pub stopped : Writer → Writer
@@ -35,7 +40,7 @@ stopped w =
       strings = w .strings;
       text = w .text;
       nodes = w .nodes;
-      «data» = w .«data»;
+      end = w .end;
       live = false;
     }
 

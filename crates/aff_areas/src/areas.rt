@@ -37,7 +37,7 @@ pub fn slot_entry(tree: &[u8], node: usize) -> Entry
 }
 
 // Bytes of a node's entry in a file.
-pub fn entry_size(tree: &[u8], node: usize) -> usize
+fn entry_size(tree: &[u8], node: usize) -> usize
     requires { ⌜ node ≤ nodeLimit ⌝ }
     ensures { λ r. ⌜ (r ≡ entrySize (slotEntry (now (tree .entry)) node .kind)) × (r ≤ 25) ⌝ }
 {
@@ -47,7 +47,7 @@ pub fn entry_size(tree: &[u8], node: usize) -> usize
 }
 
 // Bytes of the entries of the nodes in a file. One pass over the nodes.
-pub fn entry_sizes(tree: &[u8], nodes: usize) -> usize
+fn entry_sizes(tree: &[u8], nodes: usize) -> usize
     requires { ⌜ nodes ≤ nodeLimit ⌝ }
     ensures { λ r. ⌜ (r ≡ entrySizes (now (tree .entry)) nodes) × (r ≤ 25 * nodes) ⌝ }
 {
@@ -60,12 +60,12 @@ pub fn entry_sizes(tree: &[u8], nodes: usize) -> usize
     size
 }
 
-// Finished size: the header, data, text, entries.
+// Finished size: header and data up to their end, text, entries.
 pub fn finished_size(writer: Writer, tree: &[u8]) -> usize
-    requires { ⌜ (writer .«data» ≤ imageLimit) × (writer .text ≤ textArea) × (writer .nodes ≤ nodeLimit) ⌝ }
+    requires { ⌜ (writer .end ≤ imageLimit) × (writer .text ≤ textArea) × (writer .nodes ≤ nodeLimit) ⌝ }
     ensures { λ r. ⌜ r ≡ finishedSize writer (now (tree .entry)) ⌝ }
 {
-    writer.data_place() + writer.data + writer.text + entry_sizes(tree, writer.nodes)
+    writer.end + writer.text + entry_sizes(tree, writer.nodes)
 }
 
 // 1 for a node that is not Void, else 0.

@@ -115,19 +115,19 @@ fn lost_node(tree: &[u8], nodes: usize, strings: usize, from: usize, size: usize
     Lowest::Nothing
 }
 
-// Whether the nodes and the finished size belong. The data size is bounded by the buffer before anything is added to it.
+// Whether the end of data, the nodes and the finished size belong. The end is bounded by the buffer before anything is added to it.
 fn nodes_belong(writer: Writer, tree: &[u8]) -> bool
     requires { ⌜ (writer .length ≤ imageLimit) × (writer .text ≤ textArea) × (writer .nodes ≤ nodeLimit) ⌝ }
     ensures { λ r. ⌜ r ≡ writerNodesBelong writer (now (tree .entry)) ⌝ }
 {
     let header = writer.data_place();
-    if writer.length < header {
+    if writer.end < header {
         return false;
     }
-    if writer.length - header < writer.data {
+    if writer.length < writer.end {
         return false;
     }
-    match lost_node(tree, writer.nodes, writer.strings, header, writer.data) {
+    match lost_node(tree, writer.nodes, writer.strings, header, writer.end - header) {
         Lowest::At(_) => false,
         Lowest::Nothing => { areas::finished_size(writer, tree) <= writer.length }
     }

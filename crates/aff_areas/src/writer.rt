@@ -12,7 +12,7 @@ ghost use Rattle.aff_format.specs.declared.verdict.NumberAnswer.the-variants as
 ghost use Rattle.aff_areas.specs.Writer.{dataPlace, noWriter, freshWriter, stopped};
 
 // What begin, make and put leave for the next call: the buffer's length, the number of the edition, the 12 bytes of form, how many strings and how many bytes of text,
-// how many nodes, how many bytes of data, and whether the file is neither closed nor stopped.
+// how many nodes, the place where the data end, and whether the file is neither closed nor stopped.
 pub struct Writer {
     pub length: usize,
     pub edition: u32,
@@ -20,7 +20,7 @@ pub struct Writer {
     pub strings: usize,
     pub text: usize,
     pub nodes: usize,
-    pub data: usize,
+    pub end: usize,
     pub live: bool,
 }
 
@@ -42,17 +42,18 @@ impl Writer {
             strings: 0,
             text: 0,
             nodes: 0,
-            data: 0,
+            end: 0,
             live: false,
         }
     }
 
-    // The record of an accepted begin.
+    // The record of an accepted begin. No data yet: they end where they begin.
     pub fn fresh(edition: u32, size: usize, form: &[u8]) -> Writer
         requires { ⌜ length (now form) ≡ 12 ⌝ }
         ensures { λ r. ⌜ r ≡ freshWriter edition size (now (form .entry)) ⌝ }
     {
         let bytes = form_of(form);
+        let known = Edition::by_number(edition);
         Writer {
             length: size,
             edition,
@@ -60,7 +61,7 @@ impl Writer {
             strings: 0,
             text: 0,
             nodes: 0,
-            data: 0,
+            end: known.header_size(),
             live: true,
         }
     }
@@ -85,7 +86,7 @@ impl Writer {
             strings: self.strings,
             text: self.text,
             nodes: self.nodes,
-            data: self.data,
+            end: self.end,
             live: false,
         }
     }
@@ -93,7 +94,7 @@ impl Writer {
     // The record with one node more, and so many strings and so many bytes of text.
     pub fn with_child(self, strings: usize, text: usize) -> Writer
         requires { ⌜ (self .nodes < nodeLimit) × (self .strings + strings < 2 ^ 63) × (self .text + text < 2 ^ 63) ⌝ }
-        ensures { λ r. ⌜ r ≡ record { length = self .length; edition = self .edition; form = self .form; strings = self .strings + strings; text = self .text + text; nodes = self .nodes + 1; «data» = self .«data»; live = self .live } ⌝ }
+        ensures { λ r. ⌜ r ≡ record { length = self .length; edition = self .edition; form = self .form; strings = self .strings + strings; text = self .text + text; nodes = self .nodes + 1; end = self .end; live = self .live } ⌝ }
     {
         let form = self.form;
         Writer {
@@ -103,15 +104,14 @@ impl Writer {
             strings: self.strings + strings,
             text: self.text + text,
             nodes: self.nodes + 1,
-            data: self.data,
+            end: self.end,
             live: self.live,
         }
     }
 
-    // The record with so many bytes of data more.
-    pub fn with_data(self, size: usize) -> Writer
-        requires { ⌜ self .«data» + size < 2147483648 ⌝ }
-        ensures { λ r. ⌜ r ≡ record { length = self .length; edition = self .edition; form = self .form; strings = self .strings; text = self .text; nodes = self .nodes; «data» = self .«data» + size; live = self .live } ⌝ }
+    // The record with another end of data.
+    pub fn with_end(self, end: usize) -> Writer
+        ensures { λ r. ⌜ r ≡ record { length = self .length; edition = self .edition; form = self .form; strings = self .strings; text = self .text; nodes = self .nodes; end = end; live = self .live } ⌝ }
     {
         let form = self.form;
         Writer {
@@ -121,7 +121,7 @@ impl Writer {
             strings: self.strings,
             text: self.text,
             nodes: self.nodes,
-            data: self.data + size,
+            end,
             live: self.live,
         }
     }

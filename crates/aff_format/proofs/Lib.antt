@@ -20,6 +20,7 @@ pub mod PathLaws
 pub mod BreaksLaws
 pub mod StringsLaws
 pub mod EntryLaws
+pub mod AlignLaws
 pub mod SlotLaws
 pub mod RecordedLaws
 pub mod ClimbLaws

@@ -15,6 +15,7 @@ pub mod Path
 pub mod Breaks
 pub mod Strings
 pub mod Entry
+pub mod Align
 pub mod Recorded
 pub mod Tree
 pub mod Limits

@@ -13,6 +13,7 @@ pub mod subkey; // the rule for a subkey
 pub mod path; // the grammar of a path
 pub mod entry; // tree entries
 pub mod data; // where an entry's data are
+pub mod align; // multiples of 8
 pub mod recorded; // strings and entries by their places
 
 pub use edition::Edition;

@@ -11,7 +11,7 @@ use borrow.Author.Tests.{lt-ltb, le-ltb, ltb-false}
 use Rattle.aff_format.specs.Answer.{accepted, refused, Check, firstWrong}
 use Rattle.aff_format.specs.Bytes.{spliced, laidOver}
 use Rattle.aff_format.specs.Entry.{slotBytes}
-use Rattle.aff_format.specs.Limits.{imageLimit, stringLimit, nodeLimit, textArea}
+use Rattle.aff_format.specs.Limits.{stringLimit, nodeLimit, textArea}
 use Rattle.aff_format.specs.Lowest.{lowestFrom, isAt}
 use Rattle.aff_format.specs.Refusal.{codeOfRefusal}
 use Rattle.aff_format.specs.Strings.{isIn, indexIn}
@@ -110,11 +110,7 @@ module _ (writer : Writer) (text name : List ℕ) where
   unfolding madeTree
   tree-made tree parent string is = rw (← is)
 
--- The data have room, and the buffer's length is the recorded one.
-pub data-small : {size : ℕ} {writer : Writer} {text tree : List ℕ} → WriterBelongs size writer text tree → writer .«data» ≤ imageLimit
-unfolding finishedSize
-data-small b = omega (arith, b .size-fits, b .length-allowed)
-
+-- The buffer's length is the recorded one.
 pub belongs-own : {size : ℕ} {writer : Writer} {text tree : List ℕ} → WriterBelongs size writer text tree → WriterBelongs (writer .length) writer text tree
 belongs-own {size} {writer} {text} {tree} b = subst (λ (n : ℕ). WriterBelongs n writer text tree) (b .length-recorded) b
 

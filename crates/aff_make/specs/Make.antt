@@ -43,7 +43,7 @@ module _ (writer : Writer) (text : List ℕ) where
         strings = writer .strings + addedStrings name;
         text = writer .text + addedText name;
         nodes = writer .nodes + 1;
-        «data» = writer .«data»;
+        end = writer .end;
         live = writer .live;
       }
 

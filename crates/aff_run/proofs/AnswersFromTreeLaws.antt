@@ -9,6 +9,7 @@ use lib.Dec.{eqb, ltb}
 use lib.ListN.{length, take, drop, length-append, length-drop}
 use lib.Seq.{length-take-le}
 use borrow.Author.Tests.{eqb-false, ltb-false, not-false}
+use Rattle.aff_format.specs.Align.{padding}
 use Rattle.aff_format.specs.Edition.{headerSize, editionBy, namesWritten, NamesWritten}
 use Rattle.aff_format.specs.declared.edition.Edition.{Edition}
 use Rattle.aff_format.proofs.EditionLaws.{names-written}
@@ -32,11 +33,12 @@ use Rattle.aff_areas.proofs.BelongsLaws.{record-belongs, none-belongs}
 use Rattle.aff_areas.proofs.StoreLaws.{length-storesFrom, apply-length}
 use Rattle.aff_write.specs.Begin.{beginStores}
 use Rattle.aff_write.specs.Close.{symbolsPlace, treePlace, closeHeader, closeStores, storeChecks}
+use Rattle.aff_write.proofs.PutLaws.{length-putStores}
 use Rattle.aff_make.specs.Make.{addedText, tooMany, isChild, childExists, childChecks}
-use Rattle.aff_write.specs.Put.{takesNone, wrongData, dataKind, putPlace, dataChecks}
+use Rattle.aff_write.specs.Put.{takesNone, wrongData, dataKind, putPlace, putStores, dataChecks}
 use Rattle.aff_run.specs.TreeSizes.{withChild, withData, sizeOf}
 use Rattle.aff_run.specs.AnswersFromTree.{hasChild, tooLarge, closeNeeds, callChecks, callValue, callAnswer, stops, AnswersFromTree, AllWrongRecord}
-use Rattle.aff_run.specs.Run.{Call, make, put, close, State, Step, step, afterCall, answersOf, beginStep, isAccepted, applyCall, Run, runBegin, runStart, runAnswers, runStores}
+use Rattle.aff_run.specs.Run.{Call, make, put, close, State, Step, step, afterCall, answersOf, beginStep, isAccepted, applyCall, callEnd, Run, runBegin, runStart, runAnswers, runStores}
 use Rattle.aff_run.proofs.BeginRefusedLaws.{begin-spent, asleep, none-run}
 use Rattle.aff_run.proofs.InvariantLaws.{Invariant, used-text, names-in, entry-in, stored-in, name-in, entries-in, sizes-in-bytes, size-in, invariant-belongs}
 use Rattle.aff_run.proofs.NamesLaws.{names-snoc}
@@ -44,8 +46,8 @@ use Rattle.aff_run.proofs.MakeInvariantLaws.{child, size-child, length-
 use Rattle.aff_run.proofs.PutInvariantLaws.{data-right, size-after}
 use Rattle.aff_run.proofs.ClosedLaws.{length-header}
 use Rattle.aff_run.proofs.StepLaws.{belongsIn, ownChecks, ownValue, answer-judged, judged-awake, asleep-step, asleep-next}
-use Rattle.aff_run.proofs.RunLaws.{step-edition, Sleeps, sleeps-asleep, Outcome, goesOn, ends, outcome}
-use Rattle.aff_run.proofs.BeginInvariantLaws.{begin-edition, lengths-right, empty-invariant, begin-invariant}
+use Rattle.aff_run.proofs.RunLaws.{step-edition, step-end, Sleeps, sleeps-asleep, Outcome, goesOn, ends, outcome}
+use Rattle.aff_run.proofs.BeginInvariantLaws.{begin-edition, begin-end, lengths-right, empty-invariant, begin-invariant}
 
 -- ---- Checks that agree.
 
@@ -78,7 +80,7 @@ stores-length p q x e h l =
 
 -- ---- In a state with the invariant.
 
-module _ (s : State) (tree : Tree) (g : Invariant s tree) where
+module _ (s : State) (tree : Tree) {offsets : List ℕ} (g : Invariant s tree offsets) where
   it-belongs : belongsIn s ≡ true
   it-belongs = record-belongs (invariant-belongs s tree g)
 
@@ -105,13 +107,13 @@ module _ (s : State) (tree : Tree) (g : Invariant s tree) where
       rw (names-snoc tree (child parent name), length-snoc tree (child parent name)) (three-over (ap (λ (n : ℕ). n + 1) (g .nodes-count)) (strings-now s tree g name) (text-now s tree g name))
 
   child-size : (parent : ℕ) (name : List ℕ)
-      → ltb (s .writer .length) (finishedSize (s .writer) (s .tree) + 13 + addedText (s .writer) (s .text) name) ≡ ltb (length (s .buffer)) (sizeOf (writerEdition (s .writer)) (withChild tree parent name))
+      → ltb (s .writer .length) (finishedSize (s .writer) (s .tree) + 13 + addedText (s .writer) (s .text) name) ≡ ltb (length (s .buffer)) (sizeOf (s .writer .end) (withChild tree parent name))
   child-size parent name =
-      let e : finishedSize (s .writer) (s .tree) + 13 + addedText (s .writer) (s .text) name ≡ sizeOf (writerEdition (s .writer)) (withChild tree parent name) =
-      rw (size-in s tree g, names-in s tree g) (sym (size-child (writerEdition (s .writer)) tree parent name)) in
+      let e : finishedSize (s .writer) (s .tree) + 13 + addedText (s .writer) (s .text) name ≡ sizeOf (s .writer .end) (withChild tree parent name) =
+      rw (size-in s tree g, names-in s tree g) (sym (size-child (s .writer .end) tree parent name)) in
       ap₂ ltb (sym (g .buffer-length)) e
 
-  make-agrees : (parent : ℕ) (name : List ℕ) → Agree (childChecks (s .writer) (s .text) (s .tree) parent name) (callChecks (writerEdition (s .writer)) (length (s .buffer)) tree (make parent name))
+  make-agrees : (parent : ℕ) (name : List ℕ) → Agree (childChecks (s .writer) (s .text) (s .tree) parent name) (callChecks (writerEdition (s .writer)) (length (s .buffer)) (s .writer .end) tree (make parent name))
   make-agrees parent name = (
     ap (λ (n : ℕ). ltb n parent) (g .nodes-count),
     refl,
@@ -119,6 +121,9 @@ module _ (s : State) (tree : Tree) (g : Invariant s tree) where
   )
 
   -- ---- Put.
+
+  put-needs : (bytes : List ℕ) → length (putStores (s .writer) bytes) ≡ padding (s .writer .end) + length bytes
+  put-needs = length-putStores (s .writer)
 
   takes-same : (node : ℕ) → node ≤ length tree → takesNone (s .tree) node ≡ (eqb node 0 || not (isVoid (treeNode tree node .kind)))
   unfolding takesNone
@@ -128,19 +133,19 @@ module _ (s : State) (tree : Tree) (g : Invariant s tree) where
 
   data-size : (node type : ℕ) (bytes : List ℕ) → ltb (length tree) node ≡ false → (eqb node 0 || not (isVoid (treeNode tree node .kind))) ≡ false
       → wrongData (kindOf type) (length bytes) ≡ false
-      → ltb (s .writer .length) (finishedSize (s .writer) (s .tree) + 12 + length bytes) ≡ ltb (length (s .buffer)) (sizeOf (writerEdition (s .writer)) (withData tree node (dataKind (kindOf type)) bytes))
+      → ltb (s .writer .length) (finishedSize (s .writer) (s .tree) + 12 + padding (s .writer .end) + length bytes) ≡ ltb (length (s .buffer)) (sizeOf (putPlace (s .writer) + length bytes) (withData tree node (dataKind (kindOf type)) bytes))
   data-size node type bytes there takes right =
       let a = or-false (eqb node 0) (not (isVoid (treeNode tree node .kind))) takes in
       let f = eqb-false node 0 (a .0) in
-      let e : finishedSize (s .writer) (s .tree) + 12 + length bytes ≡ sizeOf (writerEdition (s .writer)) (withData tree node (dataKind (kindOf type)) bytes) =
-      ap (λ (n : ℕ). n + 12 + length bytes) (size-in s tree g)
+      let e : finishedSize (s .writer) (s .tree) + 12 + padding (s .writer .end) + length bytes ≡ sizeOf (putPlace (s .writer) + length bytes) (withData tree node (dataKind (kindOf type)) bytes) =
+      ap (λ (n : ℕ). n + 12 + padding (s .writer .end) + length bytes) (size-in s tree g)
       ∙ sym
-      (size-after s tree g node (dataKind (kindOf type)) bytes (omega (arith, f)) (ltb-false (length tree) node there) (not-false (isVoid (treeNode tree node .kind)) (a .1))
-      (data-right (kindOf type) (length bytes) right .0)) in
+      (size-after tree node (dataKind (kindOf type)) bytes (omega (arith, f)) (ltb-false (length tree) node there) (not-false (isVoid (treeNode tree node .kind)) (a .1))
+      (data-right (kindOf type) (length bytes) right .0) (s .writer .end)) in
       ap₂ ltb (sym (g .buffer-length)) e
 
   put-agrees : (node type : ℕ) (bytes : List ℕ) (allowance : ℕ)
-      → Agree (dataChecks (s .writer) (s .tree) node type bytes allowance) (callChecks (writerEdition (s .writer)) (length (s .buffer)) tree (put node type bytes allowance))
+      → Agree (dataChecks (s .writer) (s .tree) node type bytes allowance) (callChecks (writerEdition (s .writer)) (length (s .buffer)) (s .writer .end) tree (put node type bytes allowance))
   put-agrees node type bytes allowance = (
     ap (λ (n : ℕ). ltb n node) (g .nodes-count),
     refl,
@@ -153,7 +158,7 @@ module _ (s : State) (tree : Tree) (g : Invariant s tree) where
         λ c. (
           data-size node type bytes a b c,
           refl,
-          λ d. (ap (ltb allowance) (length-storesFrom (putPlace (s .writer)) bytes), refl, λ e. tt),
+          λ d. (ap (ltb allowance) (put-needs bytes), refl, λ e. tt),
         ),
       ),
     ),
@@ -169,28 +174,28 @@ module _ (s : State) (tree : Tree) (g : Invariant s tree) where
       (closeHeader (s .buffer) (s .writer) (s .text) (s .tree)) (omega arith)
       ∙ omega (arith, ap length (used-text s tree g), ap length (entries-in s tree g), sizes-in-bytes s tree g)
 
-  close-agrees : (allowance : ℕ) → Agree (storeChecks (s .buffer) (s .writer) (s .text) (s .tree) allowance) (callChecks (writerEdition (s .writer)) (length (s .buffer)) tree (close allowance))
+  close-agrees : (allowance : ℕ) → Agree (storeChecks (s .buffer) (s .writer) (s .text) (s .tree) allowance) (callChecks (writerEdition (s .writer)) (length (s .buffer)) (s .writer .end) tree (close allowance))
   close-agrees allowance = (ap (ltb allowance) close-needs, refl, λ a. tt)
 
   -- ---- Any call.
 
-  agrees : (c : Call) → Agree (ownChecks s c) (callChecks (writerEdition (s .writer)) (length (s .buffer)) tree c)
+  agrees : (c : Call) → Agree (ownChecks s c) (callChecks (writerEdition (s .writer)) (length (s .buffer)) (s .writer .end) tree c)
   agrees (make parent name) = make-agrees parent name
   agrees (put node type bytes allowance) = put-agrees node type bytes allowance
   agrees (close allowance) = close-agrees allowance
 
-  value-same : (c : Call) → ownValue s c ≡ callValue (writerEdition (s .writer)) (length (s .buffer)) tree c
+  value-same : (c : Call) → ownValue s c ≡ callValue (writerEdition (s .writer)) (length (s .buffer)) (s .writer .end) tree c
   value-same (make parent name) = ap (λ (n : ℕ). n + 1) (g .nodes-count)
-  value-same (put node type bytes allowance) = length-storesFrom (putPlace (s .writer)) bytes
+  value-same (put node type bytes allowance) = put-needs bytes
   value-same (close allowance) = close-needs
 
-  step-answer : (c : Call) → step s c .answer ≡ callAnswer (writerEdition (s .writer)) (length (s .buffer)) tree c
+  step-answer : (c : Call) → step s c .answer ≡ callAnswer (writerEdition (s .writer)) (length (s .buffer)) (s .writer .end) tree c
   step-answer c =
       let own = ownChecks s c in
       answer-judged s c
       ∙ judged-awake (belongsIn s) (s .writer .live) it-belongs (g .live) own (ownValue s c)
       ∙ ap (firstWrong own) (value-same c)
-      ∙ agreed own (callChecks (writerEdition (s .writer)) (length (s .buffer)) tree c) (callValue (writerEdition (s .writer)) (length (s .buffer)) tree c) (agrees c)
+      ∙ agreed own (callChecks (writerEdition (s .writer)) (length (s .buffer)) (s .writer .end) tree c) (callValue (writerEdition (s .writer)) (length (s .buffer)) (s .writer .end) tree c) (agrees c)
 
 -- ---- A writer that sleeps.
 
@@ -200,12 +205,12 @@ unfolding writerBelongs writerSizesBelong textBelongs writerNodesBelong finished
 belongs-stopped size writer text tree = refl
 
 -- One that belongs answers 22, whatever the buffer and the tree.
-answers-asleep : (cs : List Call) (s : State) (ed : Edition) (size : ℕ) (tree : Tree) → s .writer .live ≡ false
-    → belongsIn s ≡ true → AnswersFromTree ed size true tree cs (answersOf s cs)
-answers-asleep [] s ed size tree h b = tt
-answers-asleep (c ∷ cs) s ed size tree h b = (
+answers-asleep : (cs : List Call) (s : State) (ed : Edition) (size end : ℕ) (tree : Tree) → s .writer .live ≡ false
+    → belongsIn s ≡ true → AnswersFromTree ed size true end tree cs (answersOf s cs)
+answers-asleep [] s ed size end tree h b = tt
+answers-asleep (c ∷ cs) s ed size end tree h b = (
   ap (λ (t : Step). t .answer) (asleep-step s h c) ∙ ap (λ (x : Bool). refused (cond x (refusal 22) (refusal 24))) b,
-  rw (asleep-next s h c, asleep-step s h c) (answers-asleep cs s ed size tree h b),
+  rw (asleep-next s h c, asleep-step s h c) (answers-asleep cs s ed size end tree h b),
 )
 
 -- One that does not belong answers 24.
@@ -227,25 +232,32 @@ sleeps-belong s t z b =
 
 -- What is shown of a list of calls, from any state with the invariant.
 abbrev AnswersFrom : List Call → Type 0
-AnswersFrom cs = (s : State) (tree : Tree) → Invariant s tree → AnswersFromTree (writerEdition (s .writer)) (length (s .buffer)) false tree cs (answersOf s cs)
+AnswersFrom cs = (s : State) (tree : Tree) (offsets : List ℕ) → Invariant s tree offsets
+    → AnswersFromTree (writerEdition (s .writer)) (length (s .buffer)) false (s .writer .end) tree cs (answersOf s cs)
 
-module _ (s : State) (tree : Tree) (g : Invariant s tree) (c : Call) (cs : List Call) (later : AnswersFrom cs) where
-  abbrev AnswersAfter : Bool → Tree → Type 0
-  AnswersAfter asleep after = AnswersFromTree (writerEdition (s .writer)) (length (s .buffer)) asleep after cs (answersOf (afterCall s c) cs)
+module _ (s : State) (tree : Tree) (offsets : List ℕ) (g : Invariant s tree offsets) (c : Call) (cs : List Call) (later : AnswersFrom cs) where
+  -- The same, after call c.
+  abbrev AnswersAfter : Bool → ℕ → ℕ → ℕ → Tree → Type 0
+  AnswersAfter asleep edition size end after = AnswersFromTree (editionBy edition) size asleep end after cs (answersOf (afterCall s c) cs)
 
-  by-step : Outcome s tree c → AnswersAfter (stops c (step s c .answer)) (applyCall tree c (isAccepted (step s c .answer)))
+  by-step : Outcome s tree offsets c
+      → AnswersAfter (stops c (step s c .answer)) (s .writer .edition) (length (s .buffer)) (callEnd (s .writer .end) c (isAccepted (step s c .answer)))
+      (applyCall tree c (isAccepted (step s c .answer)))
   by-step (goesOn e kept rest) =
+      let after = applyCall tree c (isAccepted (step s c .answer)) in
+      let n = afterCall s c in
       rw e
-      (subst (λ (n : ℕ). AnswersFromTree (editionBy n) (length (s .buffer)) false (applyCall tree c (isAccepted (step s c .answer))) cs (answersOf (afterCall s c) cs))
-      (step-edition s c)
-      (subst (λ (r : ℕ). AnswersFromTree (writerEdition (afterCall s c .writer)) r false (applyCall tree c (isAccepted (step s c .answer))) cs (answersOf (afterCall s c) cs))
-      (apply-length (s .buffer) (step s c .stores)) (later (afterCall s c) _ kept)))
-  by-step (ends e t z) =
-      rw (e, t) (answers-asleep cs (afterCall s c) (writerEdition (s .writer)) (length (s .buffer)) tree (sleeps-asleep s c z) (sleeps-belong s (step s c) z (it-belongs s tree g)))
+      (subst (λ (end : ℕ). AnswersAfter false (s .writer .edition) (length (s .buffer)) end after) (step-end s c)
+      (subst (λ (d : ℕ). AnswersAfter false d (length (s .buffer)) (n .writer .end) after) (step-edition s c)
+      (subst (λ (r : ℕ). AnswersAfter false (n .writer .edition) r (n .writer .end) after) (apply-length (s .buffer) (step s c .stores)) (later n _ _ kept))))
+  by-step (ends e t o z) =
+      rw (e, t)
+      (answers-asleep cs (afterCall s c) (writerEdition (s .writer)) (length (s .buffer)) (callEnd (s .writer .end) c (isAccepted (step s c .answer))) tree (sleeps-asleep s c z)
+      (sleeps-belong s (step s c) z (it-belongs s tree g)))
 
 answers-run : (cs : List Call) → AnswersFrom cs
-answers-run [] s tree g = tt
-answers-run (c ∷ cs) s tree g = (step-answer s tree g c, by-step s tree g c cs (answers-run cs) (outcome s tree g c))
+answers-run [] s tree offsets g = tt
+answers-run (c ∷ cs) s tree offsets g = (step-answer s tree g c, by-step s tree offsets g c cs (answers-run cs) (outcome s tree g c))
 
 -- ---- A whole run, by what its begin answers.
 
@@ -258,11 +270,17 @@ begin-belongs edition size buffer form text tree n f x t few named large =
     (empty-invariant edition size buffer form text tree n f x t few named large)
 
 module _ (run : Run) where
-  pub run-from-tree : {n : ℕ} → runBegin run .answer ≡ accepted n → AnswersFromTree (editionBy (run .edition)) (length (run .buffer)) false [] (run .calls) (runAnswers run)
+  -- Of an edition, in a buffer of so many bytes, stopped or not, where the data end at `end`.
+  abbrev AnswersIn : Bool → ℕ → ℕ → ℕ → Type 0
+  AnswersIn stopped edition size end = AnswersFromTree (editionBy edition) size stopped end [] (run .calls) (runAnswers run)
+
+  pub run-from-tree : {n : ℕ} → runBegin run .answer ≡ accepted n → AnswersIn false (run .edition) (length (run .buffer)) (headerSize (editionBy (run .edition)))
   run-from-tree h =
-      subst (λ (n : ℕ). AnswersFromTree (editionBy n) (length (run .buffer)) false [] (run .calls) (runAnswers run)) (begin-edition run h)
-      (subst (λ (r : ℕ). AnswersFromTree (writerEdition (runStart run .writer)) r false [] (run .calls) (runAnswers run)) (apply-length (run .buffer) (runBegin run .stores))
-      (answers-run (run .calls) (runStart run) [] (begin-invariant run h)))
+      let begun = runStart run .writer in
+      subst (AnswersIn false (run .edition) (length (run .buffer))) (begin-end run h)
+      (subst (λ (n : ℕ). AnswersIn false n (length (run .buffer)) (begun .end)) (begin-edition run h)
+      (subst (λ (r : ℕ). AnswersIn false (begun .edition) r (begun .end)) (apply-length (run .buffer) (runBegin run .stores))
+      (answers-run (run .calls) (runStart run) [] [] (begin-invariant run h))))
 
   module _ (t : RefusalCode) (h : runBegin run .answer ≡ refused t) where
     module _ (spent : eqb (t .number) 23 ≡ true) where
@@ -277,8 +295,9 @@ module _ (run : Run) where
           (names-written (run .edition) (not-false (namesWritten (run .edition)) (clear .1 .0)))
           (ltb-false (length (run .buffer)) (headerSize (editionBy (run .edition))) (clear .1 .1 .0)))
 
-      pub run-spent : AnswersFromTree (editionBy (run .edition)) (length (run .buffer)) true [] (run .calls) (runAnswers run)
-      run-spent = answers-asleep (run .calls) (runStart run) (editionBy (run .edition)) (length (run .buffer)) [] (asleep run t h) spent-belongs
+      pub run-spent : AnswersIn true (run .edition) (length (run .buffer)) (headerSize (editionBy (run .edition)))
+      run-spent =
+          answers-asleep (run .calls) (runStart run) (editionBy (run .edition)) (length (run .buffer)) (headerSize (editionBy (run .edition))) [] (asleep run t h) spent-belongs
 
     module _ (other : eqb (t .number) 23 ≡ false) where
       none-here : belongsIn (runStart run) ≡ false

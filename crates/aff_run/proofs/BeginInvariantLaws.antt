@@ -20,7 +20,7 @@ use Rattle.aff_areas.specs.Stores.{applyStores, storesFrom}
 use Rattle.aff_areas.specs.Writer.{freshWriter}
 use Rattle.aff_areas.proofs.StoreLaws.{apply-length}
 use Rattle.aff_write.specs.Begin.{beginLengthsWrong, beginStores, beginChecks, beginAnswer}
-use Rattle.aff_run.specs.TreeSizes.{namesFrom, dataSize, entriesSize, sizeOf}
+use Rattle.aff_run.specs.TreeSizes.{namesFrom, entriesSize, sizeOf}
 use Rattle.aff_run.specs.Run.{beginStep, Run, runBegin, runStart}
 use Rattle.aff_run.proofs.InvariantLaws.{Invariant, Blank, ZerosAfter}
 use Rattle.aff_run.proofs.SlotsLaws.{slotsOf}
@@ -39,18 +39,18 @@ lengths-right buffer form text tree h =
       ltb-false imageLimit (length buffer) (c .1),
     )
 
--- The empty tree: header alone.
-no-size : (e : Edition) → sizeOf e [] ≡ headerSize e
-unfolding sizeOf dataSize entriesSize namesFrom textOf
-no-size e = omega arith
+-- The empty tree adds nothing to header and data.
+no-size : (end : ℕ) → sizeOf end [] ≡ end
+unfolding sizeOf entriesSize namesFrom textOf
+no-size end = omega arith
 
 blank-zeros : (n : ℕ) → Blank (replicate n 0)
 blank-zeros n = ap (λ (k : ℕ). replicate k 0) (sym (length-replicate n 0))
 
 -- The record of an accepted begin, over any areas of the right lengths.
 pub empty-invariant : (edition size : ℕ) (buffer form text tree : List ℕ) → length buffer ≡ size → length form ≡ 12 → length text ≡ textArea → length tree ≡ treeArea → size ≤ imageLimit
-    → NamesWritten edition → headerSize (editionBy edition) ≤ size → Invariant (record { writer = freshWriter edition size form; text = text; tree = tree; buffer = buffer }) []
-unfolding namesFrom textOf slotsOf dataSize
+    → NamesWritten edition → headerSize (editionBy edition) ≤ size → Invariant (record { writer = freshWriter edition size form; text = text; tree = tree; buffer = buffer }) [] []
+unfolding namesFrom textOf slotsOf
 empty-invariant edition size buffer form text tree n f x t few named large =
     record {
       entries = [];
@@ -69,12 +69,13 @@ empty-invariant edition size buffer form text tree n f x t few named large =
       text-count = refl;
       nodes-count = refl;
       nodes-few = omega arith;
-      data-count = refl;
+      after-header = omega arith;
       live = refl;
-      fits = rw (no-size (editionBy edition)) large;
+      fits = rw (no-size (headerSize (editionBy edition))) large;
       subkeys = tt;
       distinct = λ i k l m e. omega arith;
       each = tt;
+      offsets-are = refl;
       siblings = λ j k lo l hi p q. omega arith;
     }
 
@@ -90,7 +91,7 @@ module _ (run : Run) {n : ℕ} (h : runBegin run .answer ≡ accepted n) where
   unfolding beginStep beginAnswer
   reported = passed-value checks 1 h
 
-  pub begin-invariant : Invariant (runStart run) []
+  pub begin-invariant : Invariant (runStart run) [] []
   unfolding beginStep
   begin-invariant =
       let a = lengths-right (run .buffer) (run .form) (run .text) (run .tree) (clear .0) in
@@ -108,6 +109,10 @@ module _ (run : Run) {n : ℕ} (h : runBegin run .answer ≡ accepted n) where
   pub begin-edition : runBegin run .writer .edition ≡ run .edition
   unfolding beginStep
   begin-edition = rw h
+
+  pub begin-end : runBegin run .writer .end ≡ headerSize (editionBy (run .edition))
+  unfolding beginStep
+  begin-end = rw h
 
   pub begin-form : runBegin run .writer .form ≡ run .form
   unfolding beginStep

@@ -35,10 +35,10 @@ use Rattle.aff_file.proofs.FileLaws.{length-fileHeader, length-fileOf, file-lai
 use Rattle.aff_file.proofs.FileShowsLaws.{contents-tree, file-shows, file-counts}
 use Rattle.aff_areas.specs.Areas.{dataNodes}
 use Rattle.aff_areas.specs.Stores.{Store, applyStores, storesFrom}
-use Rattle.aff_areas.specs.Writer.{writerEdition, dataPlace}
+use Rattle.aff_areas.specs.Writer.{writerEdition, dataPlace, dataSize}
 use Rattle.aff_areas.proofs.StoreLaws.{apply-append, apply-spliced}
 use Rattle.aff_write.specs.Close.{symbolsPlace, treePlace, closeSection, closeHeader, closeStores}
-use Rattle.aff_run.specs.TreeSizes.{namesOf, dataSize, nonVoidCount, sizeOf}
+use Rattle.aff_run.specs.TreeSizes.{namesOf, nonVoidCount, sizeOf}
 use Rattle.aff_run.specs.Run.{State}
 use Rattle.aff_run.proofs.SlotsLaws.{node-storable}
 use Rattle.aff_run.proofs.InvariantLaws.{Stored, Invariant, is-void, used-text, entries-in, count-same, stored-in, storables, sizes-in-bytes, not-void-few, data-nodes-in}
@@ -107,7 +107,7 @@ void-none n k v = rw (is-void k v) (mul-zero n)
 header-same : (e : Edition) {p p′ n n′ : ℕ} {x x′ : List ℕ} → p ≡ p′ → n ≡ n′ → x ≡ x′ → sectionHeader e p n x ≡ sectionHeader e p′ n′ x′
 header-same e a b c = λ i. sectionHeader e (a i) (b i) (c i)
 
-module _ (s : State) (tree : Tree) (g : Invariant s tree) where
+module _ (s : State) (tree : Tree) {offsets : List ℕ} (g : Invariant s tree offsets) where
   abbrev ed : Edition
   ed = writerEdition (s .writer)
 
@@ -115,23 +115,27 @@ module _ (s : State) (tree : Tree) (g : Invariant s tree) where
   unfoldable pub contents : FileContents
   contents =
       record {
-        stored = part (dataPlace (s .writer)) (dataSize tree) (s .buffer);
+        stored = part (dataPlace (s .writer)) (dataSize (s .writer)) (s .buffer);
         records = nonVoidCount tree;
         names = namesOf tree;
         entries = g .entries;
       }
 
   unfoldable pub rest : List ℕ
-  rest = drop (dataPlace (s .writer) + dataSize tree + length (textOf (namesOf tree)) + length (treeBytes (g .entries))) (s .buffer)
+  rest = drop (dataPlace (s .writer) + dataSize (s .writer) + length (textOf (namesOf tree)) + length (treeBytes (g .entries))) (s .buffer)
 
-  fits : dataPlace (s .writer) + dataSize tree + length (textOf (namesOf tree)) + length (treeBytes (g .entries)) ≤ length (s .buffer)
+  -- Header and data section, up to the end of data.
+  end-is : dataPlace (s .writer) + dataSize (s .writer) ≡ s .writer .end
+  end-is = omega (arith, g .after-header)
+
+  fits : dataPlace (s .writer) + dataSize (s .writer) + length (textOf (namesOf tree)) + length (treeBytes (g .entries)) ≤ length (s .buffer)
   unfolding sizeOf
-  fits = omega (arith, g .fits, g .buffer-length, sizes-in-bytes s tree g)
+  fits = omega (arith, end-is, g .fits, g .buffer-length, sizes-in-bytes s tree g)
 
-  length-stored : length (part (dataPlace (s .writer)) (dataSize tree) (s .buffer)) ≡ dataSize tree
-  length-stored = length-part (dataPlace (s .writer)) (dataSize tree) (s .buffer) (omega (arith, fits))
+  length-stored : length (part (dataPlace (s .writer)) (dataSize (s .writer)) (s .buffer)) ≡ dataSize (s .writer)
+  length-stored = length-part (dataPlace (s .writer)) (dataSize (s .writer)) (s .buffer) (omega (arith, fits))
 
-  at-node : (k : ℕ) → 0 < k → k ≤ length (g .entries) → Stored ed (namesOf tree) (s .buffer) (dataSize tree) k (nodeEntry (g .entries) k) (treeNode tree k)
+  at-node : (k : ℕ) → 0 < k → k ≤ length (g .entries) → Stored ed (namesOf tree) (s .buffer) (s .writer .end) k (nodeEntry (g .entries) k) (treeNode tree k)
   at-node k lo hi = stored-in s tree g k lo (omega (arith, count-same s tree g))
 
   -- ---- The contents are lawful, and describe the tree.
@@ -143,7 +147,7 @@ module _ (s : State) (tree : Tree) (g : Invariant s tree) where
         form-length = g .form-length;
         size =
             let n = length-fileOf ed contents (s .writer .form) (g .form-length) in
-            let d = length-drop (dataPlace (s .writer) + dataSize tree + length (textOf (namesOf tree)) + length (treeBytes (g .entries))) (s .buffer) in
+            let d = length-drop (dataPlace (s .writer) + dataSize (s .writer) + length (textOf (namesOf tree)) + length (treeBytes (g .entries))) (s .buffer) in
             omega (arith, n, d, fits, length-stored, g .buffer-length, g .buffer-allowed);
         few-names = g .strings-few;
         subkeys = g .subkeys;
@@ -160,22 +164,22 @@ module _ (s : State) (tree : Tree) (g : Invariant s tree) where
         data-inside = λ k lo hi v.
             let t = at-node k lo hi in
             let w = ap isVoid (sym (t .kind-is)) ∙ v in
-            rw (length-stored, t .kind-is, t .whole) (t .begins w, t .ends w);
+            rw (length-stored, end-is, t .kind-is, t .whole) (t .begins w, t .ends w);
         records-fit = omega (arith, not-void-few tree, g .nodes-few);
       }
 
-  bytes-held : (n : Entry) (t : Node) {k : ℕ} → Stored ed (namesOf tree) (s .buffer) (dataSize tree) k n t
-      → cond (isVoid (t .kind)) [] (part (n .offset - headerSize ed) (length (t .bytes)) (part (dataPlace (s .writer)) (dataSize tree) (s .buffer))) ≡ t .bytes
+  bytes-held : (n : Entry) (t : Node) {k : ℕ} → Stored ed (namesOf tree) (s .buffer) (s .writer .end) k n t
+      → cond (isVoid (t .kind)) [] (part (n .offset - headerSize ed) (length (t .bytes)) (part (dataPlace (s .writer)) (dataSize (s .writer)) (s .buffer))) ≡ t .bytes
   bytes-held n t h = go (isVoid (t .kind)) refl
     where
       go : (v : Bool) → isVoid (t .kind) ≡ v
-          → cond v [] (part (n .offset - headerSize ed) (length (t .bytes)) (part (dataPlace (s .writer)) (dataSize tree) (s .buffer))) ≡ t .bytes
+          → cond v [] (part (n .offset - headerSize ed) (length (t .bytes)) (part (dataPlace (s .writer)) (dataSize (s .writer)) (s .buffer))) ≡ t .bytes
       go true v = sym (no-bytes (t .bytes) (sym (h .whole) ∙ void-none (n .count) (t .kind) v))
       go false v =
           let lo = h .begins v in
           let hi = h .ends v in
           let at : headerSize ed + (n .offset - headerSize ed) ≡ n .offset = omega arith in
-          part-part (headerSize ed) (dataSize tree) (n .offset - headerSize ed) (length (t .bytes)) (s .buffer) (omega arith) ∙ rw at (h .there v)
+          part-part (headerSize ed) (dataSize (s .writer)) (n .offset - headerSize ed) (length (t .bytes)) (s .buffer) (omega arith) ∙ rw at (h .there v)
 
   pub tree-held : contentsTree ed contents ≡ tree
   unfolding contents
@@ -188,16 +192,18 @@ module _ (s : State) (tree : Tree) (g : Invariant s tree) where
 
   -- ---- Close makes the file of the contents.
 
+  symbols-at : symbolsPlace (s .writer) ≡ headerSize ed + length (part (dataPlace (s .writer)) (dataSize (s .writer)) (s .buffer))
+  symbols-at = sym end-is ∙ ap (λ (n : ℕ). headerSize ed + n) (sym length-stored)
+
   section-is : (t : Section) → closeSection (s .buffer) (s .writer) (s .text) (s .tree) t ≡ headerOf ed contents t
   unfolding closeSection contents
-  section-is Symbol = header-same ed (ap (λ (n : ℕ). dataPlace (s .writer) + n) (g .data-count ∙ sym length-stored)) (g .strings-count) (used-text s tree g)
+  section-is Symbol = header-same ed symbols-at (g .strings-count) (used-text s tree g)
   section-is section.Tree =
       header-same ed
-      (ap₂ (λ (a b : ℕ). dataPlace (s .writer) + a + b) (g .data-count ∙ sym length-stored) (g .text-count))
+      (ap₂ (λ (a b : ℕ). a + b) symbols-at (g .text-count))
       (g .nodes-count ∙ sym (count-same s tree g)) (entries-in s tree g)
   section-is Data =
-      header-same ed refl (ap (dataNodes (s .tree)) (g .nodes-count) ∙ data-nodes-in s tree g)
-      (ap (λ (n : ℕ). part (dataPlace (s .writer)) n (s .buffer)) (g .data-count))
+      header-same ed refl (ap (dataNodes (s .tree)) (g .nodes-count) ∙ data-nodes-in s tree g) refl
 
   pub header-is : closeHeader (s .buffer) (s .writer) (s .text) (s .tree) ≡ fileHeader ed contents (s .writer .form)
   unfolding closeHeader fileHeader
@@ -218,11 +224,10 @@ module _ (s : State) (tree : Tree) (g : Invariant s tree) where
   closed-is =
       let header = closeHeader (s .buffer) (s .writer) (s .text) (s .tree) in
       let symbols = textOf (namesOf tree) in
-      let p : symbolsPlace (s .writer) ≡ dataPlace (s .writer) + dataSize tree = ap (λ (d : ℕ). dataPlace (s .writer) + d) (g .data-count) in
-      let q : treePlace (s .writer) ≡ dataPlace (s .writer) + dataSize tree + length symbols = ap₂ (λ (a b : ℕ). a + b) p (g .text-count) in
-      stores-same (s .buffer) (storesFrom 1 (drop 1 header) ++ storesFrom 0 (take 1 header)) (used-text s tree g) (entries-in s tree g) p q
-      ∙ stores-applied (s .buffer) header symbols (treeBytes (g .entries)) (dataPlace (s .writer)) (dataSize tree) length-header (omega (arith, header-least ed)) fits
-      ∙ ap (λ (h : List ℕ). h ++ (part (dataPlace (s .writer)) (dataSize tree) (s .buffer) ++ (symbols ++ (treeBytes (g .entries) ++ rest)))) header-is
+      let q : treePlace (s .writer) ≡ dataPlace (s .writer) + dataSize (s .writer) + length symbols = ap₂ (λ (a b : ℕ). a + b) (sym end-is) (g .text-count) in
+      stores-same (s .buffer) (storesFrom 1 (drop 1 header) ++ storesFrom 0 (take 1 header)) (used-text s tree g) (entries-in s tree g) (sym end-is) q
+      ∙ stores-applied (s .buffer) header symbols (treeBytes (g .entries)) (dataPlace (s .writer)) (dataSize (s .writer)) length-header (omega (arith, header-least ed)) fits
+      ∙ ap (λ (h : List ℕ). h ++ (part (dataPlace (s .writer)) (dataSize (s .writer)) (s .buffer) ++ (symbols ++ (treeBytes (g .entries) ++ rest)))) header-is
       ∙ sym (file-laid ed contents (s .writer .form) rest)
 
   -- So it opens and shows the tree, and opening reports the number of nodes that are not Void.

@@ -10,6 +10,7 @@ use lib.ListN.{length, take, drop, length-append}
 use lib.Seq.{take-all, take-nil, take-take, take-append-le, length-take-le}
 use borrow.Author.Tests.{ltb-true, ltb-false, lt-ltb, le-ltb}
 use Rattle.aff_format.specs.Edition.{headerSize, editionBy, namesWritten}
+use Rattle.aff_format.specs.Align.{padding}
 use Rattle.aff_format.specs.Answer.{Answer, accepted, refused, Check, check, refusal, refusalAt, firstWrong}
 use Rattle.aff_format.specs.Kind.{kindOf}
 use Rattle.aff_format.specs.declared.refusal.RefusalCode.{RefusalCode}
@@ -129,7 +130,7 @@ module _ (s : State) where
       ++ (check (ltb (s .writer .nodes) node) (refusal 15)
       ∷ check (takesNone (s .tree) node) (refusal 18)
       ∷ check (wrongData (kindOf type) (length bytes)) (refusal 19)
-      ∷ check (ltb (s .writer .length) (finishedSize (s .writer) (s .tree) + 12 + length bytes)) (refusal 21)
+      ∷ check (ltb (s .writer .length) (finishedSize (s .writer) (s .tree) + 12 + padding (s .writer .end) + length bytes)) (refusal 21)
       ∷ [])
 
   -- The stores that a call needs and what it leaves do not depend on its allowance.

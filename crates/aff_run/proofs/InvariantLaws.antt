@@ -2,8 +2,8 @@
 -- the data that the nodes have are in the buffer. From it what the writer reads in its areas, and that the record belongs. Assumes nothing.
 use mathlib.Core.Path.{_≡_, refl, sym, ap, _∙_}
 use mathlib.Core.Bool.{Bool, true, false, cond}
-use mathlib.Core.List.{List, [], _∷_, _++_}
-use Prim.Native.Nat.{ℕ, zero, suc, _+_, _*_, _^_, _≤_, _<_}
+use mathlib.Core.List.{List, [], _∷_, _++_, map}
+use Prim.Native.Nat.{ℕ, zero, suc, _+_, _*_, _%_, _^_, _≤_, _<_}
 use native.Mathlib.Nat.{zero-add}
 use native.Mathlib.Numerals.{one-add}
 use native.Mathlib.Omega.{arith}
@@ -33,14 +33,14 @@ use Rattle.aff_tables.specs.Tables.{nodeEntry, treeBytes}
 use Rattle.aff_areas.specs.Areas.{usedText, namesIn, foundSlot, slotEntry, nameOf, entrySizes, entriesOut, dataNodes, finishedSize}
 use Rattle.aff_areas.specs.Belongs.{WriterBelongs}
 use Rattle.aff_areas.specs.Writer.{writerEdition, dataPlace}
-use Rattle.aff_run.specs.TreeSizes.{namesOf, dataSize, entriesSize, nonVoidCount, sizeOf}
+use Rattle.aff_run.specs.TreeSizes.{namesOf, entriesSize, nonVoidCount, sizeOf}
 use Rattle.aff_run.specs.Run.{State}
 use Rattle.aff_run.proofs.SlotsLaws.{slotsOf, Storables, length-slotsOf, slot-found, slot-entry, entries-out, sizes-are}
 
 -- ---- A node and its entry.
 
--- Node i, t, is stored as entry e: over the strings so far, in a buffer that has `size` bytes of data.
-pub record Stored (ed : Edition) (names : List (List ℕ)) (buffer : List ℕ) (size i : ℕ) (e : Entry) (t : Node) : Type 0 where
+-- Node i, t, is stored as entry e: over the strings so far, in a buffer where the data end at `end`.
+pub record Stored (ed : Edition) (names : List (List ℕ)) (buffer : List ℕ) (end i : ℕ) (e : Entry) (t : Node) : Type 0 where
   pub parent-is : e .parent ≡ t .parent
   pub parent-lower : t .parent < i
   pub string-exists : e .string < length names
@@ -49,22 +49,28 @@ pub record Stored (ed : Edition) (names : List (List ℕ)) (buffer : List ℕ) (
   pub kind-is : e .kind ≡ t .kind
   pub count-is : e .count ≡ countIn (t .kind) (t .bytes)
   pub whole : e .count * elementSize (t .kind) ≡ length (t .bytes)
-  pub short : length (t .bytes) ≤ size
+  pub short : length (t .bytes) ≤ end
   pub void-offset : isVoid (t .kind) ≡ true → e .offset ≡ 0
+  pub offset-aligned : e .offset % 8 ≡ 0
   pub begins : isVoid (t .kind) ≡ false → headerSize ed ≤ e .offset
-  pub ends : isVoid (t .kind) ≡ false → e .offset + length (t .bytes) ≤ headerSize ed + size
+  pub ends : isVoid (t .kind) ≡ false → e .offset + length (t .bytes) ≤ end
   pub there : isVoid (t .kind) ≡ false → part (e .offset) (length (t .bytes)) buffer ≡ t .bytes
 
 -- Each node from number i on and its entry.
 abbrev pub Each : Edition → List (List ℕ) → List ℕ → ℕ → ℕ → List Entry → Tree → Type 0
-Each ed names buffer size i [] [] = Unit {0}
-Each ed names buffer size i [] (t ∷ ts) = ⊥
-Each ed names buffer size i (e ∷ es) [] = ⊥
-Each ed names buffer size i (e ∷ es) (t ∷ ts) = Stored ed names buffer size i e t × Each ed names buffer size (suc i) es ts
+Each ed names buffer end i [] [] = Unit {0}
+Each ed names buffer end i [] (t ∷ ts) = ⊥
+Each ed names buffer end i (e ∷ es) [] = ⊥
+Each ed names buffer end i (e ∷ es) (t ∷ ts) = Stored ed names buffer end i e t × Each ed names buffer end (suc i) es ts
 
 -- ---- What holds between the calls.
 
-pub record Invariant (s : State) (tree : Tree) : Type 0 where
+-- Where the data of an entry begin.
+abbrev pub offsetOf : Entry → ℕ
+offsetOf e = e .offset
+
+-- With the tree described so far, and where the data of each of its nodes begin.
+pub record Invariant (s : State) (tree : Tree) (offsets : List ℕ) : Type 0 where
   -- The two areas: the strings, the slots, and what comes after them.
   pub entries : List Entry
   pub text-rest : List ℕ
@@ -83,14 +89,25 @@ pub record Invariant (s : State) (tree : Tree) : Type 0 where
   pub text-count : s .writer .text ≡ length (textOf (namesOf tree))
   pub nodes-count : s .writer .nodes ≡ length tree
   pub nodes-few : length tree ≤ nodeLimit
-  pub data-count : s .writer .«data» ≡ dataSize tree
+  pub after-header : dataPlace (s .writer) ≤ s .writer .end
   pub live : s .writer .live ≡ true
-  pub fits : sizeOf (writerEdition (s .writer)) tree ≤ s .writer .length
+  pub fits : sizeOf (s .writer .end) tree ≤ s .writer .length
   -- The strings are subkeys and differ; each node is stored as its entry; siblings have different names.
   pub subkeys : Subkeys (writerEdition (s .writer)) (namesOf tree)
   pub distinct : (i k : ℕ) → i < k → k < length (namesOf tree) → getD (namesOf tree) i [] ≡ getD (namesOf tree) k [] → ⊥
-  pub each : Each (writerEdition (s .writer)) (namesOf tree) (s .buffer) (dataSize tree) 1 entries tree
+  pub each : Each (writerEdition (s .writer)) (namesOf tree) (s .buffer) (s .writer .end) 1 entries tree
+  pub offsets-are : map offsetOf entries ≡ offsets
   pub siblings : (j k : ℕ) → 0 < j → j < k → k ≤ length tree → treeNode tree j .parent ≡ treeNode tree k .parent → treeNode tree j .name ≡ treeNode tree k .name → ⊥
+
+-- The places of one entry more, and of one entry changed.
+pub offsets-snoc : (es : List Entry) (e : Entry) → map offsetOf (es ++ (e ∷ [])) ≡ map offsetOf es ++ (e .offset ∷ [])
+offsets-snoc [] e = refl
+offsets-snoc (d ∷ es) e = ap (λ (l : List ℕ). d .offset ∷ l) (offsets-snoc es e)
+
+pub offsets-set : (es : List Entry) (j : ℕ) (e : Entry) → map offsetOf (set es j e) ≡ set (map offsetOf es) j (e .offset)
+offsets-set [] j e = refl
+offsets-set (d ∷ es) zero e = refl
+offsets-set (d ∷ es) (suc j) e = ap (λ (l : List ℕ). d .offset ∷ l) (offsets-set es j e)
 
 -- All zero.
 abbrev pub Blank : List ℕ → Type 0
@@ -108,15 +125,15 @@ blank-drop (suc k) (x ∷ l) h = blank-drop k l (ap (drop 1) h)
 
 -- ---- Each node, by its number.
 
-module _ (ed : Edition) (names : List (List ℕ)) (buffer : List ℕ) (size : ℕ) where
-  each-length : (i : ℕ) (es : List Entry) (ts : Tree) → Each ed names buffer size i es ts → length es ≡ length ts
+module _ (ed : Edition) (names : List (List ℕ)) (buffer : List ℕ) (end : ℕ) where
+  each-length : (i : ℕ) (es : List Entry) (ts : Tree) → Each ed names buffer end i es ts → length es ≡ length ts
   each-length i [] [] h = refl
   each-length i [] (t ∷ ts) h = absurd h
   each-length i (e ∷ es) [] h = absurd h
   each-length i (e ∷ es) (t ∷ ts) h = ap suc (each-length (suc i) es ts (h .1))
 
-  each-get : (i : ℕ) (es : List Entry) (ts : Tree) (d : Entry) (r : Node) → Each ed names buffer size i es ts → (k : ℕ) → k < length ts
-      → Stored ed names buffer size (i + k) (getD es k d) (getD ts k r)
+  each-get : (i : ℕ) (es : List Entry) (ts : Tree) (d : Entry) (r : Node) → Each ed names buffer end i es ts → (k : ℕ) → k < length ts
+      → Stored ed names buffer end (i + k) (getD es k d) (getD ts k r)
   each-get i [] [] d r h k l = absurd (omega arith)
   each-get i [] (t ∷ ts) d r h k l = absurd h
   each-get i (e ∷ es) [] d r h k l = absurd h
@@ -124,14 +141,14 @@ module _ (ed : Edition) (names : List (List ℕ)) (buffer : List ℕ) (size : �
   each-get i (e ∷ es) (t ∷ ts) d r h (suc k) l =
       let n : i + suc k ≡ suc i + k = omega arith in rw n (each-get (suc i) es ts d r (h .1) k (omega arith))
 
-  pub each-at : (es : List Entry) (ts : Tree) → Each ed names buffer size 1 es ts → (k : ℕ) → 0 < k → k ≤ length ts
-      → Stored ed names buffer size k (nodeEntry es k) (treeNode ts k)
+  pub each-at : (es : List Entry) (ts : Tree) → Each ed names buffer end 1 es ts → (k : ℕ) → 0 < k → k ≤ length ts
+      → Stored ed names buffer end k (nodeEntry es k) (treeNode ts k)
   each-at es ts h zero lo hi = absurd (omega arith)
   each-at es ts h (suc k) lo hi = rw (← one-add k) (each-get 1 es ts noEntry root h k (omega arith))
 
   -- The numbers of an entry fit its fields.
-  module _ (names-few : length names ≤ stringLimit) (small : headerSize ed + size ≤ imageLimit) where
-    stored-storable : (i : ℕ) (e : Entry) (t : Node) → Stored ed names buffer size i e t → i ≤ nodeLimit → Storable e
+  module _ (names-few : length names ≤ stringLimit) (small : end ≤ imageLimit) where
+    stored-storable : (i : ℕ) (e : Entry) (t : Node) → Stored ed names buffer end i e t → i ≤ nodeLimit → Storable e
     stored-storable i e t s few =
         record {
           parent-fits = omega (arith, s .parent-is, s .parent-lower);
@@ -146,14 +163,14 @@ module _ (ed : Edition) (names : List (List ℕ)) (buffer : List ℕ) (size : �
         offset true v = omega (arith, s .void-offset v)
         offset false v = omega (arith, s .ends v)
 
-    each-storable : (i : ℕ) (es : List Entry) (ts : Tree) → Each ed names buffer size i es ts → i + length ts ≤ suc nodeLimit → Storables es
+    each-storable : (i : ℕ) (es : List Entry) (ts : Tree) → Each ed names buffer end i es ts → i + length ts ≤ suc nodeLimit → Storables es
     each-storable i [] [] h l = tt
     each-storable i [] (t ∷ ts) h l = absurd h
     each-storable i (e ∷ es) [] h l = absurd h
     each-storable i (e ∷ es) (t ∷ ts) h l = (stored-storable i e t (h .0) (omega arith), each-storable (suc i) es ts (h .1) (omega arith))
 
   -- The bytes of the entries.
-  each-sizes : (i : ℕ) (es : List Entry) (ts : Tree) → Each ed names buffer size i es ts → length (treeBytes es) ≡ entriesSize ts
+  each-sizes : (i : ℕ) (es : List Entry) (ts : Tree) → Each ed names buffer end i es ts → length (treeBytes es) ≡ entriesSize ts
   unfolding treeBytes entriesSize
   each-sizes i [] [] h = refl
   each-sizes i [] (t ∷ ts) h = absurd h
@@ -163,16 +180,16 @@ module _ (ed : Edition) (names : List (List ℕ)) (buffer : List ℕ) (size : �
       ∙ rw (length-entryBytes e, h .0 .kind-is, each-sizes (suc i) es ts (h .1))
 
   -- One node more, and one node changed.
-  pub each-snoc : (i : ℕ) (es : List Entry) (ts : Tree) (e : Entry) (t : Node) → Each ed names buffer size i es ts → Stored ed names buffer size (i + length ts) e t
-      → Each ed names buffer size i (es ++ (e ∷ [])) (ts ++ (t ∷ []))
+  pub each-snoc : (i : ℕ) (es : List Entry) (ts : Tree) (e : Entry) (t : Node) → Each ed names buffer end i es ts → Stored ed names buffer end (i + length ts) e t
+      → Each ed names buffer end i (es ++ (e ∷ [])) (ts ++ (t ∷ []))
   each-snoc i [] [] e t h s = let n : i + 0 ≡ i = omega arith in (rw n at s, tt)
   each-snoc i [] (u ∷ ts) e t h s = absurd h
   each-snoc i (d ∷ es) [] e t h s = absurd h
   each-snoc i (d ∷ es) (u ∷ ts) e t h s =
       let n : i + suc (length ts) ≡ suc i + length ts = omega arith in (h .0, each-snoc (suc i) es ts e t (h .1) (rw n at s))
 
-  pub each-set : (i : ℕ) (es : List Entry) (ts : Tree) (j : ℕ) (e : Entry) (t : Node) → Each ed names buffer size i es ts → j < length ts
-      → Stored ed names buffer size (i + j) e t → Each ed names buffer size i (set es j e) (set ts j t)
+  pub each-set : (i : ℕ) (es : List Entry) (ts : Tree) (j : ℕ) (e : Entry) (t : Node) → Each ed names buffer end i es ts → j < length ts
+      → Stored ed names buffer end (i + j) e t → Each ed names buffer end i (set es j e) (set ts j t)
   each-set i [] [] j e t h l s = absurd (omega arith)
   each-set i [] (u ∷ ts) j e t h l s = absurd h
   each-set i (d ∷ es) [] j e t h l s = absurd h
@@ -181,10 +198,10 @@ module _ (ed : Edition) (names : List (List ℕ)) (buffer : List ℕ) (size : �
       let n : i + suc j ≡ suc i + j = omega arith in (h .0, each-set (suc i) es ts j e t (h .1) (omega arith) (rw n at s))
 
 -- More strings and more data after those that there are.
-module _ (ed : Edition) (names names′ : List (List ℕ)) (buffer buffer′ : List ℕ) (size size′ : ℕ)
+module _ (ed : Edition) (names names′ : List (List ℕ)) (buffer buffer′ : List ℕ) (end end′ : ℕ)
     (longer : length names ≤ length names′) (names-kept : (k : ℕ) → k < length names → getD names′ k [] ≡ getD names k [])
-    (larger : size ≤ size′) (data-kept : (at n : ℕ) → at + n ≤ headerSize ed + size → part at n buffer′ ≡ part at n buffer) where
-  stored-kept : (i : ℕ) (e : Entry) (t : Node) → Stored ed names buffer size i e t → Stored ed names′ buffer′ size′ i e t
+    (larger : end ≤ end′) (data-kept : (at n : ℕ) → at + n ≤ end → part at n buffer′ ≡ part at n buffer) where
+  stored-kept : (i : ℕ) (e : Entry) (t : Node) → Stored ed names buffer end i e t → Stored ed names′ buffer′ end′ i e t
   stored-kept i e t s =
       record {
         parent-is = s .parent-is;
@@ -197,12 +214,13 @@ module _ (ed : Edition) (names names′ : List (List ℕ)) (buffer buffer′ : L
         whole = s .whole;
         short = omega (arith, s .short);
         void-offset = s .void-offset;
+        offset-aligned = s .offset-aligned;
         begins = s .begins;
         ends = λ v. omega (arith, s .ends v);
         there = λ v. data-kept (e .offset) (length (t .bytes)) (s .ends v) ∙ s .there v;
       }
 
-  pub each-kept : (i : ℕ) (es : List Entry) (ts : Tree) → Each ed names buffer size i es ts → Each ed names′ buffer′ size′ i es ts
+  pub each-kept : (i : ℕ) (es : List Entry) (ts : Tree) → Each ed names buffer end i es ts → Each ed names′ buffer′ end′ i es ts
   each-kept i [] [] h = tt
   each-kept i [] (t ∷ ts) h = absurd h
   each-kept i (e ∷ es) [] h = absurd h
@@ -233,7 +251,7 @@ not-void-few (t ∷ ts) = one-more (isVoid (t .kind)) (nonVoidCount ts) (length 
 
 -- ---- What the writer reads in its areas.
 
-module _ (s : State) (tree : Tree) (g : Invariant s tree) where
+module _ (s : State) (tree : Tree) {offsets : List ℕ} (g : Invariant s tree offsets) where
   pub clean : EachWithout 0 (namesOf tree)
   clean = subkeys-no-zero (writerEdition (s .writer)) (namesOf tree) (g .subkeys)
 
@@ -244,14 +262,14 @@ module _ (s : State) (tree : Tree) (g : Invariant s tree) where
   names-in = ap stringsOf used-text ∙ stringsOf-textOf (namesOf tree) clean
 
   pub count-same : length (g .entries) ≡ length tree
-  count-same = each-length (writerEdition (s .writer)) (namesOf tree) (s .buffer) (dataSize tree) 1 (g .entries) tree (g .each)
+  count-same = each-length (writerEdition (s .writer)) (namesOf tree) (s .buffer) (s .writer .end) 1 (g .entries) tree (g .each)
 
-  pub small : dataPlace (s .writer) + dataSize tree ≤ imageLimit
+  pub small : s .writer .end ≤ imageLimit
   unfolding sizeOf
   small = omega (arith, g .fits, g .buffer-allowed)
 
   pub storables : Storables (g .entries)
-  storables = each-storable (writerEdition (s .writer)) (namesOf tree) (s .buffer) (dataSize tree) (g .strings-few) small 1 (g .entries) tree (g .each) (omega (arith, g .nodes-few))
+  storables = each-storable (writerEdition (s .writer)) (namesOf tree) (s .buffer) (s .writer .end) (g .strings-few) small 1 (g .entries) tree (g .each) (omega (arith, g .nodes-few))
 
   found-in : (k : ℕ) → 0 < k → k ≤ length tree → foundSlot (s .tree) k ≡ Whole (nodeEntry (g .entries) k)
   found-in k lo hi = rw (g .tree-is) (slot-found (g .entries) (g .tree-rest) storables k lo (omega (arith, count-same)))
@@ -259,8 +277,8 @@ module _ (s : State) (tree : Tree) (g : Invariant s tree) where
   pub entry-in : (k : ℕ) → k ≤ length tree → slotEntry (s .tree) k ≡ nodeEntry (g .entries) k
   entry-in k hi = rw (g .tree-is) (slot-entry (g .entries) (g .tree-rest) storables k (omega (arith, count-same)))
 
-  pub stored-in : (k : ℕ) → 0 < k → k ≤ length tree → Stored (writerEdition (s .writer)) (namesOf tree) (s .buffer) (dataSize tree) k (nodeEntry (g .entries) k) (treeNode tree k)
-  stored-in = each-at (writerEdition (s .writer)) (namesOf tree) (s .buffer) (dataSize tree) (g .entries) tree (g .each)
+  pub stored-in : (k : ℕ) → 0 < k → k ≤ length tree → Stored (writerEdition (s .writer)) (namesOf tree) (s .buffer) (s .writer .end) k (nodeEntry (g .entries) k) (treeNode tree k)
+  stored-in = each-at (writerEdition (s .writer)) (namesOf tree) (s .buffer) (s .writer .end) (g .entries) tree (g .each)
 
   pub entries-in : entriesOut (s .tree) (s .writer .nodes) ≡ treeBytes (g .entries)
   entries-in = rw (g .nodes-count, ← count-same, g .tree-is) (entries-out (g .entries) (g .tree-rest) storables)
@@ -283,15 +301,15 @@ module _ (s : State) (tree : Tree) (g : Invariant s tree) where
 
   -- The bytes of the entries in a file.
   pub sizes-in-bytes : length (treeBytes (g .entries)) ≡ entriesSize tree
-  sizes-in-bytes = each-sizes (writerEdition (s .writer)) (namesOf tree) (s .buffer) (dataSize tree) 1 (g .entries) tree (g .each)
+  sizes-in-bytes = each-sizes (writerEdition (s .writer)) (namesOf tree) (s .buffer) (s .writer .end) 1 (g .entries) tree (g .each)
 
   sizes-in : entrySizes (s .tree) (s .writer .nodes) ≡ entriesSize tree
   sizes-in =
       rw (g .nodes-count, ← count-same, g .tree-is) (sizes-are (g .entries) (g .tree-rest) storables) ∙ sizes-in-bytes
 
-  pub size-in : finishedSize (s .writer) (s .tree) ≡ sizeOf (writerEdition (s .writer)) tree
+  pub size-in : finishedSize (s .writer) (s .tree) ≡ sizeOf (s .writer .end) tree
   unfolding finishedSize sizeOf
-  size-in = rw (sizes-in, g .data-count, g .text-count)
+  size-in = rw (sizes-in, g .text-count)
 
   pub name-in : (k : ℕ) → 0 < k → k ≤ length tree → nameOf (s .writer) (s .text) (s .tree) k ≡ treeNode tree k .name
   name-in k lo hi = rw (names-in, entry-in k hi) (stored-in k lo hi .name-is)
@@ -325,6 +343,7 @@ module _ (s : State) (tree : Tree) (g : Invariant s tree) where
         string-exists = λ k lo hi.
             let l : k ≤ length tree = omega (arith, g .nodes-count) in
             rw (entry-in k l) (omega (arith, stored-in k lo l .string-exists, g .strings-count));
+        end-after-header = g .after-header;
         data-begins = λ k lo hi.
             let l : k ≤ length tree = omega (arith, g .nodes-count) in
             let t = stored-in k lo l in
@@ -332,6 +351,6 @@ module _ (s : State) (tree : Tree) (g : Invariant s tree) where
         data-ends = λ k lo hi.
             let l : k ≤ length tree = omega (arith, g .nodes-count) in
             let t = stored-in k lo l in
-            rw (entry-in k l, t .kind-is, t .whole, g .data-count) (t .ends);
+            rw (entry-in k l, t .kind-is, t .whole) (t .ends);
         size-fits = rw size-in (g .fits);
       }

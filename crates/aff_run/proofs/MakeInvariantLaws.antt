@@ -32,9 +32,9 @@ use Rattle.aff_areas.specs.Areas.{namesIn, slotAt, slotEntry, finishedSize}
 use Rattle.aff_areas.specs.Stores.{applyStores}
 use Rattle.aff_areas.specs.Writer.{writerEdition}
 use Rattle.aff_make.specs.Make.{addedStrings, addedText, tooMany, isChild, childExists, childChecks, madeText, madeEntry, madeTree}
-use Rattle.aff_run.specs.TreeSizes.{withChild, addName, namesOf, dataSize, entriesSize, sizeOf}
+use Rattle.aff_run.specs.TreeSizes.{withChild, addName, namesOf, entriesSize, sizeOf}
 use Rattle.aff_run.specs.Run.{make, State, completed, step, afterCall}
-use Rattle.aff_run.proofs.InvariantLaws.{Stored, Each, Invariant, ZerosAfter, blank-drop, each-snoc, each-kept, names-in, count-same, entry-in, stored-in, name-in, size-in, text-after, tree-after}
+use Rattle.aff_run.proofs.InvariantLaws.{Stored, Each, Invariant, ZerosAfter, offsets-snoc, blank-drop, each-snoc, each-kept, names-in, count-same, entry-in, stored-in, name-in, size-in, text-after, tree-after}
 use Rattle.aff_run.proofs.NamesLaws.{index-in, index-name, length-add, text-add, add-longer, add-old, text-stored, subkeys-add, distinct-add, names-snoc}
 use Rattle.aff_run.proofs.SlotsLaws.{slotsOf, slot-added}
 use Rattle.aff_run.proofs.StepLaws.{accepted-clear}
@@ -44,21 +44,16 @@ use Rattle.aff_run.proofs.StepLaws.{accepted-clear}
 abbrev pub child : ℕ → List ℕ → Node
 child parent name = record { parent = parent; name = name; kind = Void; bytes = [] }
 
-data-snoc : (tree : Tree) (t : Node) → dataSize (tree ++ (t ∷ [])) ≡ dataSize tree + length (t .bytes)
-unfolding dataSize
-data-snoc [] t = omega arith
-data-snoc (s ∷ tree) t = omega (arith, data-snoc tree t)
-
 entries-snoc : (tree : Tree) (t : Node) → entriesSize (tree ++ (t ∷ [])) ≡ entriesSize tree + entrySize (t .kind)
 unfolding entriesSize
 entries-snoc [] t = omega arith
 entries-snoc (s ∷ tree) t = omega (arith, entries-snoc tree t)
 
-pub size-child : (ed : Edition) (tree : Tree) (parent : ℕ) (name : List ℕ) → sizeOf ed (withChild tree parent name) ≡ sizeOf ed tree + 13 + cond (isIn name (namesOf tree)) 0 (length name + 1)
+pub size-child : (end : ℕ) (tree : Tree) (parent : ℕ) (name : List ℕ) → sizeOf end (withChild tree parent name) ≡ sizeOf end tree + 13 + cond (isIn name (namesOf tree)) 0 (length name + 1)
 unfolding sizeOf
-size-child ed tree parent name =
+size-child end tree parent name =
     let t = child parent name in
-    rw (data-snoc tree t, entries-snoc tree t, names-snoc tree t, text-add (namesOf tree) name) (omega arith)
+    rw (entries-snoc tree t, names-snoc tree t, text-add (namesOf tree) name) (omega arith)
 
 pub length-snoc : (tree : Tree) (t : Node) → length (tree ++ (t ∷ [])) ≡ length tree + 1
 length-snoc tree t = length-append tree (t ∷ [])
@@ -71,7 +66,7 @@ node-new : (tree : Tree) (t : Node) → treeNode (tree ++ (t ∷ [])) (suc (leng
 node-new tree t = getD-append-seam tree t [] root
 
 -- The counts with one name more.
-module _ (s : State) (tree : Tree) (g : Invariant s tree) (name : List ℕ) where
+module _ (s : State) (tree : Tree) {offsets : List ℕ} (g : Invariant s tree offsets) (name : List ℕ) where
   pub strings-now : s .writer .strings + addedStrings (s .writer) (s .text) name ≡ length (addName (namesOf tree) name)
   strings-now = rw (names-in s tree g, g .strings-count) (sym (length-add (namesOf tree) name))
 
@@ -80,7 +75,7 @@ module _ (s : State) (tree : Tree) (g : Invariant s tree) (name : List ℕ) wher
 
 -- ---- What an accepted make found.
 
-module _ (s : State) (tree : Tree) (g : Invariant s tree) (parent : ℕ) (name : List ℕ) {n : ℕ} (h : step s (make parent name) .answer ≡ accepted n) where
+module _ (s : State) (tree : Tree) {offsets : List ℕ} (g : Invariant s tree offsets) (parent : ℕ) (name : List ℕ) {n : ℕ} (h : step s (make parent name) .answer ≡ accepted n) where
   abbrev names : List (List ℕ)
   names = namesOf tree
 
@@ -115,10 +110,10 @@ module _ (s : State) (tree : Tree) (g : Invariant s tree) (parent : ℕ) (name :
       let l = ltb-false textArea (s .writer .text + addedText (s .writer) (s .text) name) (b .1) in
       (omega (arith, g .nodes-count), rw (← strings-now s tree g name) k, rw (← text-now s tree g name) l)
 
-  size-now : sizeOf (writerEdition (s .writer)) (withChild tree parent name) ≤ s .writer .length
+  size-now : sizeOf (s .writer .end) (withChild tree parent name) ≤ s .writer .length
   size-now =
       let l = ltb-false (s .writer .length) (finishedSize (s .writer) (s .tree) + entrySize Void + addedText (s .writer) (s .text) name) (clear .1 .1 .1 .1 .0) in
-      rw (size-child (writerEdition (s .writer)) tree parent name) (rw (size-in s tree g, names-in s tree g) at l)
+      rw (size-child (s .writer .end) tree parent name) (rw (size-in s tree g, names-in s tree g) at l)
 
   -- ---- What it leaves.
 
@@ -128,7 +123,7 @@ module _ (s : State) (tree : Tree) (g : Invariant s tree) (parent : ℕ) (name :
   abbrev entry : Entry
   entry = madeEntry (s .writer) (s .text) parent name
 
-  new-stored : Stored (writerEdition (s .writer)) (addName names name) (s .buffer) (dataSize tree) (suc (length tree)) entry (child parent name)
+  new-stored : Stored (writerEdition (s .writer)) (addName names name) (s .buffer) (s .writer .end) (suc (length tree)) entry (child parent name)
   new-stored =
       record {
         parent-is = refl;
@@ -141,14 +136,15 @@ module _ (s : State) (tree : Tree) (g : Invariant s tree) (parent : ℕ) (name :
         whole = refl;
         short = omega arith;
         void-offset = λ v. refl;
+        offset-aligned = refl;
         begins = λ v. absurd (true≢false v);
         ends = λ v. absurd (true≢false v);
         there = λ v. absurd (true≢false v);
       }
 
-  each-left : Each (writerEdition (s .writer)) (addName names name) (s .buffer) (dataSize tree) 1 (g .entries) tree
+  each-left : Each (writerEdition (s .writer)) (addName names name) (s .buffer) (s .writer .end) 1 (g .entries) tree
   each-left =
-      each-kept (writerEdition (s .writer)) names (addName names name) (s .buffer) (s .buffer) (dataSize tree) (dataSize tree) (add-longer names name) (add-old names name)
+      each-kept (writerEdition (s .writer)) names (addName names name) (s .buffer) (s .buffer) (s .writer .end) (s .writer .end) (add-longer names name) (add-old names name)
       (omega arith) (λ at n l. refl) 1 (g .entries) tree (g .each)
 
   text-left : (k : ℕ) × (left .text ≡ textOf (addName names name) ++ drop k (g .text-rest))
@@ -198,12 +194,11 @@ module _ (s : State) (tree : Tree) (g : Invariant s tree) (parent : ℕ) (name :
       (sym (ap (λ (x : Node). x .name) a) ∙ q ∙ ap (λ (x : Node). x .name) b))
       (eq-or-lt-of-le at-most)
 
-  made-left : Invariant left (withChild tree parent name)
+  made-left : Invariant left (withChild tree parent name) (offsets ++ (0 ∷ []))
   unfolding madeText madeTree
   made-left =
       let t = child parent name in
       let ns = names-snoc tree t in
-      let z : dataSize (withChild tree parent name) ≡ dataSize tree = data-snoc tree t ∙ omega arith in
       record {
         entries = g .entries ++ (entry ∷ []);
         text-rest = drop (text-left .0) (g .text-rest);
@@ -221,12 +216,13 @@ module _ (s : State) (tree : Tree) (g : Invariant s tree) (parent : ℕ) (name :
         text-count = rw ns (text-now s tree g name);
         nodes-count = omega (arith, g .nodes-count, length-snoc tree t);
         nodes-few = omega (arith, limits .0, length-snoc tree t);
-        data-count = g .data-count ∙ sym z;
+        after-header = g .after-header;
         live = g .live;
         fits = size-now;
         subkeys = rw ns (subkeys-add names name (writerEdition (s .writer)) (g .subkeys) is-subkey);
         distinct = rw ns (distinct-add names name (g .distinct));
-        each = rw (ns, z) (each-snoc (writerEdition (s .writer)) (addName names name) (s .buffer) (dataSize tree) 1 (g .entries) tree entry t each-left (rw one-add new-stored));
+        each = rw ns (each-snoc (writerEdition (s .writer)) (addName names name) (s .buffer) (s .writer .end) 1 (g .entries) tree entry t each-left (rw one-add new-stored));
+        offsets-are = offsets-snoc (g .entries) entry ∙ ap (λ (l : List ℕ). l ++ (0 ∷ [])) (g .offsets-are);
         siblings = siblings-left;
       }
 
@@ -234,7 +230,7 @@ module _ (s : State) (tree : Tree) (g : Invariant s tree) (parent : ℕ) (name :
   unfolding step applyStores
   left-is = rw (h, take-nil n)
 
-  pub made-invariant : Invariant (afterCall s (make parent name)) (withChild tree parent name)
+  pub made-invariant : Invariant (afterCall s (make parent name)) (withChild tree parent name) (offsets ++ (0 ∷ []))
   made-invariant = rw left-is made-left
 
   -- Zeros after stay zeros.

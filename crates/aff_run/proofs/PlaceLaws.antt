@@ -8,9 +8,10 @@ use Prim.Native.Nat.{ℕ, zero, suc, _+_, _≤_, _<_}
 use native.Mathlib.Nat.{eq-or-lt-of-le}
 use native.Mathlib.Omega.{arith}
 use lib.Dec.{eqb, ltb}
-use lib.ListN.{length, getD, set, take, drop, length-append}
+use lib.ListN.{length, getD, set, take, drop, replicate, length-append}
 use lib.Seq.{take-append-le}
 use borrow.Author.Tests.{ltb-true}
+use Rattle.aff_format.specs.Align.{padding}
 use Rattle.aff_format.specs.Answer.{Answer, accepted, refused, refusalAt}
 use Rattle.aff_format.specs.declared.refusal.RefusalCode.{RefusalCode}
 use Rattle.aff_format.proofs.AnswerLaws.{last-reported}
@@ -24,9 +25,9 @@ use Rattle.aff_header.specs.Header.{headerFront, withSum}
 use Rattle.aff_areas.specs.Areas.{usedText, entriesOut}
 use Rattle.aff_areas.specs.Stores.{Store, applyStores, storesFrom, storesReported}
 use Rattle.aff_write.specs.Close.{symbolsPlace, treePlace, closeSection, closeHeader, closeStores, closeAnswer}
-use Rattle.aff_write.specs.Put.{putPlace, putStores}
+use Rattle.aff_write.specs.Put.{putStores}
 use Rattle.aff_run.specs.Run.{Call, make, put, close, State, answerTo, step, afterCall, answersOf, storesOf, isAccepted, isClose, closedBy}
-use Rattle.aff_run.proofs.RunLaws.{step-sleeps, close-sleeps, sleeps-asleep, needed-made}
+use Rattle.aff_run.proofs.RunLaws.{step-end, end-grows, step-sleeps, close-sleeps, sleeps-asleep, needed-made}
 use Rattle.aff_run.proofs.CutLaws.{make-stores}
 use Rattle.aff_run.proofs.StepLaws.{step-refused, asleep-stores, asleep-closed}
 
@@ -101,9 +102,9 @@ ends-in-one a b c h {x} {rest} p q e = (
   rw e (sym (append-assoc (a ++ b) (storesFrom 1 rest) (record { at = 0; byte = x } ∷ []))),
 )
 
-close-shape : (s : State) → Shaped (closeStores (s .buffer) (s .writer) (s .text) (s .tree)) true
+close-shape : (s : State) → 1 ≤ s .writer .end → Shaped (closeStores (s .buffer) (s .writer) (s .text) (s .tree)) true
 unfolding closeStores
-close-shape s =
+close-shape s outside =
     let f = header-first s in
     ends-in-one (storesFrom (symbolsPlace (s .writer)) (usedText (s .writer) (s .text))) (storesFrom (treePlace (s .writer)) (entriesOut (s .tree) (s .writer .nodes))) []
     (closeHeader (s .buffer) (s .writer) (s .text) (s .tree))
@@ -118,23 +119,29 @@ shaped-after a ss true p (mid, last, q, e) = (a ++ mid, last, after-append a mid
 
 -- ---- Each call of a run.
 
-put-after : (s : State) (node type : ℕ) (bytes : List ℕ) (allowance : ℕ) → FromPlace (step s (put node type bytes allowance) .stores)
+put-after : (s : State) → 1 ≤ s .writer .end → (node type : ℕ) (bytes : List ℕ) (allowance : ℕ) → FromPlace (step s (put node type bytes allowance) .stores)
 unfolding step
-put-after s node type bytes allowance =
-    after-take (storesReported (answerTo s (put node type bytes allowance))) (putStores (s .writer) bytes) (after-from (putPlace (s .writer)) bytes (omega arith))
+put-after s outside node type bytes allowance =
+    after-take (storesReported (answerTo s (put node type bytes allowance))) (putStores (s .writer) bytes)
+    (after-from (s .writer .end) (replicate (padding (s .writer .end)) 0 ++ bytes) outside)
 
 -- A 23 reports the allowance, which is below the stores needed.
-close-spent : (s : State) (allowance : ℕ) (t : RefusalCode) → step s (close allowance) .answer ≡ refused t → eqb (t .number) 23 ≡ true
+close-spent : (s : State) → 1 ≤ s .writer .end → (allowance : ℕ) (t : RefusalCode) → step s (close allowance) .answer ≡ refused t → eqb (t .number) 23 ≡ true
     → FromPlace (step s (close allowance) .stores)
 unfolding step closeAnswer
-close-spent s allowance t h e =
+close-spent s outside allowance t h e =
     let all = closeStores (s .buffer) (s .writer) (s .text) (s .tree) in
     let q = last-reported 23 (writerChecks (length (s .buffer)) (s .writer) (s .text) (s .tree)) refl (ltb allowance (length all)) (refusalAt 23 allowance) (length all) h e in
     let l = ltb-true allowance (length all) (q .1) in
     let p : t .place < length all = rw (q .2) l in
-    rw (h, e) (shaped-take all true (t .place) (close-shape s) (λ r. omega (arith, r .0)) (omega arith))
+    rw (h, e) (shaped-take all true (t .place) (close-shape s outside) (λ r. omega (arith, r .0)) (omega arith))
 
-module _ (s : State) (cs : List Call) (later : (s′ : State) → Shaped (storesOf s′ cs) (closedBy cs (answersOf s′ cs))) where
+-- A call never moves the end of data down.
+after-end : (s : State) (c : Call) → 1 ≤ s .writer .end → 1 ≤ afterCall s c .writer .end
+after-end s c outside = omega (arith, step-end s c, end-grows (s .writer .end) c (isAccepted (step s c .answer)))
+
+module _ (s : State) (outside : 1 ≤ s .writer .end) (cs : List Call)
+    (later : (s′ : State) → 1 ≤ s′ .writer .end → Shaped (storesOf s′ cs) (closedBy cs (answersOf s′ cs))) where
   abbrev ShapedAfter : Call → Answer ℕ → Type 0
   ShapedAfter c a =
       Shaped (step s c .stores ++ storesOf (afterCall s c) cs) ((isAccepted a && isClose c) || closedBy cs (answersOf (afterCall s c) cs))
@@ -143,7 +150,7 @@ module _ (s : State) (cs : List Call) (later : (s′ : State) → Shaped (stores
   goes-on : (c : Call) → FromPlace (step s c .stores)
       → Shaped (step s c .stores ++ storesOf (afterCall s c) cs) (closedBy cs (answersOf (afterCall s c) cs))
   goes-on c p =
-      let n = afterCall s c in shaped-after (step s c .stores) (storesOf n cs) (closedBy cs (answersOf n cs)) p (later n)
+      let n = afterCall s c in shaped-after (step s c .stores) (storesOf n cs) (closedBy cs (answersOf n cs)) p (later n (after-end s c outside))
 
   -- A call that leaves the writer closed or stopped.
   ends : (c : Call) (b : Bool) → step s c .writer .live ≡ false → Shaped (step s c .stores) b
@@ -157,17 +164,17 @@ module _ (s : State) (cs : List Call) (later : (s′ : State) → Shaped (stores
       same false q = q
 
   close-after : (allowance : ℕ) (t : RefusalCode) (b : Bool) → eqb (t .number) 23 ≡ b → step s (close allowance) .answer ≡ refused t → ShapedAfter (close allowance) (refused t)
-  close-after allowance t true e h = ends (close allowance) false (sleeps-asleep s (close allowance) (step-sleeps s (close allowance) t h e)) (close-spent s allowance t h e)
+  close-after allowance t true e h = ends (close allowance) false (sleeps-asleep s (close allowance) (step-sleeps s (close allowance) t h e)) (close-spent s outside allowance t h e)
   close-after allowance t false e h = goes-on (close allowance) (rw (step-refused s t e (close allowance) h) tt)
 
   by-answer : (c : Call) (a : Answer ℕ) → step s c .answer ≡ a → ShapedAfter c a
   by-answer (make parent name) (accepted n) h = goes-on (make parent name) (rw (make-stores s parent name) tt)
   by-answer (make parent name) (refused t) h = goes-on (make parent name) (rw (make-stores s parent name) tt)
-  by-answer (put node type bytes allowance) (accepted n) h = goes-on (put node type bytes allowance) (put-after s node type bytes allowance)
-  by-answer (put node type bytes allowance) (refused t) h = goes-on (put node type bytes allowance) (put-after s node type bytes allowance)
-  by-answer (close allowance) (accepted n) h = ends (close allowance) true (sleeps-asleep s (close allowance) (close-sleeps s allowance h)) (rw (needed-made s (close allowance) h) (close-shape s))
+  by-answer (put node type bytes allowance) (accepted n) h = goes-on (put node type bytes allowance) (put-after s outside node type bytes allowance)
+  by-answer (put node type bytes allowance) (refused t) h = goes-on (put node type bytes allowance) (put-after s outside node type bytes allowance)
+  by-answer (close allowance) (accepted n) h = ends (close allowance) true (sleeps-asleep s (close allowance) (close-sleeps s allowance h)) (rw (needed-made s (close allowance) h) (close-shape s outside))
   by-answer (close allowance) (refused t) h = close-after allowance t (eqb (t .number) 23) refl h
 
-pub run-shape : (cs : List Call) (s : State) → Shaped (storesOf s cs) (closedBy cs (answersOf s cs))
-run-shape [] s = tt
-run-shape (c ∷ cs) s = by-answer s cs (run-shape cs) c (step s c .answer) refl
+pub run-shape : (cs : List Call) (s : State) → 1 ≤ s .writer .end → Shaped (storesOf s cs) (closedBy cs (answersOf s cs))
+run-shape [] s outside = tt
+run-shape (c ∷ cs) s outside = by-answer s outside cs (run-shape cs) c (step s c .answer) refl

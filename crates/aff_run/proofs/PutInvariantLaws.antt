@@ -1,16 +1,17 @@
--- An accepted put leaves record, tree area and buffer of the tree in which the node has its data: the bytes come after those put before, and no
--- earlier byte changes. Assumes nothing.
+-- An accepted put leaves record, tree area and buffer of the tree in which the node has its data: zeros up to the next multiple of 8 and the bytes come after
+-- those put before, and no earlier byte changes. Assumes nothing.
 use mathlib.Core.Path.{_≡_, refl, sym, ap, _∙_}
 use mathlib.Core.Bool.{Bool, true, false, not, true≢false}
 use mathlib.Core.List.{List, [], _∷_, _++_}
 use Prim.Native.Nat.{ℕ, zero, suc, _+_, _-_, _%_, _≤_, _<_}
-use native.Mathlib.Nat.{div-add-mod', mul-zero}
+use native.Mathlib.Nat.{div-add-mod'}
 use native.Mathlib.Numerals.{one-add}
 use native.Mathlib.Omega.{arith}
 use lib.Dec.{eqb}
-use lib.ListN.{length, getD, set, take, drop, length-set}
-use lib.Seq.{getD-set-same, getD-set-other, take-length}
+use lib.ListN.{length, getD, set, take, drop, replicate, length-set, length-append, length-replicate}
+use lib.Seq.{getD-set-same, getD-set-other, take-length, drop-at}
 use borrow.Author.Tests.{eqb-true, eqb-false, ltb-false, not-false}
+use Rattle.aff_format.specs.Align.{padding, aligned}
 use Rattle.aff_format.specs.Answer.{accepted, Clear}
 use Rattle.aff_format.specs.Bytes.{part, spliced}
 use Rattle.aff_format.specs.Entry.{slotBytes}
@@ -21,18 +22,19 @@ use Rattle.aff_format.specs.declared.entry.Entry.{Entry}
 use Rattle.aff_format.specs.declared.kind.Kind.{Kind}
 use Rattle.aff_format.specs.declared.kind.FoundKind.{FoundKind}
 use Rattle.aff_format.specs.declared.kind.FoundKind.the-variants.{Known, Unknown}
-use Rattle.aff_format.proofs.BytesLaws.{length-spliced, take-spliced, part-spliced, drop-take}
+use Rattle.aff_format.proofs.AlignLaws.{aligned-multiple}
+use Rattle.aff_format.proofs.BytesLaws.{length-spliced, take-spliced, part-spliced, part-part, drop-take}
 use Rattle.aff_format.proofs.EntryLaws.{length-slotBytes}
 use Rattle.aff_format.proofs.KindLaws.{countIn-div}
 use Rattle.aff_format.proofs.TestLaws.{or-false}
 use Rattle.aff_tables.specs.Tables.{nodeEntry}
 use Rattle.aff_areas.specs.Areas.{slotAt, slotEntry, finishedSize}
-use Rattle.aff_areas.specs.Writer.{writerEdition, dataPlace}
+use Rattle.aff_areas.specs.Writer.{writerEdition}
 use Rattle.aff_areas.proofs.StoreLaws.{apply-spliced}
 use Rattle.aff_write.specs.Put.{takesNone, wrongData, dataKind, putPlace, putStores, dataChecks, putWriter, putEntry, putTree}
-use Rattle.aff_run.specs.TreeSizes.{withData, addName, namesFrom, namesOf, dataSize, entriesSize, sizeOf}
+use Rattle.aff_run.specs.TreeSizes.{withData, addName, namesFrom, namesOf, entriesSize, sizeOf}
 use Rattle.aff_run.specs.Run.{put, State, step, afterCall}
-use Rattle.aff_run.proofs.InvariantLaws.{Stored, Each, Invariant, ZerosAfter, each-set, each-kept, is-void, count-same, entry-in, stored-in, size-in, text-after, tree-after}
+use Rattle.aff_run.proofs.InvariantLaws.{Stored, Each, Invariant, ZerosAfter, offsets-set, each-set, each-kept, is-void, count-same, entry-in, stored-in, size-in, text-after, tree-after}
 use Rattle.aff_run.proofs.SlotsLaws.{slotsOf, slot-changed}
 use Rattle.aff_run.proofs.StepLaws.{accepted-clear}
 
@@ -43,12 +45,6 @@ unfolding namesFrom
 names-set names [] j t e = refl
 names-set names (u ∷ tree) zero t e = rw e
 names-set names (u ∷ tree) (suc j) t e = names-set (addName names (u .name)) tree j t e
-
-data-set : (tree : Tree) (j : ℕ) (t : Node) → j < length tree → length (getD tree j root .bytes) ≡ 0 → dataSize (set tree j t) ≡ dataSize tree + length (t .bytes)
-unfolding dataSize
-data-set [] j t h e = absurd (omega arith)
-data-set (u ∷ tree) zero t h e = omega arith
-data-set (u ∷ tree) (suc j) t h e = omega (arith, data-set tree j t (omega arith) e)
 
 entries-set : (tree : Tree) (j : ℕ) (t : Node) → j < length tree → entrySize (getD tree j root .kind) ≡ 13 → entrySize (t .kind) ≡ 25
     → entriesSize (set tree j t) ≡ entriesSize tree + 12
@@ -64,6 +60,14 @@ part-before at n p x l h f =
     let d : (m : List ℕ) → drop at (take (at + n) m) ≡ part at n m = λ m. drop-take at (at + n) m ∙ rw z in
     sym (d (spliced p x l)) ∙ ap (drop at) (take-spliced p (at + n) x l h f) ∙ d l
 
+-- The second of two runs written one after the other.
+second-spliced : (p n : ℕ) (x y l : List ℕ) → length x ≡ n → p + length (x ++ y) ≤ length l → part (p + n) (length y) (spliced p (x ++ y) l) ≡ y
+second-spliced p n x y l e f =
+    let m = length-append x y in
+    sym (part-part p (length (x ++ y)) n (length y) (spliced p (x ++ y) l) (omega arith))
+    ∙ ap (part n (length y)) (part-spliced p (x ++ y) l f)
+    ∙ rw (drop-at x y n e, take-length)
+
 -- ---- What an accepted put found.
 
 -- A type that holds data, and a length that is a multiple of its element.
@@ -73,7 +77,7 @@ data-right (Known k) n h =
     let a = or-false (isVoid k) (not (eqb (n % elementSize k) 0)) h in (a .0, eqb-true (n % elementSize k) 0 (not-false (eqb (n % elementSize k) 0) (a .1)))
 
 -- The tree in which a Void node has data.
-module _ (s : State) (tree : Tree) (g : Invariant s tree) (node : ℕ) (kind : Kind) (bytes : List ℕ)
+module _ (tree : Tree) (node : ℕ) (kind : Kind) (bytes : List ℕ)
     (lo : 0 < node) (there : node ≤ length tree) (void : isVoid (treeNode tree node .kind) ≡ true) (right : isVoid kind ≡ false) where
   abbrev withNode : Node
   withNode = record { parent = treeNode tree node .parent; name = treeNode tree node .name; kind = kind; bytes = bytes }
@@ -84,22 +88,16 @@ module _ (s : State) (tree : Tree) (g : Invariant s tree) (node : ℕ) (kind : K
   names-after : namesOf (withData tree node kind bytes) ≡ namesOf tree
   names-after = names-set [] tree (node - 1) withNode (ap (λ (t : Node). t .name) (sym (old-at .1)))
 
-  data-after : dataSize (withData tree node kind bytes) ≡ dataSize tree + length bytes
-  data-after =
-      let z : elementSize (treeNode tree node .kind) ≡ 0 = ap elementSize (is-void (treeNode tree node .kind) void) in
-      let empty : length (treeNode tree node .bytes) ≡ 0 = sym (stored-in s tree g node lo there .whole) ∙ rw z (mul-zero (nodeEntry (g .entries) node .count)) in
-      data-set tree (node - 1) withNode (old-at .0) (ap (λ (t : Node). length (t .bytes)) (old-at .1) ∙ empty)
-
   entries-after : entriesSize (withData tree node kind bytes) ≡ entriesSize tree + 12
   entries-after =
       entries-set tree (node - 1) withNode (old-at .0) (ap (λ (t : Node). entrySize (t .kind)) (old-at .1) ∙ ap entrySize (is-void (treeNode tree node .kind) void))
       (rw right)
 
-  pub size-after : sizeOf (writerEdition (s .writer)) (withData tree node kind bytes) ≡ sizeOf (writerEdition (s .writer)) tree + 12 + length bytes
+  pub size-after : (end : ℕ) → sizeOf (aligned end + length bytes) (withData tree node kind bytes) ≡ sizeOf end tree + 12 + padding end + length bytes
   unfolding sizeOf
-  size-after = rw (data-after, entries-after, names-after) (omega arith)
+  size-after end = rw (entries-after, names-after) (omega arith)
 
-module _ (s : State) (tree : Tree) (g : Invariant s tree) (node type : ℕ) (bytes : List ℕ) (allowance : ℕ) {n : ℕ}
+module _ (s : State) (tree : Tree) {offsets : List ℕ} (g : Invariant s tree offsets) (node type : ℕ) (bytes : List ℕ) (allowance : ℕ) {n : ℕ}
     (h : step s (put node type bytes allowance) .answer ≡ accepted n) where
   abbrev kind : Kind
   kind = dataKind (kindOf type)
@@ -121,7 +119,7 @@ module _ (s : State) (tree : Tree) (g : Invariant s tree) (node type : ℕ) (byt
   abbrev old : Node
   old = treeNode tree node
 
-  old-stored : Stored (writerEdition (s .writer)) (namesOf tree) (s .buffer) (dataSize tree) node (nodeEntry (g .entries) node) old
+  old-stored : Stored (writerEdition (s .writer)) (namesOf tree) (s .buffer) (s .writer .end) node (nodeEntry (g .entries) node) old
   old-stored = stored-in s tree g node (takes .0) there
 
   old-void : isVoid (old .kind) ≡ true
@@ -130,9 +128,9 @@ module _ (s : State) (tree : Tree) (g : Invariant s tree) (node type : ℕ) (byt
   right : (isVoid kind ≡ false) × (length bytes % elementSize kind ≡ 0)
   right = data-right (kindOf type) (length bytes) (clear .1 .1 .0)
 
-  size-now : sizeOf (writerEdition (s .writer)) tree + 12 + length bytes ≤ s .writer .length
+  size-now : sizeOf (s .writer .end) tree + 12 + padding (s .writer .end) + length bytes ≤ s .writer .length
   size-now =
-      let l = ltb-false (s .writer .length) (finishedSize (s .writer) (s .tree) + 12 + length bytes) (clear .1 .1 .1 .0) in
+      let l = ltb-false (s .writer .length) (finishedSize (s .writer) (s .tree) + 12 + padding (s .writer .end) + length bytes) (clear .1 .1 .1 .0) in
       rw (size-in s tree g) at l
 
   -- ---- What it leaves.
@@ -146,18 +144,24 @@ module _ (s : State) (tree : Tree) (g : Invariant s tree) (node type : ℕ) (byt
   abbrev after : Tree
   after = withData tree node kind bytes
 
+  abbrev zeros : List ℕ
+  zeros = replicate (padding (s .writer .end)) 0
+
+  length-zeros : length zeros ≡ padding (s .writer .end)
+  length-zeros = length-replicate (padding (s .writer .end)) 0
+
   abbrev left : State
   left =
       record {
         writer = putWriter (s .writer) bytes;
         text = s .text;
         tree = putTree (s .writer) (s .tree) node type bytes;
-        buffer = spliced (dataPlace (s .writer) + dataSize tree) bytes (s .buffer);
+        buffer = spliced (s .writer .end) (zeros ++ bytes) (s .buffer);
       }
 
-  fits-buffer : dataPlace (s .writer) + dataSize tree + length bytes ≤ length (s .buffer)
+  fits-buffer : s .writer .end + length (zeros ++ bytes) ≤ length (s .buffer)
   unfolding sizeOf
-  fits-buffer = omega (arith, size-now, g .buffer-length)
+  fits-buffer = omega (arith, size-now, g .buffer-length, length-append zeros bytes, length-zeros)
 
   index : (node - 1 < length tree) × (suc (node - 1) ≡ node)
   index = (omega (arith, takes .0, there), omega (arith, takes .0))
@@ -165,11 +169,10 @@ module _ (s : State) (tree : Tree) (g : Invariant s tree) (node type : ℕ) (byt
   old-is : getD tree (node - 1) root ≡ old
   old-is = ap (λ (k : ℕ). treeNode tree k) (index .1)
 
-  new-stored : Stored (writerEdition (s .writer)) (namesOf tree) (left .buffer) (dataSize tree + length bytes) node entry new
+  new-stored : Stored (writerEdition (s .writer)) (namesOf tree) (left .buffer) (putPlace (s .writer) + length bytes) node entry new
   new-stored =
       let e = entry-in s tree g node there in
       let o = old-stored in
-      let p : putPlace (s .writer) ≡ dataPlace (s .writer) + dataSize tree = ap (λ (d : ℕ). dataPlace (s .writer) + d) (g .data-count) in
       record {
         parent-is = ap (λ (x : Entry). x .parent) e ∙ o .parent-is;
         parent-lower = o .parent-lower;
@@ -183,21 +186,19 @@ module _ (s : State) (tree : Tree) (g : Invariant s tree) (node type : ℕ) (byt
             rw (countIn-div kind bytes (right .0)) (omega (arith, right .1));
         short = omega arith;
         void-offset = λ v. absurd (true≢false (sym v ∙ right .0));
-        begins = λ v. rw p (omega arith);
-        ends = λ v. rw p (omega arith);
-        there = λ v. rw p (part-spliced (dataPlace (s .writer) + dataSize tree) bytes (s .buffer) fits-buffer);
+        offset-aligned = aligned-multiple (s .writer .end);
+        begins = λ v. omega (arith, g .after-header);
+        ends = λ v. omega arith;
+        there = λ v. second-spliced (s .writer .end) (padding (s .writer .end)) zeros bytes (s .buffer) length-zeros fits-buffer;
       }
 
-  each-left : Each (writerEdition (s .writer)) (namesOf tree) (left .buffer) (dataSize tree + length bytes) 1 (g .entries) tree
+  each-left : Each (writerEdition (s .writer)) (namesOf tree) (left .buffer) (putPlace (s .writer) + length bytes) 1 (g .entries) tree
   each-left =
-      each-kept (writerEdition (s .writer)) (namesOf tree) (namesOf tree) (s .buffer) (left .buffer) (dataSize tree) (dataSize tree + length bytes) (omega arith) (λ k l. refl) (omega arith)
-      (λ at n l. part-before at n (dataPlace (s .writer) + dataSize tree) bytes (s .buffer) l fits-buffer) 1 (g .entries) tree (g .each)
+      each-kept (writerEdition (s .writer)) (namesOf tree) (namesOf tree) (s .buffer) (left .buffer) (s .writer .end) (putPlace (s .writer) + length bytes) (omega arith) (λ k l. refl) (omega arith)
+      (λ at n l. part-before at n (s .writer .end) (zeros ++ bytes) (s .buffer) l fits-buffer) 1 (g .entries) tree (g .each)
 
   names-left : namesOf after ≡ namesOf tree
-  names-left = names-after s tree g node kind bytes (takes .0) there old-void (right .0)
-
-  data-left : dataSize after ≡ dataSize tree + length bytes
-  data-left = data-after s tree g node kind bytes (takes .0) there old-void (right .0)
+  names-left = names-after tree node kind bytes (takes .0) there old-void (right .0)
 
   -- Parents and names are as they were.
   site-left : (k : ℕ) → (treeNode after k .parent ≡ treeNode tree k .parent) × (treeNode after k .name ≡ treeNode tree k .name)
@@ -223,7 +224,7 @@ module _ (s : State) (tree : Tree) (g : Invariant s tree) (node type : ℕ) (byt
       length-spliced (slotAt node) (slotBytes entry) (s .tree)
       (omega (arith, length-slotBytes entry, g .tree-area, there, g .nodes-few, takes .0)) ∙ g .tree-area
 
-  put-left : Invariant left after
+  put-left : Invariant left after (set offsets (node - 1) (putPlace (s .writer)))
   put-left =
       record {
         entries = set (g .entries) (node - 1) entry;
@@ -234,7 +235,7 @@ module _ (s : State) (tree : Tree) (g : Invariant s tree) (node type : ℕ) (byt
         text-area = g .text-area;
         tree-area = tree-long;
         edition-written = g .edition-written;
-        buffer-length = length-spliced (dataPlace (s .writer) + dataSize tree) bytes (s .buffer) fits-buffer ∙ g .buffer-length;
+        buffer-length = length-spliced (s .writer .end) (zeros ++ bytes) (s .buffer) fits-buffer ∙ g .buffer-length;
         buffer-allowed = g .buffer-allowed;
         form-length = g .form-length;
         strings-count = rw names-left (g .strings-count);
@@ -242,30 +243,30 @@ module _ (s : State) (tree : Tree) (g : Invariant s tree) (node type : ℕ) (byt
         text-count = rw names-left (g .text-count);
         nodes-count = g .nodes-count ∙ sym (length-set tree (node - 1) new);
         nodes-few = omega (arith, g .nodes-few, length-set tree (node - 1) new);
-        data-count = rw (data-left, g .data-count);
+        after-header = omega (arith, g .after-header);
         live = g .live;
-        fits = rw (size-after s tree g node kind bytes (takes .0) there old-void (right .0)) size-now;
+        fits = rw (size-after tree node kind bytes (takes .0) there old-void (right .0) (s .writer .end)) size-now;
         subkeys = rw names-left (g .subkeys);
         distinct = rw names-left (g .distinct);
         each =
-            rw (names-left, data-left)
-            (each-set (writerEdition (s .writer)) (namesOf tree) (left .buffer) (dataSize tree + length bytes) 1 (g .entries) tree (node - 1) entry new each-left (index .0)
+            rw names-left
+            (each-set (writerEdition (s .writer)) (namesOf tree) (left .buffer) (putPlace (s .writer) + length bytes) 1 (g .entries) tree (node - 1) entry new each-left (index .0)
             (rw (one-add, index .1) new-stored));
+        offsets-are = offsets-set (g .entries) (node - 1) entry ∙ ap (λ (l : List ℕ). set l (node - 1) (putPlace (s .writer))) (g .offsets-are);
         siblings = λ j k lo l hi p q.
             let a = site-left j in
             let b = site-left k in
             g .siblings j k lo l (omega (arith, length-set tree (node - 1) new)) (sym (a .0) ∙ p ∙ b .0) (sym (a .1) ∙ q ∙ b .1);
       }
 
-  -- The stores are all made, and are the bytes after those put before.
+  -- The stores are all made, and are zeros and bytes after those put before.
   left-is : afterCall s (put node type bytes allowance) ≡ left
   unfolding step
   left-is =
       let all : length (putStores (s .writer) bytes) ≡ n = accepted-clear s (put node type bytes allowance) h .1 in
-      let p : putPlace (s .writer) ≡ dataPlace (s .writer) + dataSize tree = ap (λ (d : ℕ). dataPlace (s .writer) + d) (g .data-count) in
-      rw (h, ← all, take-length, p, apply-spliced (dataPlace (s .writer) + dataSize tree) bytes (s .buffer) fits-buffer)
+      rw (h, ← all, take-length, apply-spliced (s .writer .end) (zeros ++ bytes) (s .buffer) fits-buffer)
 
-  pub put-invariant : Invariant (afterCall s (put node type bytes allowance)) after
+  pub put-invariant : Invariant (afterCall s (put node type bytes allowance)) after (set offsets (node - 1) (putPlace (s .writer)))
   put-invariant = rw left-is put-left
 
   -- Zeros after stay zeros.

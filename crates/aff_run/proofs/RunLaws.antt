@@ -3,7 +3,8 @@
 use mathlib.Core.Path.{_≡_, refl, sym, ap, _∙_, subst}
 use mathlib.Core.Bool.{Bool, true, false, cond, _&&_, _||_, true≢false}
 use mathlib.Core.List.{List, [], _∷_, _++_, append-nil}
-use Prim.Native.Nat.{ℕ}
+use Prim.Native.Nat.{ℕ, _≤_}
+use native.Mathlib.Omega.{arith}
 use lib.Dec.{eqb}
 use lib.Seq.{take-nil, take-length}
 use Rattle.aff_format.specs.Answer.{Answer, accepted, refused}
@@ -17,12 +18,12 @@ use Rattle.aff_areas.proofs.StoreLaws.{apply-append}
 use Rattle.aff_write.specs.Close.{closeStores}
 use Rattle.aff_write.specs.Put.{putStores}
 use Rattle.aff_run.specs.AnswersFromTree.{isSpent, stops}
-use Rattle.aff_run.specs.Run.{Call, make, put, close, State, Step, answerTo, needed, completed, step, afterCall, answersOf, storesOf, isAccepted, applyCall, treeAfter, isClose, closedBy}
+use Rattle.aff_run.specs.Run.{Call, make, put, close, State, Step, answerTo, needed, completed, step, afterCall, answersOf, storesOf, isAccepted, applyCall, treeAfter, callEnd, callOffsets, offsetsAfter, isClose, closedBy}
 use Rattle.aff_run.proofs.InvariantLaws.{Invariant, ZerosAfter}
 use Rattle.aff_run.proofs.MakeInvariantLaws.{made-invariant, made-after}
 use Rattle.aff_run.proofs.PutInvariantLaws.{put-invariant, put-after}
 use Rattle.aff_run.proofs.ClosedLaws.{closed, closed-buffer}
-use Rattle.aff_run.proofs.StepLaws.{accepted-clear, step-refused, asleep-stores, asleep-closed, asleep-tree}
+use Rattle.aff_run.proofs.StepLaws.{accepted-clear, step-refused, asleep-stores, asleep-closed, asleep-tree, asleep-offsets}
 
 -- ---- What a call leaves of the record.
 
@@ -49,6 +50,27 @@ pub step-edition : (s : State) (c : Call) → step s c .writer .edition ≡ s .w
 step-edition s (make parent name) = step-keeps (λ w. w .edition) (λ w. refl) s (make parent name) refl
 step-edition s (put node type bytes allowance) = step-keeps (λ w. w .edition) (λ w. refl) s (put node type bytes allowance) refl
 step-edition s (close allowance) = step-keeps (λ w. w .edition) (λ w. refl) s (close allowance) refl
+
+-- The end of data moves as the call and whether it was accepted say.
+pub step-end : (s : State) (c : Call) → step s c .writer .end ≡ callEnd (s .writer .end) c (isAccepted (step s c .answer))
+unfolding step
+step-end s c = go c (answerTo s c)
+  where
+    kept : (b : Bool) → (cond b (stopped (s .writer)) (s .writer)) .end ≡ s .writer .end
+    kept true = refl
+    kept false = refl
+
+    go : (c : Call) (a : Answer ℕ) → (writerAfter a (completed s c .writer) (s .writer)) .end ≡ callEnd (s .writer .end) c (isAccepted a)
+    go (make parent name) (accepted n) = refl
+    go (put node type bytes allowance) (accepted n) = refl
+    go (close allowance) (accepted n) = refl
+    go c (refused t) = kept (eqb (t .number) 23)
+
+pub end-grows : (end : ℕ) (c : Call) (ok : Bool) → end ≤ callEnd end c ok
+end-grows end c false = omega arith
+end-grows end (make parent name) true = omega arith
+end-grows end (put node type bytes allowance) true = omega arith
+end-grows end (close allowance) true = omega arith
 
 -- A call refused by 23 stops the writer, and an accepted close closes it: the record sleeps, the areas are as they were.
 abbrev pub Sleeps : State → Step → Type 0
@@ -81,24 +103,26 @@ next-unchanged s c t e h = rw (step-refused s t e c h)
 -- ---- A call in a state with the invariant.
 
 -- The writer goes on, with the call applied to the tree; or the call closes or stops it, and the tree stays.
-pub data Outcome (s : State) (tree : Tree) (c : Call) : Type 0 where
-  goesOn : stops c (step s c .answer) ≡ false → Invariant (afterCall s c) (applyCall tree c (isAccepted (step s c .answer)))
-      → (ZerosAfter s tree → ZerosAfter (afterCall s c) (applyCall tree c (isAccepted (step s c .answer)))) → Outcome s tree c
-  ends : stops c (step s c .answer) ≡ true → applyCall tree c (isAccepted (step s c .answer)) ≡ tree → Sleeps s (step s c) → Outcome s tree c
+pub data Outcome (s : State) (tree : Tree) (offsets : List ℕ) (c : Call) : Type 0 where
+  goesOn : stops c (step s c .answer) ≡ false
+      → Invariant (afterCall s c) (applyCall tree c (isAccepted (step s c .answer))) (callOffsets (s .writer .end) offsets c (isAccepted (step s c .answer)))
+      → (ZerosAfter s tree → ZerosAfter (afterCall s c) (applyCall tree c (isAccepted (step s c .answer)))) → Outcome s tree offsets c
+  ends : stops c (step s c .answer) ≡ true → applyCall tree c (isAccepted (step s c .answer)) ≡ tree
+      → callOffsets (s .writer .end) offsets c (isAccepted (step s c .answer)) ≡ offsets → Sleeps s (step s c) → Outcome s tree offsets c
 
-module _ (s : State) (tree : Tree) (g : Invariant s tree) where
-  by-number : (c : Call) (t : RefusalCode) (b : Bool) → eqb (t .number) 23 ≡ b → step s c .answer ≡ refused t → Outcome s tree c
-  by-number c t true e h = ends (rw (h, e)) (rw h) (step-sleeps s c t h e)
+module _ (s : State) (tree : Tree) {offsets : List ℕ} (g : Invariant s tree offsets) where
+  by-number : (c : Call) (t : RefusalCode) (b : Bool) → eqb (t .number) 23 ≡ b → step s c .answer ≡ refused t → Outcome s tree offsets c
+  by-number c t true e h = ends (rw (h, e)) (rw h) (rw h) (step-sleeps s c t h e)
   by-number c t false e h = goesOn (rw (h, e)) (rw (h, next-unchanged s c t e h) g) (rw (h, next-unchanged s c t e h) (λ b. b))
 
-  by-answer : (c : Call) (a : Answer ℕ) → step s c .answer ≡ a → Outcome s tree c
+  by-answer : (c : Call) (a : Answer ℕ) → step s c .answer ≡ a → Outcome s tree offsets c
   by-answer c (refused t) h = by-number c t (eqb (t .number) 23) refl h
   by-answer (make parent name) (accepted n) h = goesOn (rw h) (rw h (made-invariant s tree g parent name h)) (rw h (made-after s tree g parent name h))
   by-answer (put node type bytes allowance) (accepted n) h =
       goesOn (rw h) (rw h (put-invariant s tree g node type bytes allowance h)) (rw h (put-after s tree g node type bytes allowance h))
-  by-answer (close allowance) (accepted n) h = ends (rw h) (rw h) (close-sleeps s allowance h)
+  by-answer (close allowance) (accepted n) h = ends (rw h) (rw h) (rw h) (close-sleeps s allowance h)
 
-  pub outcome : (c : Call) → Outcome s tree c
+  pub outcome : (c : Call) → Outcome s tree offsets c
   outcome c = by-answer c (step s c .answer) refl
 
 -- ---- The run.
@@ -115,49 +139,57 @@ close-made s (make parent name) (accepted n) h z = absurd (true≢false (sym z))
 close-made s (put node type bytes allowance) (accepted n) h z = absurd (true≢false (sym z))
 close-made s (close allowance) (accepted n) h z = needed-made s (close allowance) h
 
--- What holds of each closed buffer, with the writer's edition and form and the tree described, holds of the buffer that a run with an accepted close leaves.
-module _ (P : ℕ → List ℕ → List ℕ → Tree → Type 0)
-    (closes : (s : State) (tree : Tree) (g : Invariant s tree) → P (s .writer .edition) (closed s tree g) (s .writer .form) tree) where
+-- What holds of each closed buffer, with the writer's edition and form, the tree described and where its data begin, holds of the buffer that a run with an
+-- accepted close leaves.
+module _ (P : ℕ → List ℕ → List ℕ → Tree → List ℕ → Type 0)
+    (closes : (s : State) (tree : Tree) (offsets : List ℕ) (g : Invariant s tree offsets) → P (s .writer .edition) (closed s tree g) (s .writer .form) tree offsets) where
   abbrev HoldsFrom : List Call → Type 0
-  HoldsFrom cs = (s : State) (tree : Tree) → Invariant s tree → closedBy cs (answersOf s cs) ≡ true
+  HoldsFrom cs = (s : State) (tree : Tree) (offsets : List ℕ) → Invariant s tree offsets → closedBy cs (answersOf s cs) ≡ true
       → P (s .writer .edition) (applyStores (s .buffer) (storesOf s cs)) (s .writer .form) (treeAfter tree cs (answersOf s cs))
+      (offsetsAfter (s .writer .end) offsets cs (answersOf s cs))
 
-  module _ (s : State) (tree : Tree) (g : Invariant s tree) (c : Call) (cs : List Call) (later : HoldsFrom cs) where
+  module _ (s : State) (tree : Tree) (offsets : List ℕ) (g : Invariant s tree offsets) (c : Call) (cs : List Call) (later : HoldsFrom cs) where
     -- The same, after call c.
-    abbrev HoldsAfter : Tree → Type 0
-    HoldsAfter after =
+    abbrev HoldsAfter : Tree → List ℕ → Type 0
+    HoldsAfter after places =
         P (s .writer .edition) (applyStores (s .buffer) (step s c .stores ++ storesOf (afterCall s c) cs)) (s .writer .form)
         (treeAfter after cs (answersOf (afterCall s c) cs))
+        (offsetsAfter (callEnd (s .writer .end) c (isAccepted (step s c .answer))) places cs (answersOf (afterCall s c) cs))
 
-    goes-on : (after : Tree) → Invariant (afterCall s c) after → closedBy cs (answersOf (afterCall s c) cs) ≡ true → HoldsAfter after
-    goes-on after kept z =
+    goes-on : (after : Tree) (places : List ℕ) → Invariant (afterCall s c) after places → closedBy cs (answersOf (afterCall s c) cs) ≡ true → HoldsAfter after places
+    goes-on after places kept z =
         let n = afterCall s c in
         let all = applyStores (s .buffer) (step s c .stores ++ storesOf n cs) in
         let shown = treeAfter after cs (answersOf n cs) in
-        subst (λ (e : ℕ). P e all (s .writer .form) shown) (step-edition s c)
-        (subst (λ (f : List ℕ). P (n .writer .edition) all f shown) (step-form s c)
-        (subst (λ (r : List ℕ). P (n .writer .edition) r (n .writer .form) shown) (sym (apply-append (s .buffer) (step s c .stores) (storesOf n cs))) (later n after kept z)))
+        let begin : ℕ → List ℕ = λ end. offsetsAfter end places cs (answersOf n cs) in
+        subst (λ (end : ℕ). P (s .writer .edition) all (s .writer .form) shown (begin end)) (step-end s c)
+        (subst (λ (e : ℕ). P e all (s .writer .form) shown (begin (n .writer .end))) (step-edition s c)
+        (subst (λ (f : List ℕ). P (n .writer .edition) all f shown (begin (n .writer .end))) (step-form s c)
+        (subst (λ (r : List ℕ). P (n .writer .edition) r (n .writer .form) shown (begin (n .writer .end))) (sym (apply-append (s .buffer) (step s c .stores) (storesOf n cs)))
+        (later n after places kept z))))
 
     -- What comes after an accepted close changes nothing.
-    closes-buffer : Sleeps s (step s c) → (isAccepted (step s c .answer) && isClose c) ≡ true → HoldsAfter tree
+    closes-buffer : Sleeps s (step s c) → (isAccepted (step s c .answer) && isClose c) ≡ true → HoldsAfter tree offsets
     closes-buffer z a =
         let asleep = sleeps-asleep s c z in
         rw (
           asleep-stores (afterCall s c) asleep cs,
           asleep-tree (afterCall s c) asleep tree cs,
+          asleep-offsets (afterCall s c) asleep (callEnd (s .writer .end) c (isAccepted (step s c .answer))) offsets cs,
           append-nil,
           close-made s c (step s c .answer) refl a,
           ← closed-buffer s tree g,
         )
-        (closes s tree g)
+        (closes s tree offsets g)
 
-    by-step : Outcome s tree c → ((isAccepted (step s c .answer) && isClose c) || closedBy cs (answersOf (afterCall s c) cs)) ≡ true
-        → HoldsAfter (applyCall tree c (isAccepted (step s c .answer)))
+    by-step : Outcome s tree offsets c → ((isAccepted (step s c .answer) && isClose c) || closedBy cs (answersOf (afterCall s c) cs)) ≡ true
+        → HoldsAfter (applyCall tree c (isAccepted (step s c .answer))) (callOffsets (s .writer .end) offsets c (isAccepted (step s c .answer)))
     by-step (goesOn e kept rest) z =
-        let a = step s c .answer in goes-on (applyCall tree c (isAccepted a)) kept (rw (or-false (isAccepted a && isClose c) (isSpent a) e .0) at z)
-    by-step (ends e t sleeps) z =
-        rw t (closes-buffer sleeps (or-left _ _ (asleep-closed (afterCall s c) (sleeps-asleep s c sleeps) cs) z))
+        let a = step s c .answer in
+        goes-on (applyCall tree c (isAccepted a)) (callOffsets (s .writer .end) offsets c (isAccepted a)) kept (rw (or-false (isAccepted a && isClose c) (isSpent a) e .0) at z)
+    by-step (ends e t o sleeps) z =
+        rw (t, o) (closes-buffer sleeps (or-left _ _ (asleep-closed (afterCall s c) (sleeps-asleep s c sleeps) cs) z))
 
   pub run-holds : (cs : List Call) → HoldsFrom cs
-  run-holds [] s tree g z = absurd (true≢false (sym z))
-  run-holds (c ∷ cs) s tree g z = by-step s tree g c cs (run-holds cs) (outcome s tree g c) z
+  run-holds [] s tree offsets g z = absurd (true≢false (sym z))
+  run-holds (c ∷ cs) s tree offsets g z = by-step s tree offsets g c cs (run-holds cs) (outcome s tree g c) z

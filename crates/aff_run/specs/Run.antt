@@ -2,9 +2,11 @@
 -- definitions that the contracts of begin, make, put and close cite.
 use mathlib.Core.Bool.{Bool, true, false, _&&_, _||_}
 use mathlib.Core.List.{List, [], _∷_, _++_}
-use Prim.Native.Nat.{ℕ}
-use lib.ListN.{length, take}
+use Prim.Native.Nat.{ℕ, _+_, _-_}
+use lib.ListN.{length, take, set}
+use Rattle.aff_format.specs.Align.{aligned}
 use Rattle.aff_format.specs.Answer.{Answer, accepted, refused}
+use Rattle.aff_format.specs.Edition.{headerSize, editionBy}
 use Rattle.aff_format.specs.Kind.{kindOf}
 use Rattle.aff_format.specs.Tree.{Tree}
 use Rattle.aff_areas.specs.Stores.{Store, applyStores, storesReported}
@@ -141,6 +143,34 @@ treeAfter tree [] answers = tree
 treeAfter tree (c ∷ cs) [] = tree
 treeAfter tree (c ∷ cs) (a ∷ answers) = treeAfter (applyCall tree c (isAccepted a)) cs answers
 
+-- ---- Where the data stand: by the calls' arguments and which were accepted, too, in the order of the puts (request C-22).
+
+-- The end of data: an accepted put begins at the next multiple of 8, and the data then end after its bytes. All else leaves it.
+abbrev pub callEnd : ℕ → Call → Bool → ℕ
+callEnd end call false = end
+callEnd end (make parent name) true = end
+callEnd end (put node type bytes allowance) true = aligned end + length bytes
+callEnd end (close allowance) true = end
+
+abbrev pub endAfter : ℕ → List Call → List (Answer ℕ) → ℕ
+endAfter end [] answers = end
+endAfter end (c ∷ cs) [] = end
+endAfter end (c ∷ cs) (a ∷ answers) = endAfter (callEnd end c (isAccepted a)) cs answers
+
+-- Of each node where its data begin, 0 while it has none; the first number is node 1's. The data end at `end` before the call.
+abbrev pub callOffsets : ℕ → List ℕ → Call → Bool → List ℕ
+callOffsets end offsets call false = offsets
+callOffsets end offsets (make parent name) true = offsets ++ (0 ∷ [])
+callOffsets end offsets (put node type bytes allowance) true = set offsets (node - 1) (aligned end)
+callOffsets end offsets (close allowance) true = offsets
+
+abbrev pub offsetsAfter : ℕ → List ℕ → List Call → List (Answer ℕ) → List ℕ
+offsetsAfter end offsets [] answers = offsets
+offsetsAfter end offsets (c ∷ cs) [] = offsets
+offsetsAfter end offsets (c ∷ cs) (a ∷ answers) = offsetsAfter (callEnd end c (isAccepted a)) (callOffsets end offsets c (isAccepted a)) cs answers
+
+-- ---- Whether they close it.
+
 abbrev pub isClose : Call → Bool
 isClose (make parent name) = false
 isClose (put node type bytes allowance) = false
@@ -191,9 +221,17 @@ module _ (run : Run) where
   abbrev pub runState : State
   runState = stateAfter runStart (run .calls)
 
-  -- The tree that the accepted calls describe, and whether some close was accepted.
+  -- The tree that the accepted calls describe.
   abbrev pub runTree : Tree
   runTree = treeAfter [] (run .calls) runAnswers
 
+  -- Where the data that they put end, and where those of each node begin.
+  abbrev pub runEnd : ℕ
+  runEnd = endAfter (headerSize (editionBy (run .edition))) (run .calls) runAnswers
+
+  abbrev pub runOffsets : List ℕ
+  runOffsets = offsetsAfter (headerSize (editionBy (run .edition))) [] (run .calls) runAnswers
+
+  -- Whether some close was accepted.
   abbrev pub runClosed : Bool
   runClosed = closedBy (run .calls) runAnswers

@@ -3,11 +3,9 @@ use mathlib.Core.Bool.{cond}
 use mathlib.Core.List.{List, [], _∷_, _++_}
 use Prim.Native.Nat.{ℕ, _+_, _-_}
 use lib.ListN.{length, set}
-use Rattle.aff_format.specs.Edition.{headerSize}
 use Rattle.aff_format.specs.Kind.{entrySize, isVoid}
 use Rattle.aff_format.specs.Strings.{isIn, textOf}
 use Rattle.aff_format.specs.Tree.{Tree, treeNode}
-use Rattle.aff_format.specs.declared.edition.Edition.{Edition}
 use Rattle.aff_format.specs.declared.kind.Kind.{Kind}
 use Rattle.aff_format.specs.declared.kind.Kind.the-variants.{Void}
 
@@ -32,11 +30,7 @@ namesFrom names (t ∷ ts) = namesFrom (addName names (t .name)) ts
 abbrev pub namesOf : Tree → List (List ℕ)
 namesOf tree = namesFrom [] tree
 
--- Bytes of the data, and of the entries.
-unfoldable pub dataSize : Tree → ℕ
-dataSize [] = 0
-dataSize (t ∷ ts) = length (t .bytes) + dataSize ts
-
+-- Bytes of the entries.
 unfoldable pub entriesSize : Tree → ℕ
 entriesSize [] = 0
 entriesSize (t ∷ ts) = entrySize (t .kind) + entriesSize ts
@@ -46,6 +40,6 @@ unfoldable pub nonVoidCount : Tree → ℕ
 nonVoidCount [] = 0
 nonVoidCount (t ∷ ts) = cond (isVoid (t .kind)) 0 1 + nonVoidCount ts
 
--- Finished size: header, data bytes, string bytes with their zeros, entries.
-unfoldable pub sizeOf : Edition → Tree → ℕ
-sizeOf e tree = headerSize e + dataSize tree + length (textOf (namesOf tree)) + entriesSize tree
+-- Finished size where the data end at a place: header and data up to there, string bytes with their zeros, entries.
+unfoldable pub sizeOf : ℕ → Tree → ℕ
+sizeOf end tree = end + length (textOf (namesOf tree)) + entriesSize tree

@@ -22,7 +22,7 @@ use Rattle.aff_format.proofs.BytesLaws.{spliced-next}
 use Rattle.aff_format.proofs.EditionLaws.{length-signatureText, section-header-sizes}
 use Rattle.aff_areas.specs.Areas.{usedText, entriesOut, dataNodes, finishedSize}
 use Rattle.aff_areas.specs.Belongs.{WriterBelongs, writerChecks}
-use Rattle.aff_header.specs.Header.{sectionHeader, headerFront, withSum}
+use Rattle.aff_header.specs.Header.{headerFront, withSum}
 use Rattle.aff_areas.specs.Stores.{Store, applyStores, storesFrom, bufferAfter}
 use Rattle.aff_areas.specs.Writer.{writerEdition, dataPlace, stopped, writerAfter}
 use Rattle.aff_areas.specs.declared.writer.Writer.{Writer}
@@ -41,26 +41,15 @@ length-sectionOf writer full symbols entries stored Symbol = length-sectionHeade
 length-sectionOf writer full symbols entries stored Tree = length-sectionHeader (writerEdition writer) (treePlace writer) (writer .nodes) entries
 length-sectionOf writer full symbols entries stored Data = length-sectionHeader (writerEdition writer) (dataPlace writer) full stored
 
--- The header that the code writes at a rank is that of the section there.
+-- The header that the code writes at a rank fits, and is that of the section which it finds there.
 pub ranked-fits : (e : Edition) (writer : Writer) (at n : ℕ) → e ≡ writerEdition writer → at + sectionHeaderSize (writerEdition writer) ≤ n → at + sectionHeaderSize e ≤ n
 ranked-fits e writer at n h f = rw h f
 
-section-is : (e d : Edition) (rank : ℕ) (s t : Section) → e ≡ d → s ≡ sectionAt e rank → s ≡ t → sectionAt d rank ≡ t
-section-is e d rank s t he hs h = ap (λ (x : Edition). sectionAt x rank) (sym he) ∙ sym hs ∙ h
-
-module _ (writer : Writer) (full : ℕ) (symbols entries stored : List ℕ) (e : Edition) (place at rank : ℕ) (s : Section) (l₀ l₁ : List ℕ)
-    (he : e ≡ writerEdition writer) (hp : place ≡ dataPlace writer) (hs : s ≡ sectionAt e rank) where
-  pub ranked-symbols : s ≡ Symbol → l₁ ≡ spliced at (sectionHeader e (place + writer .«data») (writer .strings) symbols) l₀
-      → l₁ ≡ spliced at (sectionOf writer full symbols entries stored (sectionAt (writerEdition writer) rank)) l₀
-  ranked-symbols h q = q ∙ rw (section-is e (writerEdition writer) rank s Symbol he hs h, he, hp)
-
-  pub ranked-tree : s ≡ Tree → l₁ ≡ spliced at (sectionHeader e (place + writer .«data» + writer .text) (writer .nodes) entries) l₀
-      → l₁ ≡ spliced at (sectionOf writer full symbols entries stored (sectionAt (writerEdition writer) rank)) l₀
-  ranked-tree h q = q ∙ rw (section-is e (writerEdition writer) rank s Tree he hs h, he, hp)
-
-  pub ranked-data : s ≡ Data → l₁ ≡ spliced at (sectionHeader e place full stored) l₀
-      → l₁ ≡ spliced at (sectionOf writer full symbols entries stored (sectionAt (writerEdition writer) rank)) l₀
-  ranked-data h q = q ∙ rw (section-is e (writerEdition writer) rank s Data he hs h, he, hp)
+pub ranked-section : (writer : Writer) (full : ℕ) (symbols entries stored : List ℕ) (e : Edition) (rank : ℕ) (s : Section) → e ≡ writerEdition writer → s ≡ sectionAt e rank
+    → (t : Section) → s ≡ t
+    → sectionOf writer full symbols entries stored t ≡ sectionOf writer full symbols entries stored (sectionAt (writerEdition writer) rank)
+ranked-section writer full symbols entries stored e rank s he hs t h =
+    ap (sectionOf writer full symbols entries stored) (sym h ∙ hs ∙ ap (λ (x : Edition). sectionAt x rank) he)
 
 -- The three section headers, each after the one before it.
 pub headers-over : (e : Edition) (h : Section → List ℕ) (n : ℕ) (l₀ l₁ l₂ l₃ : List ℕ) → mostHeader ≤ length l₀ → n ≡ sectionHeaderSize e
@@ -162,8 +151,8 @@ pub front-taken : (x l₀ l₁ : List ℕ) (n : ℕ) → n ≡ length x → l₁
 front-taken x l₀ l₁ n h e = ap (take n) e ∙ take-front n x l₀ (sym h)
 
 -- The data as the code passes them.
-pub data-lengths : (buffer : List ℕ) (writer : Writer) (from : ℕ) → from ≡ dataPlace writer → take (from + writer .«data» - from) (drop from buffer) ≡ dataBytes buffer writer
-data-lengths buffer writer from e = let n : from + writer .«data» - from ≡ writer .«data» = omega arith in rw (n, e)
+pub data-part : (buffer : List ℕ) (writer : Writer) (from : ℕ) → from ≡ dataPlace writer → take (writer .end - from) (drop from buffer) ≡ dataBytes buffer writer
+data-part buffer writer from e = rw e
 
 -- Strings and entries, then the header from its byte 1 on and its first byte, under one allowance.
 abbrev pub bodyStores : ℕ → List ℕ → List ℕ → List Store

@@ -1,18 +1,18 @@
 -- Putting data: the tests on the code's numbers are those of the promises, check by check, and the data lie inside the buffer. Assumes nothing.
 use mathlib.Core.Path.{_≡_, refl, sym, ap, _∙_}
 use mathlib.Core.Bool.{Bool, true, false, not, true≢false}
-use mathlib.Core.List.{List, _++_}
-use Prim.Native.Nat.{ℕ, zero, suc, _+_, _/_, _%_, _≤_, _<_}
+use mathlib.Core.List.{List, _∷_, _++_}
+use Prim.Native.Nat.{ℕ, zero, suc, _+_, _-_, _/_, _%_, _≤_, _<_}
 use native.Mathlib.Omega.{arith}
 use lib.Dec.{eqb}
-use lib.ListN.{length, take}
+use lib.ListN.{length, take, replicate, length-append, length-replicate}
 use borrow.Author.Tests.{eq-eqb, ne-eqb, lt-ltb, le-ltb}
+use Rattle.aff_format.specs.Align.{padding}
 use Rattle.aff_format.specs.Answer.{Answer, refused, Check, refusal, firstWrong}
 use Rattle.aff_format.specs.Bytes.{spliced}
 use Rattle.aff_format.specs.Element.{countIn}
 use Rattle.aff_format.specs.Entry.{slotBytes}
 use Rattle.aff_format.specs.Kind.{kindOf, elementSize, isVoid}
-use Rattle.aff_format.specs.Limits.{imageLimit, nodeLimit, textArea}
 use Rattle.aff_format.specs.Refusal.{codeOfRefusal}
 use Rattle.aff_format.specs.Verdict.{answerOfVerdict, answerOfNumber}
 use Rattle.aff_format.specs.declared.entry.Entry.{Entry}
@@ -24,15 +24,16 @@ use Rattle.aff_format.specs.declared.refusal.Refusal.{Refusal}
 use Rattle.aff_format.specs.declared.verdict.Verdict.{Verdict}
 use Rattle.aff_format.specs.declared.verdict.Verdict.the-variants.{Accepted, Refused}
 use Rattle.aff_format.specs.declared.verdict.NumberAnswer.the-variants as answered
+use Rattle.aff_format.proofs.AlignLaws.{padding-few}
 use Rattle.aff_format.proofs.KindLaws.{countIn-few, countIn-div}
 use Rattle.aff_areas.specs.Areas.{slotAt, slotEntry, finishedSize}
-use Rattle.aff_areas.specs.Belongs.{WriterBelongs, writerChecks}
+use Rattle.aff_areas.specs.Belongs.{writerChecks}
 use Rattle.aff_areas.specs.Stores.{Store, applyStores, storesFrom, bufferAfter}
 use Rattle.aff_areas.specs.Writer.{writerAfter, areaAfter}
 use Rattle.aff_areas.specs.declared.writer.Writer.{Writer}
 use Rattle.aff_areas.specs.declared.writer.Writing.{Writing}
 use Rattle.aff_areas.proofs.BelongsLaws.{judge-leaves, judge-refuses, judged-other}
-use Rattle.aff_areas.proofs.StoreLaws.{length-storesFrom, take-storesFrom}
+use Rattle.aff_areas.proofs.StoreLaws.{length-storesFrom, storesFrom-append}
 use Rattle.aff_write.specs.Put.{takesNone, wrongData, dataKind, putPlace, putStores, storeCheck, bufferChecks, dataChecks, putWriter, putEntry, putTree, putAnswer}
 use Rattle.aff_write.proofs.SpentLaws.{reported-refused}
 
@@ -69,27 +70,17 @@ count-divided k l n v e =
     let f = countIn-few k l in
     (d, omega arith)
 
--- The finished size holds the header, the data and more.
-pub size-least : (writer : Writer) (tree : List ℕ) → putPlace writer ≤ finishedSize writer tree
-unfolding finishedSize
-size-least writer tree = omega arith
-
-pub sizes-small : {size : ℕ} {writer : Writer} {text tree : List ℕ} → WriterBelongs size writer text tree
-    → (writer .«data» ≤ imageLimit) × (writer .text ≤ textArea) × (writer .nodes ≤ nodeLimit)
-sizes-small {size} {writer} {text} {tree} b =
-    (omega (arith, size-least writer tree, b .size-fits, b .length-allowed), b .text-inside, b .few-nodes)
-
 module _ (writer : Writer) (tree : List ℕ) where
   -- 21, 23.
   module _ (bytes : List ℕ) (allowance : ℕ) where
-    pub too-small : writer .length < finishedSize writer tree + 12 + length bytes
+    pub too-small : writer .length < finishedSize writer tree + 12 + padding (writer .end) + length bytes
         → _≡_ {A = Answer ℕ} (refused (refusal 21)) (firstWrong (bufferChecks writer tree bytes allowance) (length (putStores writer bytes)))
-    too-small h = rw (lt-ltb (writer .length) (finishedSize writer tree + 12 + length bytes) h)
+    too-small h = rw (lt-ltb (writer .length) (finishedSize writer tree + 12 + padding (writer .end) + length bytes) h)
 
-    pub has-buffer : finishedSize writer tree + 12 + length bytes ≤ writer .length
+    pub has-buffer : finishedSize writer tree + 12 + padding (writer .end) + length bytes ≤ writer .length
         → firstWrong (storeCheck writer bytes allowance) (length (putStores writer bytes))
         ≡ firstWrong (bufferChecks writer tree bytes allowance) (length (putStores writer bytes))
-    has-buffer h = rw (le-ltb (writer .length) (finishedSize writer tree + 12 + length bytes) h)
+    has-buffer h = rw (le-ltb (writer .length) (finishedSize writer tree + 12 + padding (writer .end) + length bytes) h)
 
     -- 15, 18, 19.
     module _ (node type : ℕ) where
@@ -126,14 +117,62 @@ module _ (writer : Writer) (tree : List ℕ) where
   tree-put node type bytes k h =
       ap (λ (f : FoundKind). spliced (slotAt node) (slotBytes (putEntry writer tree node (dataKind f) bytes)) tree) (sym h)
 
--- The stores of the data, as the code counts them.
-pub stores-made : (at allowance made : ℕ) (bytes : List ℕ) → made ≡ length (take allowance bytes) → made ≡ length (take allowance (storesFrom at bytes))
-stores-made at allowance made bytes m =
-    m ∙ sym (ap length (take-storesFrom allowance at bytes) ∙ length-storesFrom at (take allowance bytes))
+-- The first of some zeros.
+take-zeros : (k n : ℕ) → k ≤ n → take k (replicate {A = ℕ} n 0) ≡ replicate k 0
+take-zeros zero n h = refl
+take-zeros (suc k) zero h = absurd (omega arith)
+take-zeros (suc k) (suc n) h = ap (λ (l : List ℕ). 0 ∷ l) (take-zeros k n (omega arith))
 
-pub stores-buffer : (writer : Writer) (at allowance : ℕ) (bytes buffer₀ buffer₁ : List ℕ) → at ≡ putPlace writer
-    → buffer₁ ≡ applyStores buffer₀ (take allowance (storesFrom at bytes)) → buffer₁ ≡ applyStores buffer₀ (take allowance (putStores writer bytes))
-stores-buffer writer at allowance bytes buffer₀ buffer₁ e r = r ∙ ap (λ (n : ℕ). applyStores buffer₀ (take allowance (storesFrom n bytes))) e
+-- How many stores a put needs.
+pub length-putStores : (writer : Writer) (bytes : List ℕ) → length (putStores writer bytes) ≡ padding (writer .end) + length bytes
+length-putStores writer bytes =
+    length-storesFrom (writer .end) (replicate (padding (writer .end)) 0 ++ bytes)
+    ∙ length-append (replicate (padding (writer .end)) 0) bytes
+    ∙ rw length-replicate
+
+-- As the code makes them: the first of eight zeros, as many as there are from the end of data to the place, and the bytes after them.
+module _ (writer : Writer) (place : ℕ) (p : place ≡ putPlace writer) where
+  padding-is : place - writer .end ≡ padding (writer .end)
+  padding-is = omega arith
+
+  padding-zeros : take (place - writer .end) (replicate {A = ℕ} 8 0) ≡ replicate (padding (writer .end)) 0
+  padding-zeros = rw padding-is (take-zeros (padding (writer .end)) 8 (omega (arith, padding-few (writer .end))))
+
+  pub zeros-few : place - writer .end ≤ 8
+  zeros-few = omega (arith, padding-few (writer .end))
+
+  pub length-zeros : length (take (place - writer .end) (replicate {A = ℕ} 8 0)) ≡ place - writer .end
+  length-zeros = ap length padding-zeros ∙ length-replicate (padding (writer .end)) 0 ∙ sym padding-is
+
+  stores-put : (bytes : List ℕ) → storesFrom (writer .end) (take (place - writer .end) (replicate 8 0)) ++ storesFrom place bytes ≡ putStores writer bytes
+  stores-put bytes =
+      let zeros : List ℕ = replicate (padding (writer .end)) 0 in
+      let n : length zeros ≡ padding (writer .end) = length-replicate (padding (writer .end)) 0 in
+      rw (padding-zeros, p) (sym (storesFrom-append (writer .end) zeros bytes ∙ rw n))
+
+  pub stored-put : (bytes : List ℕ) (allowance made : ℕ) (buffer₀ buffer₁ : List ℕ)
+      → made ≡ length (take allowance (storesFrom (writer .end) (take (place - writer .end) (replicate 8 0)) ++ storesFrom place bytes))
+      → buffer₁ ≡ applyStores buffer₀ (take allowance (storesFrom (writer .end) (take (place - writer .end) (replicate 8 0)) ++ storesFrom place bytes))
+      → (made ≡ length (take allowance (putStores writer bytes))) × (buffer₁ ≡ applyStores buffer₀ (take allowance (putStores writer bytes)))
+  stored-put bytes allowance made buffer₀ buffer₁ m r = (
+    m ∙ ap (λ (s : List Store). length (take allowance s)) (stores-put bytes),
+    r ∙ ap (λ (s : List Store). applyStores buffer₀ (take allowance s)) (stores-put bytes),
+  )
+
+  -- The record after it.
+  pub end-put : (bytes : List ℕ)
+      → record {
+        length = writer .length;
+        edition = writer .edition;
+        form = writer .form;
+        strings = writer .strings;
+        text = writer .text;
+        nodes = writer .nodes;
+        end = place + length bytes;
+        live = writer .live;
+      }
+      ≡ putWriter writer bytes
+  end-put bytes = rw p
 
 -- A refused call leaves the tree area.
 pub area-kept : (q : Refusal) (given : Writer) (w : Writing) (area next : List ℕ) → w ≡ record { answer = answered.Refused q; writer = given }

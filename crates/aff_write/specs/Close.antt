@@ -11,19 +11,19 @@ use Rattle.aff_areas.specs.Areas.{usedText, entriesOut, dataNodes}
 use Rattle.aff_areas.specs.Belongs.{writerChecks}
 use Rattle.aff_header.specs.Header.{sectionHeader, headerFront, withSum}
 use Rattle.aff_areas.specs.Stores.{Store, storesFrom}
-use Rattle.aff_areas.specs.Writer.{writerEdition, dataPlace}
+use Rattle.aff_areas.specs.Writer.{writerEdition, dataPlace, dataSize}
 use Rattle.aff_areas.specs.declared.writer.Writer.{Writer}
 
--- Where the strings and the entries of the file begin: after the data, and after the strings.
+-- Where the strings and the entries of the file begin: right at the end of data, and after the strings. Neither is aligned.
 abbrev pub symbolsPlace : Writer → ℕ
-symbolsPlace writer = dataPlace writer + writer .«data»
+symbolsPlace writer = writer .end
 
 abbrev pub treePlace : Writer → ℕ
 treePlace writer = symbolsPlace writer + writer .text
 
--- The data in the buffer.
+-- The data in the buffer, from the header to the end of data.
 abbrev pub dataBytes : List ℕ → Writer → List ℕ
-dataBytes buffer writer = part (dataPlace writer) (writer .«data») buffer
+dataBytes buffer writer = part (dataPlace writer) (dataSize writer) buffer
 
 -- The header of each section, by the bytes of the three sections. Record counts: strings, nodes, and `full`, the nodes that are not Void.
 abbrev pub sectionOf : Writer → ℕ → List ℕ → List ℕ → List ℕ → Section → List ℕ

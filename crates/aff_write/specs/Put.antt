@@ -3,7 +3,8 @@ use mathlib.Core.Bool.{Bool, true, false, not, _||_}
 use mathlib.Core.List.{List, [], _∷_, _++_}
 use Prim.Native.Nat.{ℕ, _+_, _%_}
 use lib.Dec.{eqb, ltb}
-use lib.ListN.{length}
+use lib.ListN.{length, replicate}
+use Rattle.aff_format.specs.Align.{padding, aligned}
 use Rattle.aff_format.specs.Answer.{Answer, Check, check, refusal, refusalAt, firstWrong}
 use Rattle.aff_format.specs.Bytes.{spliced}
 use Rattle.aff_format.specs.Element.{countIn}
@@ -17,7 +18,6 @@ use Rattle.aff_format.specs.declared.kind.FoundKind.the-variants.{Known, Unknow
 use Rattle.aff_areas.specs.Areas.{slotAt, slotEntry, finishedSize}
 use Rattle.aff_areas.specs.Belongs.{writerChecks}
 use Rattle.aff_areas.specs.Stores.{Store, storesFrom}
-use Rattle.aff_areas.specs.Writer.{dataPlace}
 use Rattle.aff_areas.specs.declared.writer.Writer.{Writer}
 
 -- 18: the root, or a node that has data.
@@ -34,12 +34,13 @@ abbrev pub dataKind : FoundKind → Kind
 dataKind Unknown = Void
 dataKind (Known k) = k
 
--- Where the next data begin: after those that were put.
+-- Where the next data begin: at the next multiple of 8, which is the end of data itself where that is one (request C-22).
 abbrev pub putPlace : Writer → ℕ
-putPlace writer = dataPlace writer + writer .«data»
+putPlace writer = aligned (writer .end)
 
+-- Zeros from the end of data up to there, then the bytes. A put of no bytes has the zeros too.
 abbrev pub putStores : Writer → List ℕ → List Store
-putStores writer bytes = storesFrom (putPlace writer) bytes
+putStores writer bytes = storesFrom (writer .end) (replicate (padding (writer .end)) 0 ++ bytes)
 
 -- 23.
 abbrev pub storeCheck : Writer → List ℕ → ℕ → List Check
@@ -55,15 +56,15 @@ putWriter writer bytes =
       strings = writer .strings;
       text = writer .text;
       nodes = writer .nodes;
-      «data» = writer .«data» + length bytes;
+      end = putPlace writer + length bytes;
       live = writer .live;
     }
 
 module _ (writer : Writer) (tree : List ℕ) where
-  -- 21, 23: the entry grows from 13 bytes to 25.
+  -- 21, 23: the entry grows from 13 bytes to 25; the padding counts.
   abbrev pub bufferChecks : List ℕ → ℕ → List Check
   bufferChecks bytes allowance =
-      check (ltb (writer .length) (finishedSize writer tree + 12 + length bytes)) (refusal 21) ∷ storeCheck writer bytes allowance
+      check (ltb (writer .length) (finishedSize writer tree + 12 + padding (writer .end) + length bytes)) (refusal 21) ∷ storeCheck writer bytes allowance
 
   -- 15, 18, 19, 21, 23.
   abbrev pub dataChecks : ℕ → ℕ → List ℕ → ℕ → List Check

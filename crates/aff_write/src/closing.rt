@@ -27,46 +27,50 @@ ghost use Rattle.aff_areas.specs.Stores.{applyStores, storesFrom, bufferAfter};
 ghost use Rattle.aff_areas.specs.Writer.{writerEdition, dataPlace, stopped, writerAfter};
 ghost use Rattle.aff_write.specs.Close.{sectionOf, closeHeader, closeStores, storeChecks, closeAnswer};
 
-// The header of the section at a rank, 0 to 2, by the bytes of the three sections.
-fn put_ranked(
+// The header of the section at a rank, 0 to 2, by the bytes of the three sections, which share a lifetime so that a branch can choose among them.
+fn put_ranked<'a>(
     out: &mut [u8],
     at: usize,
     rank: usize,
     writer: Writer,
     full: usize,
-    symbols: &[u8],
-    entries: &[u8],
-    stored: &[u8],
+    symbols: &'a [u8],
+    entries: &'a [u8],
+    stored: &'a [u8],
 )
-    requires { ⌜ (at + sectionHeaderSize (writerEdition writer) ≤ length (now out)) × (writer .«data» ≤ imageLimit) × (writer .text ≤ textArea) ⌝ }
+    requires { ⌜ (at + sectionHeaderSize (writerEdition writer) ≤ length (now out)) × (writer .end ≤ imageLimit) × (writer .text ≤ textArea) ⌝ }
     ensures { λ _. ⌜ now (out .exit) ≡ spliced at (sectionOf writer full (now (symbols .entry)) (now (entries .entry)) (now (stored .entry)) (sectionAt (writerEdition writer) rank)) (now (out .entry)) ⌝ }
 {
     let edition = Edition::by_number(writer.edition);
-    let from = writer.data_place();
-    let end = from + writer.data;
+    let mut place = writer.data_place();
+    let mut count = full;
+    let mut bytes = stored;
     match edition.section_at(rank) {
         Section::Symbol => {
-            header::put_section(out, edition, at, end, writer.strings, symbols);
+            place = writer.end;
+            count = writer.strings;
+            bytes = symbols;
         }
         Section::Tree => {
-            header::put_section(out, edition, at, end + writer.text, writer.nodes, entries);
+            place = writer.end + writer.text;
+            count = writer.nodes;
+            bytes = entries;
         }
-        Section::Data => {
-            header::put_section(out, edition, at, from, full, stored);
-        }
+        Section::Data => {}
     }
+    header::put_section(out, edition, at, place, count, bytes);
 }
 
 // The three section headers after the signature, in the order of the edition.
-fn put_headers(
+fn put_headers<'a>(
     out: &mut [u8],
     writer: Writer,
     full: usize,
-    symbols: &[u8],
-    entries: &[u8],
-    stored: &[u8],
+    symbols: &'a [u8],
+    entries: &'a [u8],
+    stored: &'a [u8],
 )
-    requires { ⌜ (mostHeader ≤ length (now out)) × (writer .«data» ≤ imageLimit) × (writer .text ≤ textArea) ⌝ }
+    requires { ⌜ (mostHeader ≤ length (now out)) × (writer .end ≤ imageLimit) × (writer .text ≤ textArea) ⌝ }
     ensures { λ _. ⌜ now (out .exit) ≡ spliced signatureSize (joined (map (sectionOf writer full (now (symbols .entry)) (now (entries .entry)) (now (stored .entry))) (headerOrder (writerEdition writer)))) (now (out .entry)) ⌝ }
 {
     let edition = Edition::by_number(writer.edition);
@@ -88,12 +92,12 @@ fn put_headers(
 }
 
 // The header of the finished file, from its strings, its entries and the data in the buffer: the front of what is returned.
-fn close_header(
-    buffer: &[u8],
+fn close_header<'a>(
+    buffer: &'a [u8],
     writer: Writer,
-    text: &[u8],
+    text: &'a [u8],
     tree: &[u8],
-    entries: &[u8],
+    entries: &'a [u8],
 ) -> [u8; Edition::MOST_HEADER]
     requires { ⌜ WriterBelongs (length (now buffer)) writer (now text) (now tree) × (now entries ≡ entriesOut (now tree) (writer .nodes)) ⌝ }
     ensures { λ r. ⌜ take (dataPlace writer) r ≡ closeHeader (now (buffer .entry)) writer (now (text .entry)) (now (tree .entry)) ⌝ }
@@ -102,7 +106,7 @@ fn close_header(
     let edition = Edition::by_number(writer.edition);
     let used = writer.text;
     let from = writer.data_place();
-    let end = from + writer.data;
+    let end = writer.end;
     let form = writer.form;
     let full = areas::data_nodes(tree, writer.nodes);
     header::put_signature(&mut out, edition, form);
@@ -139,12 +143,12 @@ fn store_file(
 }
 
 // Makes the header and stores the file, at most as many bytes as allowed. It answers how many it stored.
-fn store_closed(
+fn store_closed<'a>(
     buffer: &mut [u8],
     writer: Writer,
-    text: &[u8],
+    text: &'a [u8],
     tree: &[u8],
-    entries: &[u8],
+    entries: &'a [u8],
     allowance: usize,
 ) -> usize
     requires { ⌜ WriterBelongs (length (now buffer)) writer (now text) (now tree) × (now entries ≡ entriesOut (now tree) (writer .nodes)) ⌝ }
@@ -154,11 +158,10 @@ fn store_closed(
 {
     let used = writer.text;
     let from = writer.data_place();
-    let at = from + writer.data;
     let header = close_header(buffer, writer, text, tree, entries);
     store_file(
         buffer,
-        at,
+        writer.end,
         &text[..used],
         entries,
         &header[..from],

@@ -11,6 +11,7 @@ use aff_format::Kind;
 use aff_format::NumberAnswer;
 use aff_format::Refusal;
 use aff_format::Verdict;
+use aff_format::align;
 ghost use mathlib.Core.Path.{_≡_};
 ghost use mathlib.Core.Bool.{false};
 ghost use Prim.Native.Nat.{_+_, _≤_, _<_};
@@ -20,7 +21,7 @@ ghost use Rattle.aff_format.specs.Bytes.{spliced};
 ghost use Rattle.aff_format.specs.Element.{countIn};
 ghost use Rattle.aff_format.specs.Entry.{slotBytes};
 ghost use Rattle.aff_format.specs.Kind.{isVoid};
-ghost use Rattle.aff_format.specs.Limits.{nodeLimit, treeArea};
+ghost use Rattle.aff_format.specs.Limits.{imageLimit, nodeLimit, treeArea};
 ghost use Rattle.aff_format.specs.Verdict.{answerOfNumber};
 ghost use Rattle.aff_areas.specs.Areas.{slotAt};
 ghost use Rattle.aff_areas.specs.Belongs.{WriterBelongs};
@@ -64,6 +65,14 @@ fn count_in(kind: Kind, bytes: &[u8]) -> usize
     bytes.len() / kind.element_size()
 }
 
+// Where the next data begin.
+fn put_place(writer: Writer) -> usize
+    requires { ⌜ writer .end ≤ imageLimit ⌝ }
+    ensures { λ r. ⌜ r ≡ putPlace writer ⌝ }
+{
+    writer.end + align::padding(writer.end)
+}
+
 // Gives a node its kind, count and data offset.
 fn fill_slot(writer: Writer, tree: &mut [u8], node: usize, kind: Kind, bytes: &[u8])
     requires { ⌜ (0 < node) × (node ≤ nodeLimit) × (length (now tree) ≡ treeArea) × (isVoid kind ≡ false) × (putPlace writer + length (now bytes) < 2147483648) ⌝ }
@@ -75,12 +84,12 @@ fn fill_slot(writer: Writer, tree: &mut [u8], node: usize, kind: Kind, bytes: &[
         parent: old.parent,
         string: old.string,
         count: count_in(kind, bytes) as u32,
-        offset: (writer.data_place() + writer.data) as u64,
+        offset: put_place(writer) as u64,
     };
     areas::put_slot(tree, node, entry);
 }
 
-// Stores the data as far as allowed, and where all are stored gives them to the node: 23.
+// Stores the padding and the data as far as allowed, and where all are stored gives them to the node: 23.
 fn put_bytes(
     buffer: &mut [u8],
     writer: Writer,
@@ -96,14 +105,17 @@ fn put_bytes(
     ensures buffer { λ r. ⌜ now (buffer .exit) ≡ bufferAfter (answerOfNumber (r .answer)) (putStores writer (now (bytes .entry))) (now (buffer .entry)) ⌝ }
     ensures tree { λ r. ⌜ now (tree .exit) ≡ areaAfter (answerOfNumber (r .answer)) (spliced (slotAt node) (slotBytes (putEntry writer (now (tree .entry)) node kind (now (bytes .entry)))) (now (tree .entry))) (now (tree .entry)) ⌝ }
 {
-    let made = store::store(buffer, writer.data_place() + writer.data, bytes, allowance);
-    if made < bytes.len() {
+    let zeros = [0u8; 8];
+    let place = put_place(writer);
+    let pad = place - writer.end;
+    let made = store::store_both(buffer, writer.end, &zeros[..pad], place, bytes, allowance);
+    if made < pad + bytes.len() {
         return writer::refused(Refusal::AllowanceSpent(made), writer.stopped());
     }
     fill_slot(writer, tree, node, kind, bytes);
     Writing {
         answer: NumberAnswer::Value(made),
-        writer: writer.with_data(bytes.len()),
+        writer: writer.with_end(place + bytes.len()),
     }
 }
 
@@ -129,7 +141,7 @@ fn put_sized(
     if free < bytes.len() {
         return writer::refused(Refusal::BufferTooSmall, writer);
     }
-    if free - bytes.len() < 12 {
+    if free - bytes.len() < 12 + align::padding(writer.end) {
         return writer::refused(Refusal::BufferTooSmall, writer);
     }
     put_bytes(buffer, writer, tree, node, kind, bytes, allowance)

@@ -1,18 +1,16 @@
--- `nodes_belong` meets its contract: header and data, the nodes, the finished size. Assumes nothing.
+-- `nodes_belong` meets its contract: the end of data, the nodes, the finished size. Assumes nothing.
 use mathlib.Core.Path.{sym, _∙_}
 use native.Mathlib.Omega.{arith}
-use Rattle.aff_areas.proofs.BelongsLaws.{data-decide, lost-decides, size-decides}
+use Rattle.aff_areas.proofs.BelongsLaws.{header-decides, end-decides, lost-decides, size-decides}
 use borrow.Author.Needs.{needs}
 use Rattle.aff_areas.proofs.belongs.nodes_belong.Statement.{statement}
 use Rattle.aff_areas.proofs.belongs.nodes_belong.Tie as tie
 
 returns : tie.Need-returns
-returns c = let h = c .before .before .data-place .ensures .0 in sym (data-decide _ _ (omega (arith, c .if1 .taken, h)))
+returns c = let h = c .before .before .data-place .ensures .0 in sym (header-decides _ _ (omega (arith, c .if1 .taken, h)))
 
 returns-2 : tie.Need-returns-2
-returns-2 c =
-    let h = c .before .before .before .before .before .data-place .ensures .0 in
-    sym (data-decide _ _ (omega (arith, c .if2 .taken, h)))
+returns-2 c = sym (end-decides _ _ (c .if2 .taken))
 
 returns-3 : tie.Need-returns-3
 returns-3 c =
@@ -23,7 +21,8 @@ returns-4 : tie.Need-returns-4
 returns-4 c =
     let t = c .before .before in
     let h = t .before .before .before .before .before .before .before .before .data-place .ensures .0 in
-    rw (c .before .finished-size .ensures) (sym (size-decides _ _ h (sym (t .before .before .lost-node .ensures) ∙ t .enum-told2 .given .1)))
+    let l = t .before .before .before .before .before .before .if1 .left in
+    rw (c .before .finished-size .ensures) (sym (size-decides _ _ h (omega (arith, l, h)) (sym (t .before .before .lost-node .ensures) ∙ t .enum-told2 .given .1)))
 
 pub nodes-belong-spec : {M : Type 1} → statement M
 nodes-belong-spec =

@@ -1,12 +1,13 @@
 -- `too_small` meets its contract: what is left of the buffer after the finished size.
 use borrow.Author.Needs.{needs}
 use native.Mathlib.Omega.{arith}
-use Rattle.aff_make.proofs.MakeLaws.{data-small, added-most, buffer-short}
+use Rattle.aff_areas.proofs.BelongsLaws.{sizes-small}
+use Rattle.aff_make.proofs.MakeLaws.{added-most, buffer-short}
 use Rattle.aff_make.proofs.making.too_small.Statement.{statement}
 use Rattle.aff_make.proofs.making.too_small.Tie as tie
 
 finished-size-requires : tie.Need-finished-size-requires
-finished-size-requires c κs = let b = c .before .before .before .pre .0 in (data-small b, b .text-inside, b .few-nodes)
+finished-size-requires c κs = sizes-small (c .before .before .before .pre .0)
 
 add-result : tie.Need-add-result
 add-result c =

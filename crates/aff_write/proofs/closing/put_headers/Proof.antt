@@ -1,6 +1,5 @@
 -- `put_headers` meets its contract: one section header after the other. Assumes nothing.
-use mathlib.Core.Path.{_≡_, ap, _∙_}
-use Prim.Native.Nat.{ℕ, _+_, _≤_}
+use mathlib.Core.Path.{ap, _∙_}
 use native.Mathlib.Omega.{arith}
 use borrow.Author.Needs.{needs}
 use Rattle.aff_format.specs.Edition.{sectionHeaderSize}

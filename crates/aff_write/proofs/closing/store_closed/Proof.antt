@@ -11,70 +11,63 @@ use Rattle.aff_areas.specs.Stores.{Store, applyStores}
 use Rattle.aff_areas.specs.Writer.{dataPlace}
 use Rattle.aff_write.specs.Close.{closeHeader}
 use Rattle.aff_write.proofs.CloseLaws.{used-length, closed-fits, stores-closed, length-closeStores}
-use Rattle.aff_write.proofs.PutLaws.{sizes-small}
 use Rattle.aff_write.proofs.closing.store_closed.Statement.{statement}
 use Rattle.aff_write.proofs.closing.store_closed.Tie as tie
 
-add-at : tie.Need-add-at
-add-at c =
-    let c1 = c .before in
-    let c6 = c1 .before .before .before .before .before in
-    record { fits = omega (arith, c1 .data-place .ensures, sizes-small (c6 .pre .0) .0) }
-
 slice-aggregate-store-file : tie.Need-slice-aggregate-store-file
 slice-aggregate-store-file c =
-    let c10 = c .before .before .before .before .before .before .before .before .before .before in
-    sym (used-length (c10 .pre .0))
+    let c9 = c .before .before .before .before .before .before .before .before .before in
+    sym (used-length (c9 .pre .0))
 
 slice-aggregate-store-file-2 : tie.Need-slice-aggregate-store-file-2
 slice-aggregate-store-file-2 c =
     let c3 = c .before .before .before in
-    let c6 = c3 .before .before .before in
+    let c5 = c3 .before .before in
     let k : length (c3 .close-header .result) ≡ mostHeader = omega arith in
-    sym (length-take-le (c6 .data-place .result) (c3 .close-header .result) (omega (arith, c6 .data-place .ensures, k)))
+    sym (length-take-le (c5 .data-place .result) (c3 .close-header .result) (omega (arith, c5 .data-place .ensures, k)))
 
 store-file-requires : tie.Need-store-file-requires
 store-file-requires c κs =
     let c3 = c .before .before .before in
-    let c6 = c3 .before .before .before in
-    let c11 = c6 .before .before .before .before .before in
-    let w = c11 .args .writer in
-    let f = closed-fits (c11 .pre .0) in
-    let h = c6 .data-place in
-    let u = used-length (c11 .pre .0) in
+    let c5 = c3 .before .before in
+    let c10 = c5 .before .before .before .before .before in
+    let w = c10 .args .writer in
+    let f = closed-fits (c10 .pre .0) in
+    let h = c5 .data-place in
+    let u = used-length (c10 .pre .0) in
     let k : length (c3 .close-header .result) ≡ mostHeader = omega arith in
     let m = length-take-le (h .result) (c3 .close-header .result) (omega (arith, h .ensures, k)) in
-    let n : h .result + w .«data» + length (take (w .text) (c11 .args .text .now)) + length (c11 .args .entries .now) ≤ length (c11 .args .buffer .now) =
-    omega (arith, f .0, u, h .ensures .0, ap length (c11 .pre .1)) in
-    (omega (arith, m, h .ensures), omega (arith, m, f .0, h .ensures), n)
+    let n : w .end + length (take (w .text) (c10 .args .text .now)) + length (c10 .args .entries .now) ≤ length (c10 .args .buffer .now) =
+    omega (arith, f .0, u, ap length (c10 .pre .1)) in
+    (omega (arith, m, h .ensures), omega (arith, m, f .0, h .ensures, c10 .pre .0 .end-after-header), n)
 
 returns : tie.Need-returns
 returns c =
     let c2 = c .before .before in
     let c6 = c2 .before .before .before .before in
-    let c9 = c6 .before .before .before in
-    let c14 = c9 .before .before .before .before .before in
-    let w = c14 .args .writer in
-    let i = c14 .args .buffer .now in
+    let c8 = c6 .before .before in
+    let c13 = c8 .before .before .before .before .before in
+    let w = c13 .args .writer in
+    let i = c13 .args .buffer .now in
     let e = c2 .store-file .ensures in
-    let h = c9 .data-place in
-    let u = used-length (c14 .pre .0) in
-    let d : take (h .result) (c6 .close-header .result) ≡ closeHeader i w (c14 .args .text .now) (c14 .args .tree .now) =
+    let h = c8 .data-place in
+    let u = used-length (c13 .pre .0) in
+    let d : take (h .result) (c6 .close-header .result) ≡ closeHeader i w (c13 .args .text .now) (c13 .args .tree .now) =
     ap (λ (n : ℕ). take n (c6 .close-header .result)) (h .ensures .0) ∙ c6 .close-header .ensures in
-    let s = stores-closed i w (c14 .args .text .now) (c14 .args .tree .now) (h .result + w .«data») (take (w .text) (c14 .args .text .now)) (c14 .args .entries .now)
-    (take (h .result) (c6 .close-header .result)) (ap (λ (n : ℕ). n + w .«data») (h .ensures .0)) refl u (c14 .pre .1) d in
+    let s = stores-closed i w (c13 .args .text .now) (c13 .args .tree .now) (w .end) (take (w .text) (c13 .args .text .now)) (c13 .args .entries .now)
+    (take (h .result) (c6 .close-header .result)) refl refl u (c13 .pre .1) d in
     let k : length (c6 .close-header .result) ≡ mostHeader = omega arith in
     let m = length-take-le (h .result) (c6 .close-header .result) (omega (arith, h .ensures, k)) in
-    let n = length-closeStores i w (c14 .args .text .now) (c14 .args .tree .now) u (sym (ap length d) ∙ m ∙ h .ensures .0) in (
-      e .0 ∙ ap (λ (x : List Store). length (take (c14 .args .allowance) x)) s,
+    let n = length-closeStores i w (c13 .args .text .now) (c13 .args .tree .now) u (sym (ap length d) ∙ m ∙ h .ensures .0) in (
+      e .0 ∙ ap (λ (x : List Store). length (take (c13 .args .allowance) x)) s,
       (
-        e .1 ∙ ap (λ (x : List Store). applyStores i (take (c14 .args .allowance) x)) s,
-        n ∙ ap (λ (x : List ℕ). w .text + length x + dataPlace w) (sym (c14 .pre .1)),
+        e .1 ∙ ap (λ (x : List Store). applyStores i (take (c13 .args .allowance) x)) s,
+        n ∙ ap (λ (x : List ℕ). w .text + length x + dataPlace w) (sym (c13 .pre .1)),
       ),
     )
 
 pub store-closed-spec : {M : Type 1} → statement M
 store-closed-spec =
     tie.close
-    (tie.spec (λ c κs. search needs) add-at (λ c κs. search needs) slice-aggregate-store-file (λ c. search needs) slice-aggregate-store-file-2
+    (tie.spec (λ c κs. search needs) (λ c κs. search needs) slice-aggregate-store-file (λ c. search needs) slice-aggregate-store-file-2
     store-file-requires (λ c. search needs) returns)

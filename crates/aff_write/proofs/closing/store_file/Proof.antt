@@ -1,5 +1,4 @@
 -- `store_file` meets its contract: two runs and two runs after them, under one allowance. Assumes nothing.
-use Prim.Native.Nat.{_-_}
 use native.Mathlib.Omega.{arith}
 use borrow.Author.Needs.{needs}
 use Rattle.aff_areas.proofs.StoreLaws.{length-take-most}
