@@ -33,7 +33,7 @@ use Rattle.aff_write.specs.Close.{storeChecks, closeAnswer}
 use Rattle.aff_make.specs.Make.{childChecks, makeAnswer}
 use Rattle.aff_write.specs.Put.{dataChecks, putAnswer}
 use Rattle.aff_run.specs.AnswersFromTree.{callChecks, callValue, callAnswer, AnswersFromTree, stops}
-use Rattle.aff_run.specs.Run.{Call, make, put, close, State, step, isAccepted, applyCall}
+use Rattle.aff_run.specs.Run.{Call, make, put, close, State, step, isAccepted, applyCall, callEnd}
 use Rattle.aff_run.proofs.CutLaws.{make-stores, put-reports, close-reports, begin-reports}
 use Rattle.aff_run.proofs.AnswersFromTreeLaws.{run-from-tree, run-spent, run-refused}
 use Rattle.aff_run.proofs.AreasHoldLaws.{run-areas}
@@ -146,35 +146,36 @@ module _ (buffer : List ℕ) (w : Writer) (text tree : List ℕ) where
 -- ---- What a run's answers say of 24 and 22.
 
 -- The checks of a call of a run report neither.
-call-others : (ed : Edition) (size : ℕ) (tree : Tree) (c : Call) → Others 22 (callChecks ed size tree c) × Others 24 (callChecks ed size tree c)
-call-others ed size tree (make parent name) = (refl, refl)
-call-others ed size tree (put node type bytes allowance) = (refl, refl)
-call-others ed size tree (close allowance) = (refl, refl)
+call-others : (ed : Edition) (size end : ℕ) (tree : Tree) (c : Call) → Others 22 (callChecks ed size end tree c) × Others 24 (callChecks ed size end tree c)
+call-others ed size end tree (make parent name) = (refl, refl)
+call-others ed size end tree (put node type bytes allowance) = (refl, refl)
+call-others ed size end tree (close allowance) = (refl, refl)
 
-call-never : (ed : Edition) (size : ℕ) (tree : Tree) (c : Call) → NotBy 22 (callAnswer ed size tree c) × NotBy 24 (callAnswer ed size tree c)
-call-never ed size tree c =
-    let (o, p) = call-others ed size tree c in
-    (others-not 22 (callChecks ed size tree c) (callValue ed size tree c) o, others-not 24 (callChecks ed size tree c) (callValue ed size tree c) p)
+call-never : (ed : Edition) (size end : ℕ) (tree : Tree) (c : Call) → NotBy 22 (callAnswer ed size end tree c) × NotBy 24 (callAnswer ed size end tree c)
+call-never ed size end tree c =
+    let (o, p) = call-others ed size end tree c in
+    (others-not 22 (callChecks ed size end tree c) (callValue ed size end tree c) o, others-not 24 (callChecks ed size end tree c) (callValue ed size end tree c) p)
 
 -- One answer.
-answer-numbers : (stopped : Bool) (ed : Edition) (size : ℕ) (tree : Tree) (c : Call) (a : Answer ℕ) → a ≡ cond stopped (refused (refusal 22)) (callAnswer ed size tree c)
+answer-numbers : (stopped : Bool) (ed : Edition) (size end : ℕ) (tree : Tree) (c : Call) (a : Answer ℕ) → a ≡ cond stopped (refused (refusal 22)) (callAnswer ed size end tree c)
     → NotBy 24 a × ((a ≡ refused (refusal 22)) ↔ (stopped ≡ true))
-answer-numbers true ed size tree c a h = (
+answer-numbers true ed size end tree c a h = (
   λ t g e. let q : refusal 22 ≡ t = cc in absurd (let z : 22 ≡ 24 = ap (λ (x : RefusalCode). x .number) q ∙ e in omega arith),
   (λ _. refl, λ _. h),
 )
-answer-numbers false ed size tree c a h = (
-  λ t g e. call-never ed size tree c .1 t (sym h ∙ g) e,
-  (λ g. absurd (call-never ed size tree c .0 (refusal 22) (sym h ∙ g) refl), λ g. absurd (true≢false (sym g))),
+answer-numbers false ed size end tree c a h = (
+  λ t g e. call-never ed size end tree c .1 t (sym h ∙ g) e,
+  (λ g. absurd (call-never ed size end tree c .0 (refusal 22) (sym h ∙ g) refl), λ g. absurd (true≢false (sym g))),
 )
 
-answers-numbered : (cs : List Call) (answers : List (Answer ℕ)) (ed : Edition) (size : ℕ) (stopped : Bool) (tree : Tree) → AnswersFromTree ed size stopped tree cs answers
+answers-numbered : (cs : List Call) (answers : List (Answer ℕ)) (ed : Edition) (size : ℕ) (stopped : Bool) (end : ℕ) (tree : Tree)
+    → AnswersFromTree ed size stopped end tree cs answers
     → Numbered stopped cs answers
-answers-numbered [] answers ed size stopped tree x = tt
-answers-numbered (c ∷ cs) [] ed size stopped tree x = x
-answers-numbered (c ∷ cs) (a ∷ answers) ed size stopped tree x =
-    let (not, only) = answer-numbers stopped ed size tree c a (x .0) in
-    (not, only, answers-numbered cs answers ed size (stopped || stops c a) (applyCall tree c (isAccepted a)) (x .1))
+answers-numbered [] answers ed size stopped end tree x = tt
+answers-numbered (c ∷ cs) [] ed size stopped end tree x = x
+answers-numbered (c ∷ cs) (a ∷ answers) ed size stopped end tree x =
+    let (not, only) = answer-numbers stopped ed size end tree c a (x .0) in
+    (not, only, answers-numbered cs answers ed size (stopped || stops c a) (callEnd end c (isAccepted a)) (applyCall tree c (isAccepted a)) (x .1))
 
 -- ---- Stores reported.
 
@@ -210,7 +211,7 @@ demand1 =
       run = run-from-tree;
       spent-run = λ run h e. run-spent run _ h (eq-eqb _ 23 e);
       refused-run = λ run h e. run-refused run _ h (ne-eqb _ 23 e);
-      run-numbers = λ ed size stopped tree calls answers. answers-numbered calls answers ed size stopped tree;
+      run-numbers = λ ed size stopped end tree calls answers. answers-numbered calls answers ed size stopped end tree;
       begin-reports = begin-reports;
       reports = reports-made;
       areas = run-areas;

@@ -26,9 +26,9 @@ use Rattle.aff_areas.specs.Stores.{Store, applyStores}
 use Rattle.aff_areas.specs.Writer.{writerEdition}
 use Rattle.aff_areas.proofs.StoreLaws.{apply-append, apply-length}
 use Rattle.aff_run.specs.TreeSizes.{nonVoidCount, sizeOf}
-use Rattle.aff_run.specs.Run.{State, storesOf, Run, runBegin, runStart, runStores, runState, runTree, runClosed}
+use Rattle.aff_run.specs.Run.{State, storesOf, offsetsAfter, Run, runBegin, runStart, runAnswers, runStores, runState, runTree, runOffsets, runClosed}
 use Rattle.aff_read.specs.Shows.{Shows}
-use Rattle.aff_run.proofs.BeginInvariantLaws.{begin-invariant, begin-edition, begin-form, begin-stores}
+use Rattle.aff_run.proofs.BeginInvariantLaws.{begin-invariant, begin-edition, begin-end, begin-form, begin-stores}
 use Rattle.aff_run.proofs.BeginRefusedLaws.{none-run, none-closed}
 use Rattle.aff_run.proofs.ClosedLaws.{contents, rest, lawful, tree-held, closed, closed-is, closed-shows, closed-counts}
 use Rattle.aff_run.proofs.CutLaws.{cut-run-stores, cut-run-buffer, cut-begin, cut-run-answers-before, cut-begin-out, cut-run-answer-out}
@@ -92,7 +92,7 @@ module _ (run : Run) {n : ℕ} (h : runBegin run .answer ≡ accepted n) where
   abbrev later : List Store
   later = storesOf (runStart run) (run .calls)
 
-  kept : Invariant (runStart run) []
+  kept : Invariant (runStart run) [] []
   kept = begin-invariant run h
 
   sizes : (leastHeader ≤ length (run .buffer)) × (length (run .buffer) ≤ imageLimit) × (length (run .form) ≡ 12)
@@ -100,19 +100,21 @@ module _ (run : Run) {n : ℕ} (h : runBegin run .answer ≡ accepted n) where
   sizes =
       let l = apply-length (run .buffer) (runBegin run .stores) in
       let f : length (run .form) ≡ 12 = ap length (sym (begin-form run h)) ∙ kept .form-length in
-      (omega (arith, kept .fits, kept .buffer-length, header-least (writerEdition (runStart run .writer))), omega (arith, kept .buffer-length, kept .buffer-allowed), f)
+      (omega (arith, kept .fits, kept .after-header, kept .buffer-length, header-least (writerEdition (runStart run .writer))), omega (arith, kept .buffer-length, kept .buffer-allowed), f)
 
   -- What holds of each closed buffer holds of the buffer after all stores.
-  all-holds : (P : ℕ → List ℕ → List ℕ → Tree → Type 0)
-      → ((s : State) (tree : Tree) (g : Invariant s tree) → P (s .writer .edition) (closed s tree g) (s .writer .form) tree)
-      → runClosed run ≡ true → P (run .edition) (applyStores (run .buffer) (runStores run)) (run .form) (runTree run)
+  pub all-holds : (P : ℕ → List ℕ → List ℕ → Tree → List ℕ → Type 0)
+      → ((s : State) (tree : Tree) (offsets : List ℕ) (g : Invariant s tree offsets) → P (s .writer .edition) (closed s tree g) (s .writer .form) tree offsets)
+      → runClosed run ≡ true → P (run .edition) (applyStores (run .buffer) (runStores run)) (run .form) (runTree run) (runOffsets run)
   all-holds P closes c =
       let all = applyStores (run .buffer) (runStores run) in
       let begun = runStart run .writer in
-      subst (λ (e : ℕ). P e all (run .form) (runTree run)) (begin-edition run h)
-      (subst (λ (f : List ℕ). P (begun .edition) all f (runTree run)) (begin-form run h)
-      (subst (λ (r : List ℕ). P (begun .edition) r (begun .form) (runTree run)) (sym (apply-append (run .buffer) (runBegin run .stores) later))
-      (run-holds P closes (run .calls) (runStart run) [] kept c)))
+      let offsets : ℕ → List ℕ = λ end. offsetsAfter end [] (run .calls) (runAnswers run) in
+      subst (λ (end : ℕ). P (run .edition) all (run .form) (runTree run) (offsets end)) (begin-end run h)
+      (subst (λ (e : ℕ). P e all (run .form) (runTree run) (offsets (begun .end))) (begin-edition run h)
+      (subst (λ (f : List ℕ). P (begun .edition) all f (runTree run) (offsets (begun .end))) (begin-form run h)
+      (subst (λ (r : List ℕ). P (begun .edition) r (begun .form) (runTree run) (offsets (begun .end))) (sym (apply-append (run .buffer) (runBegin run .stores) later))
+      (run-holds P closes (run .calls) (runStart run) [] [] kept c))))
 
   all-is : runStores run ≡ record { at = 0; byte = 0 } ∷ later
   all-is = ap (λ (b : List Store). b ++ later) (begin-stores run h)
@@ -132,7 +134,7 @@ module _ (run : Run) {n : ℕ} (h : runBegin run .answer ≡ accepted n) where
   refused-3 (suc k) le lo other lengths f =
       let n : length (runStores run) ≡ suc (length later) = ap length all-is in
       let p : FromPlace (take k later) =
-      shaped-take later (runClosed run) k (run-shape (run .calls) (runStart run)) (λ q. other (omega (arith, q .0), q .1)) (omega arith) in
+      shaped-take later (runClosed run) k (run-shape (run .calls) (runStart run) (omega (arith, kept .after-header, header-least (writerEdition (runStart run .writer))))) (λ q. other (omega (arith, q .0), q .1)) (omega arith) in
       let l = apply-length (run .buffer) (take (suc k) (runStores run)) in
       zero-refused (bufferAt run (suc k)) lengths f (omega (arith, sizes .0)) (omega (arith, sizes .1)) (zero-first k p)
 
@@ -142,7 +144,7 @@ module _ (run : Run) {n : ℕ} (h : runBegin run .answer ≡ accepted n) where
       record {
         none-made = λ q. rw q;
         all-left = all-buffer run k;
-        all-made = λ q c. rw (all-stored run k q) (all-holds (λ _. Shows) closed-shows c);
+        all-made = λ q c. rw (all-stored run k q) (all-holds (λ _ buffer form tree _. Shows buffer form tree) (λ s tree offsets g. closed-shows s tree g) c);
         otherwise = refused-3 k le;
       }
 
@@ -165,7 +167,7 @@ demand3-cut run k =
     }
 
 counted-by : (a : Answer ℕ) (run : Run) → runBegin run .answer ≡ a → runClosed run ≡ true → Counted (runState run .buffer) (run .form) (runTree run)
-counted-by (accepted n) run h c = rw (run-buffer run) (all-holds run h (λ _. Counted) closed-counts c)
+counted-by (accepted n) run h c = rw (run-buffer run) (all-holds run h (λ _ buffer form tree _. Counted buffer form tree) (λ s tree offsets g. closed-counts s tree g) c)
 counted-by (refused t) run h c = absurd (true≢false (sym c ∙ none-closed run t h))
 
 pub data-counted : DataCounted
@@ -173,8 +175,8 @@ data-counted run c = counted-by (runBegin run .answer) run refl c
 
 -- ---- The finished file.
 
-file-written : (s : State) (tree : Tree) (g : Invariant s tree) → FileWritten (s .writer .edition) (closed s tree g) (s .writer .form) tree
-file-written s tree g =
+file-written : (s : State) (tree : Tree) (offsets : List ℕ) (g : Invariant s tree offsets) → FileWritten (s .writer .edition) (closed s tree g) (s .writer .form) tree
+file-written s tree offsets g =
     record {
       contents = contents s tree g;
       rest = rest s tree g;
@@ -184,7 +186,7 @@ file-written s tree g =
     }
 
 made-by : (a : Answer ℕ) (run : Run) → runBegin run .answer ≡ a → runClosed run ≡ true → FileWritten (run .edition) (runState run .buffer) (run .form) (runTree run)
-made-by (accepted n) run h c = rw (run-buffer run) (all-holds run h FileWritten file-written c)
+made-by (accepted n) run h c = rw (run-buffer run) (all-holds run h (λ edition buffer form tree _. FileWritten edition buffer form tree) file-written c)
 made-by (refused t) run h c = absurd (true≢false (sym c ∙ none-closed run t h))
 
 pub file-made : FileMade

@@ -10,6 +10,7 @@ use lib.Dec.{eqb, ltb}
 use lib.ListN.{length}
 use borrow.Author.Tests.{eqb-true, eqb-false, eq-eqb, ne-eqb, ltb-false, le-ltb, not-false}
 use Rattle.aff_format.specs.Edition.{headerSize, editionBy, namesWritten, NamesWritten}
+use Rattle.aff_format.specs.Align.{padding}
 use Rattle.aff_format.specs.Answer.{Check, check, refusal}
 use Rattle.aff_format.specs.Bytes.{sameBytes}
 use Rattle.aff_format.specs.Element.{countIn, elementAt, decoded}
@@ -48,11 +49,11 @@ use Rattle.aff_areas.specs.Areas.{slotEntry, nameOf}
 use Rattle.aff_areas.specs.Belongs.{writerBelongs, WriterBelongs, writerChecks}
 use Rattle.aff_areas.specs.declared.writer.Writer.{Writer}
 use Rattle.aff_areas.proofs.BelongsLaws.{belongs-record as writer-clauses, record-belongs as writer-belongs}
-use Rattle.aff_areas.proofs.StoreLaws.{length-storesFrom}
 use Rattle.aff_write.specs.Begin.{beginLengthsWrong, beginChecks, beginAnswer}
 use Rattle.aff_write.specs.Close.{closeStores, storeChecks, closeAnswer}
 use Rattle.aff_make.specs.Make.{addedStrings, addedText, tooMany, isChild, childExists, childChecks, makeAnswer}
-use Rattle.aff_write.specs.Put.{takesNone, wrongData, putPlace, putStores, dataChecks, putAnswer}
+use Rattle.aff_write.specs.Put.{takesNone, wrongData, putStores, dataChecks, putAnswer}
+use Rattle.aff_write.proofs.PutLaws.{length-putStores}
 use Rattle.aff_run.proofs.BeginInvariantLaws.{lengths-right}
 use Rattle.aff_run.proofs.InvariantLaws.{is-void}
 use Rattle.aff.specs.Rules.{fits, decodeRules, existsRules, lookupRules, ReadingByRules, beginRules, DataFits, writerRules, NoSuchChild, Few, makeRules, putRules, closeRules, WritingByRules}
@@ -271,8 +272,8 @@ module _ (buffer : List ℕ) (w : Writer) (text tree : List ℕ) where
       (λ _. one (few-asks name)
       (λ _. one (buffer-asks b _) (λ _. none))))))
 
-  stores-ask : (bytes : List ℕ) (allowance : ℕ) → (ltb allowance (length (putStores w bytes)) ≡ false) ↔ (length bytes ≤ allowance)
-  stores-ask bytes allowance = rw (length-storesFrom (putPlace w) bytes) (at-most allowance (length bytes))
+  stores-ask : (bytes : List ℕ) (allowance : ℕ) → (ltb allowance (length (putStores w bytes)) ≡ false) ↔ (padding (w .end) + length bytes ≤ allowance)
+  stores-ask bytes allowance = rw (length-putStores w bytes) (at-most allowance (padding (w .end) + length bytes))
 
   put-asks : (node type : ℕ) (bytes : List ℕ) (allowance : ℕ)
       → AskFor (writerChecks (length buffer) w text tree ++ dataChecks w tree node type bytes allowance) (putRules buffer w text tree node type bytes allowance)
@@ -296,6 +297,6 @@ module _ (buffer : List ℕ) (w : Writer) (text tree : List ℕ) where
         put = λ node type bytes allowance.
             subst
             (λ (n : ℕ). By (putRules buffer w text tree node type bytes allowance) (Is n) (putAnswer (length buffer) w text tree node type bytes allowance))
-            (length-storesFrom (putPlace w) bytes) (by-checks (length (putStores w bytes)) (put-asks node type bytes allowance));
+            (length-putStores w bytes) (by-checks (length (putStores w bytes)) (put-asks node type bytes allowance));
         close = λ allowance. by-checks (length (closeStores buffer w text tree)) (close-asks allowance);
       }

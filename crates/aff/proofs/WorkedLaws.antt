@@ -9,6 +9,7 @@ use native.Mathlib.Omega.{arith}
 use lib.ListN.{length, getD, drop, length-append}
 use lib.Seq.{drop-length, take-length}
 use borrow.Author.Tests.{eq-eqb, le-ltb}
+use Rattle.aff_format.specs.Align.{padding}
 use Rattle.aff_format.specs.Answer.{Answer, accepted, refused, refusal}
 use Rattle.aff_format.specs.Bytes.{part, sameBytes}
 use Rattle.aff_format.specs.Edition.{editionNumber, signatureText, isWritten, headerSize, numberForm, editionBy}
@@ -30,21 +31,22 @@ use Rattle.aff_areas.specs.Areas.{dataNodes}
 use Rattle.aff_header.specs.Header.{sectionNumbers, sectionHeader, headerFront, withSum}
 use Rattle.aff_file.specs.File.{FileContents, headerOf, fileHeader, fileOf}
 use Rattle.aff_areas.specs.Stores.{Store, applyStores, storesReported}
-use Rattle.aff_areas.specs.Writer.{writerEdition, dataPlace}
+use Rattle.aff_areas.specs.Writer.{writerEdition, dataPlace, dataSize}
 use Rattle.aff_areas.proofs.StoreLaws.{apply-length}
 use Rattle.aff_write.specs.Begin.{beginLengthsWrong, beginAnswer}
-use Rattle.aff_run.specs.TreeSizes.{withChild, addName, namesFrom, namesOf, dataSize, entriesSize, nonVoidCount, sizeOf}
+use Rattle.aff_run.specs.TreeSizes.{withChild, addName, namesFrom, namesOf, entriesSize, nonVoidCount, sizeOf}
+use Rattle.aff_write.specs.Put.{putPlace}
 use Rattle.aff_run.specs.AnswersFromTree.{hasChild, tooLarge, closeNeeds, callAnswer, stops, AnswersFromTree}
-use Rattle.aff_run.specs.Run.{Call, make, put, close, State, step, afterCall, storesOf, beginStep, isAccepted, applyCall, treeAfter, closedBy, Run, runBegin, runStart, runAnswers, runStores, runTree, runClosed}
+use Rattle.aff_run.specs.Run.{Call, make, put, close, State, step, afterCall, storesOf, beginStep, isAccepted, applyCall, callEnd, treeAfter, closedBy, Run, runBegin, runStart, runAnswers, runStores, runTree, runClosed}
 use Rattle.aff_read.specs.Shows.{Shows}
-use Rattle.aff_run.proofs.BeginInvariantLaws.{begin-invariant, begin-edition, begin-form, begin-stores}
+use Rattle.aff_run.proofs.BeginInvariantLaws.{begin-invariant, begin-edition, begin-end, begin-form, begin-stores}
 use Rattle.aff_run.proofs.ClosedLaws.{contents, rest, closed, closed-is, closed-buffer}
 use Rattle.aff_run.proofs.CutLaws.{make-stores, put-reports, close-reports}
 use Rattle.aff_run.proofs.AnswersFromTreeLaws.{run-from-tree}
 use Rattle.aff_run.proofs.InvariantLaws.{Each, Invariant, entry-in}
 use Rattle.aff_run.proofs.MakeInvariantLaws.{made-invariant}
 use Rattle.aff_run.proofs.PutInvariantLaws.{put-invariant}
-use Rattle.aff_run.proofs.RunLaws.{step-form, step-edition, needed-made}
+use Rattle.aff_run.proofs.RunLaws.{step-form, step-edition, step-end, needed-made}
 use Rattle.aff_run.proofs.StepLaws.{buffer-after, run-buffer}
 use Rattle.aff.specs.Demand3.{bufferAt}
 use Rattle.aff.specs.Worked.{workedForm, nameA, nameN, minusSeventy, workedCalls, workedIn, workedTree, workedFile, WorkedRun, Worked, voidTree, OneShorter}
@@ -53,32 +55,32 @@ use Rattle.aff.proofs.WorkedSums.{symbols-digest, entries-digest, data-
 
 -- ---- The answers of calls, from the tree alone.
 
-abbrev expected : Edition → ℕ → Bool → Tree → List Call → List (Answer ℕ)
-expected e size asleep tree [] = []
-expected e size asleep tree (c ∷ cs) =
-    let a = cond asleep (refused (refusal 22)) (callAnswer e size tree c) in
-    a ∷ expected e size (asleep || stops c a) (applyCall tree c (isAccepted a)) cs
+abbrev expected : Edition → ℕ → Bool → ℕ → Tree → List Call → List (Answer ℕ)
+expected e size asleep end tree [] = []
+expected e size asleep end tree (c ∷ cs) =
+    let a = cond asleep (refused (refusal 22)) (callAnswer e size end tree c) in
+    a ∷ expected e size (asleep || stops c a) (callEnd end c (isAccepted a)) (applyCall tree c (isAccepted a)) cs
 
-answers-expected : (cs : List Call) (e : Edition) (size : ℕ) (asleep : Bool) (tree : Tree) (answers : List (Answer ℕ)) → length answers ≡ length cs → AnswersFromTree e size asleep tree cs answers
-    → answers ≡ expected e size asleep tree cs
-answers-expected [] e size asleep tree [] n h = refl
-answers-expected [] e size asleep tree (a ∷ answers) n h = absurd (omega arith)
-answers-expected (c ∷ cs) e size asleep tree [] n h = absurd h
-answers-expected (c ∷ cs) e size asleep tree (a ∷ answers) n h =
+answers-expected : (cs : List Call) (e : Edition) (size : ℕ) (asleep : Bool) (end : ℕ) (tree : Tree) (answers : List (Answer ℕ)) → length answers ≡ length cs
+    → AnswersFromTree e size asleep end tree cs answers → answers ≡ expected e size asleep end tree cs
+answers-expected [] e size asleep end tree [] n h = refl
+answers-expected [] e size asleep end tree (a ∷ answers) n h = absurd (omega arith)
+answers-expected (c ∷ cs) e size asleep end tree [] n h = absurd h
+answers-expected (c ∷ cs) e size asleep end tree (a ∷ answers) n h =
     ap₂ (λ (x : Answer ℕ) (xs : List (Answer ℕ)). x ∷ xs) (h .0)
-    (answers-expected cs e size (asleep || stops c a) (applyCall tree c (isAccepted a)) answers (omega arith) (h .1)
-    ∙ ap (λ (x : Answer ℕ). expected e size (asleep || stops c x) (applyCall tree c (isAccepted x)) cs) (h .0))
+    (answers-expected cs e size (asleep || stops c a) (callEnd end c (isAccepted a)) (applyCall tree c (isAccepted a)) answers (omega arith) (h .1)
+    ∙ ap (λ (x : Answer ℕ). expected e size (asleep || stops c x) (callEnd end c (isAccepted x)) (applyCall tree c (isAccepted x)) cs) (h .0))
 
 expected-214 : (e : Edition) → isWritten e ≡ true → (puts closes : ℕ) → 4 ≤ puts → 210 ≤ closes
-    → expected e 214 false [] (workedCalls puts closes) ≡ accepted 1 ∷ accepted 2 ∷ accepted 4 ∷ accepted 210 ∷ []
-unfolding hasChild tooLarge closeNeeds sizeOf dataSize entriesSize addName namesFrom isIn textOf sameBytes lowestFrom narrowFirst narrowNext wide restOfSubkey subkeyFrom
+    → expected e 214 false (headerSize e) [] (workedCalls puts closes) ≡ accepted 1 ∷ accepted 2 ∷ accepted 4 ∷ accepted 210 ∷ []
+unfolding hasChild tooLarge closeNeeds sizeOf padding entriesSize addName namesFrom isIn textOf sameBytes lowestFrom narrowFirst narrowNext wide restOfSubkey subkeyFrom
 expected-214 One w puts closes p c = absurd-bool w
 expected-214 Two w puts closes p c = rw (le-ltb puts 4 p, le-ltb closes 210 c)
 expected-214 Three w puts closes p c = rw (le-ltb puts 4 p, le-ltb closes 210 c)
 
 expected-213 : (e : Edition) → isWritten e ≡ true → (puts closes : ℕ) → 198 ≤ closes
-    → expected e 213 false [] (workedCalls puts closes) ≡ accepted 1 ∷ accepted 2 ∷ refused (refusal 21) ∷ accepted 198 ∷ []
-unfolding hasChild tooLarge closeNeeds sizeOf dataSize entriesSize addName namesFrom isIn textOf sameBytes lowestFrom narrowFirst narrowNext wide restOfSubkey subkeyFrom
+    → expected e 213 false (headerSize e) [] (workedCalls puts closes) ≡ accepted 1 ∷ accepted 2 ∷ refused (refusal 21) ∷ accepted 198 ∷ []
+unfolding hasChild tooLarge closeNeeds sizeOf padding entriesSize addName namesFrom isIn textOf sameBytes lowestFrom narrowFirst narrowNext wide restOfSubkey subkeyFrom
 expected-213 One w puts closes c = absurd-bool w
 expected-213 Two w puts closes c = rw (le-ltb closes 198 c)
 expected-213 Three w puts closes c = rw (le-ltb closes 198 c)
@@ -88,10 +90,6 @@ expected-213 Three w puts closes c = rw (le-ltb closes 198 c)
 worked-names : namesOf workedTree ≡ nameA ∷ nameN ∷ []
 unfolding namesFrom addName isIn sameBytes
 worked-names = refl
-
-worked-size : dataSize workedTree ≡ 4
-unfolding dataSize
-worked-size = refl
 
 worked-text : textOf (namesOf workedTree) ≡ 97 ∷ 0 ∷ 110 ∷ 0 ∷ []
 unfolding textOf namesFrom addName isIn sameBytes
@@ -125,7 +123,7 @@ data-at One w = absurd-bool w
 data-at Two w = refl
 data-at Three w = refl
 
-entries-are : (ed : Edition) → isWritten ed ≡ true → (buffer : List ℕ) (es : List Entry) → Each ed (nameA ∷ nameN ∷ []) buffer 4 1 es workedTree
+entries-are : (ed : Edition) → isWritten ed ≡ true → (buffer : List ℕ) (es : List Entry) → Each ed (nameA ∷ nameN ∷ []) buffer 172 1 es workedTree
     → (es ≡ entryA ∷ entryN ∷ []) × (part (headerSize ed) 4 buffer ≡ minusSeventy)
 entries-are ed w buffer [] h = absurd h
 entries-are ed w buffer (e ∷ []) h = absurd (h .1)
@@ -158,10 +156,14 @@ file-is One w = absurd-bool w
 file-is Two w = rw (front-2, header-digest-2)
 file-is Three w = rw (front-3, header-digest-3)
 
-module _ (e : Edition) (w : isWritten e ≡ true) (s : State) (g : Invariant s workedTree) (is : writerEdition (s .writer) ≡ e) (f : s .writer .form ≡ workedForm e)
-    (n : length (s .buffer) ≡ 214) where
-  each-here : Each e (nameA ∷ nameN ∷ []) (s .buffer) 4 1 (g .entries) workedTree
-  each-here = rw (worked-names, worked-size, is) at (g .each)
+module _ (e : Edition) (w : isWritten e ≡ true) (s : State) {offsets : List ℕ} (g : Invariant s workedTree offsets) (is : writerEdition (s .writer) ≡ e) (f : s .writer .form ≡ workedForm e)
+    (d : s .writer .end ≡ 172) (n : length (s .buffer) ≡ 214) where
+  -- Four bytes of data, from 168 on.
+  worked-size : dataSize (s .writer) ≡ 4
+  worked-size = omega (arith, d, ap headerSize is, data-at e w)
+
+  each-here : Each e (nameA ∷ nameN ∷ []) (s .buffer) 172 1 (g .entries) workedTree
+  each-here = rw (worked-names, d, is) at (g .each)
 
   found : (g .entries ≡ entryA ∷ entryN ∷ []) × (part (headerSize e) 4 (s .buffer) ≡ minusSeventy)
   found = entries-are e w (s .buffer) (g .entries) each-here
@@ -169,14 +171,14 @@ module _ (e : Edition) (w : isWritten e ≡ true) (s : State) (g : Invariant s w
   contents-are : contents s workedTree g ≡ workedContents
   unfolding contents nonVoidCount
   contents-are =
-      let size : part (dataPlace (s .writer)) (dataSize workedTree) (s .buffer) ≡ minusSeventy =
-      ap (λ (d : Edition). part (headerSize d) (dataSize workedTree) (s .buffer)) is ∙ ap (λ (k : ℕ). part (headerSize e) k (s .buffer)) worked-size ∙ found .1 in
+      let size : part (dataPlace (s .writer)) (dataSize (s .writer)) (s .buffer) ≡ minusSeventy =
+      ap (λ (d : Edition). part (headerSize d) (dataSize (s .writer)) (s .buffer)) is ∙ ap (λ (k : ℕ). part (headerSize e) k (s .buffer)) worked-size ∙ found .1 in
       λ i. record { stored = size i; records = 1; names = worked-names i; entries = found .0 i }
 
   rest-here : rest s workedTree g ≡ []
   unfolding rest
   rest-here =
-      let size : dataPlace (s .writer) + dataSize workedTree + length (textOf (namesOf workedTree)) + length (treeBytes (g .entries)) ≡ length (s .buffer) =
+      let size : dataPlace (s .writer) + dataSize (s .writer) + length (textOf (namesOf workedTree)) + length (treeBytes (g .entries)) ≡ length (s .buffer) =
       rw (worked-text, worked-size, found .0) (omega (arith, entry-length, ap headerSize is, data-at e w, n)) in
       ap (λ (k : ℕ). drop k (s .buffer)) size ∙ drop-length (s .buffer)
 
@@ -199,11 +201,12 @@ module _ (e : Edition) (w : isWritten e ≡ true) (buffer text tree : List ℕ) 
       rw (length-numberForm e, written-named (editionNumber e) (e, refl, w), place, eq-eqb (length text) textArea x, eq-eqb (length tree) treeArea t, le-ltb imageLimit (length buffer) hi, le-ltb (length buffer) 168 lo, le-ltb begins 1 b)
 
   -- The answers are those expected in a buffer of that size.
-  answers-are : (size : ℕ) → length buffer ≡ size → 168 ≤ size → size ≤ imageLimit → runAnswers run ≡ expected e size false [] (run .calls)
+  answers-are : (size : ℕ) → length buffer ≡ size → 168 ≤ size → size ≤ imageLimit → runAnswers run ≡ expected e size false (headerSize e) [] (run .calls)
   answers-are size r lo hi =
-      answers-expected (run .calls) e (length buffer) false [] (runAnswers run) refl (subst (λ (d : Edition). AnswersFromTree d (length buffer) false [] (run .calls) (runAnswers run)) (edition-by-number e)
+      answers-expected (run .calls) e (length buffer) false (headerSize e) [] (runAnswers run) refl
+      (subst (λ (d : Edition). AnswersFromTree d (length buffer) false (headerSize d) [] (run .calls) (runAnswers run)) (edition-by-number e)
       (run-from-tree run (begin-accepted (omega arith) (omega arith))))
-      ∙ ap (λ (n : ℕ). expected e n false [] (run .calls)) r
+      ∙ ap (λ (n : ℕ). expected e n false (headerSize e) [] (run .calls)) r
 
 -- Demand 3 of a run with a close accepted: the buffer after all its stores shows the tree described.
 run-shows : (run : Run) (shown : Tree) → runTree run ≡ shown → runClosed run ≡ true → Shows (applyStores (run .buffer) (runStores run)) (run .form) shown
@@ -254,7 +257,7 @@ module _ (e : Edition) (w : isWritten e ≡ true) (buffer text tree : List ℕ) 
   abbrev s₃ : State
   s₃ = afterCall s₂ (put 2 3 minusSeventy puts)
 
-  kept : Invariant s₃ workedTree
+  kept : Invariant s₃ workedTree (0 ∷ putPlace (s₂ .writer) ∷ [])
   kept =
       let g₀ = begin-invariant it worked-begins in
       let g₁ = made-invariant s₀ [] g₀ 0 nameA (answer-at 0) in
@@ -269,6 +272,15 @@ module _ (e : Edition) (w : isWritten e ≡ true) (buffer text tree : List ℕ) 
       ap editionBy
       (step-edition s₂ (put 2 3 minusSeventy puts) ∙ step-edition s₁ (make 1 nameN) ∙ step-edition s₀ (make 0 nameA) ∙ begin-edition it worked-begins)
       ∙ edition-by-number e
+
+  -- The data end after the four bytes: 168 is a multiple of 8.
+  end-kept : s₃ .writer .end ≡ 172
+  unfolding padding
+  end-kept =
+      let put-accepted : isAccepted (step s₂ (put 2 3 minusSeventy puts) .answer) ≡ true = ap isAccepted (answer-at 2) in
+      let second : s₂ .writer .end ≡ 168 =
+      step-end s₁ (make 1 nameN) ∙ rw (answer-at 1) (step-end s₀ (make 0 nameA) ∙ rw (answer-at 0) (begin-end it worked-begins ∙ ap headerSize (edition-by-number e) ∙ data-at e w)) in
+      step-end s₂ (put 2 3 minusSeventy puts) ∙ rw (put-accepted, second)
 
   buffer-kept : length (s₃ .buffer) ≡ 214
   buffer-kept =
@@ -289,7 +301,7 @@ module _ (e : Edition) (w : isWritten e ≡ true) (buffer text tree : List ℕ) 
       sym (run-buffer it)
       ∙ ap (applyStores (s₃ .buffer)) (needed-made s₃ (close closes) (answer-at 3))
       ∙ sym (closed-buffer s₃ workedTree kept)
-      ∙ file-here e w s₃ kept edition-kept form-kept buffer-kept
+      ∙ file-here e w s₃ kept edition-kept form-kept end-kept buffer-kept
 
   -- The calls describe the two nodes, and the file shows them, by demand 3.
   worked-tree : runTree it ≡ workedTree

@@ -11,7 +11,7 @@ use mathlib.Core.Logic.{_⊎_, _↔_}
 use Prim.Native.Nat.{ℕ, _≤_}
 use lib.ListN.{length}
 use Rattle.aff_format.specs.Answer.{Answer, accepted, refused, refusal}
-use Rattle.aff_format.specs.Edition.{editionNumber, editionBy, NamesWritten}
+use Rattle.aff_format.specs.Edition.{headerSize, editionNumber, editionBy, NamesWritten}
 use Rattle.aff_format.specs.Element.{elementAt, decoded}
 use Rattle.aff_format.specs.Tree.{Tree}
 use Rattle.aff_format.specs.declared.edition.Edition.{Edition}
@@ -33,7 +33,7 @@ use Rattle.aff_make.specs.Make.{makeAnswer}
 use Rattle.aff_write.specs.Put.{putAnswer}
 use Rattle.aff_run.specs.AnswersFromTree.{AnswersFromTree, AllWrongRecord, stops}
 use Rattle.aff_run.specs.AreasHold.{AreasHold}
-use Rattle.aff_run.specs.Run.{Call, make, put, close, State, step, Run, runBegin, runAnswers, runStores, runState, runTree}
+use Rattle.aff_run.specs.Run.{Call, make, put, close, State, step, Run, runBegin, runAnswers, runStores, runState, runTree, runEnd, runOffsets}
 use Rattle.aff.specs.Leaves.{OpeningLeaves, ReadingLeaves, BeginLeaves, WritingLeaves}
 use Rattle.aff_format.specs.Rule.{By, Is}
 use Rattle.aff.specs.Rules.{decodeRules, ReadingByRules, beginRules, WritingByRules}
@@ -119,22 +119,24 @@ pub record Demand1 : Type 0 where
   pub refused-writes : (run : Run) {t : RefusalCode} → runBegin run .answer ≡ refused t → (t .number ≡ 23 → ⊥)
       → (other text tree : List ℕ) → EachWriting Is24 other (runBegin run .writer) text tree
   -- A run: a begin and then any calls with any arguments. After an accepted begin `AnswersFromTree` gives each answer: 22 exactly after an accepted close
-  -- or a 23, and else what the edition and the tree described so far decide, with its sizes, the buffer's length and the allowance and nothing else: 15 no such
+  -- or a 23, and else what the edition, the tree described so far and the end of data decide, with the tree's sizes, the buffer's length and the allowance and nothing else: 15 no such
   -- number, 14, 17 it has that child, 18, 19, 20, 21 by its sizes, 23 by the stores needed, or accepted.
-  pub run : (run : Run) {n : ℕ} → runBegin run .answer ≡ accepted n → AnswersFromTree (editionBy (run .edition)) (length (run .buffer)) false [] (run .calls) (runAnswers run)
+  pub run : (run : Run) {n : ℕ} → runBegin run .answer ≡ accepted n
+      → AnswersFromTree (editionBy (run .edition)) (length (run .buffer)) false (headerSize (editionBy (run .edition))) [] (run .calls) (runAnswers run)
   -- After a begin refused by 23 the writer is stopped: every answer is 22.
   pub spent-run : (run : Run) {t : RefusalCode} → runBegin run .answer ≡ refused t → t .number ≡ 23
-      → AnswersFromTree (editionBy (run .edition)) (length (run .buffer)) true [] (run .calls) (runAnswers run)
+      → AnswersFromTree (editionBy (run .edition)) (length (run .buffer)) true (headerSize (editionBy (run .edition))) [] (run .calls) (runAnswers run)
   -- After a begin refused otherwise every answer is 24, and nothing is stored.
   pub refused-run : (run : Run) {t : RefusalCode} → runBegin run .answer ≡ refused t → (t .number ≡ 23 → ⊥)
       → AllWrongRecord (runAnswers run) × (runStores run ≡ [])
   -- What `AnswersFromTree` says of 24 and 22.
-  pub run-numbers : (e : Edition) (size : ℕ) (stopped : Bool) (tree : Tree) (calls : List Call) (answers : List (Answer ℕ))
-      → AnswersFromTree e size stopped tree calls answers → Numbered stopped calls answers
+  pub run-numbers : (e : Edition) (size : ℕ) (stopped : Bool) (end : ℕ) (tree : Tree) (calls : List Call) (answers : List (Answer ℕ))
+      → AnswersFromTree e size stopped end tree calls answers → Numbered stopped calls answers
   -- No answer reports more stores than its call needs, and none are reported but where a call is accepted or answers 23. (By definition the stores of
   -- `beginStep` and `step` are the first of those needed, as many as the answer reports. That an accepted call reports all of them and a 23 the allowance is
   -- in `begin`, `writing` and `AnswersFromTree`; that the buffer then holds these and no others is in `begin-leaves` and `writing-leaves`.)
   pub begin-reports : (run : Run) → length (runBegin run .stores) ≡ storesReported (runBegin run .answer)
   pub reports : (s : State) (c : Call) → length (step s c .stores) ≡ callStores c (step s c .answer)
-  -- The areas of a run: the text area holds the strings so far, each with its zero, the tree area each node's entry; zeros after them.
-  pub areas : (run : Run) {n : ℕ} → runBegin run .answer ≡ accepted n → AreasHold (run .edition) (runTree run) (runState run)
+  -- The areas of a run: the text area holds the strings so far, each with its zero, the tree area each node's entry; zeros after them. Where the data end, and where
+  -- those of each node begin, is what the calls describe.
+  pub areas : (run : Run) {n : ℕ} → runBegin run .answer ≡ accepted n → AreasHold (run .edition) (runTree run) (runEnd run) (runOffsets run) (runState run)

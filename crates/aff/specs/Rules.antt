@@ -7,6 +7,7 @@ use mathlib.Core.List.{List, [], _∷_}
 use Prim.Native.Nat.{ℕ, _+_, _%_, _≤_, _<_}
 use lib.ListN.{length}
 use Rattle.aff_format.specs.Edition.{headerSize, editionBy, NamesWritten}
+use Rattle.aff_format.specs.Align.{padding}
 use Rattle.aff_format.specs.Answer.{refusal, refusalAt}
 use Rattle.aff_format.specs.Element.{countIn, elementAt}
 use Rattle.aff_format.specs.Kind.{kindCode, elementSize, entrySize}
@@ -127,16 +128,16 @@ module _ (buffer : List ℕ) (w : Writer) (text tree : List ℕ) where
       ∷ rule (finishedSize w tree + entrySize Void + addedText w text name ≤ length buffer) (refusal 21)
       ∷ [])
 
-  -- Put: 24, 22; 15, the node exists; 18, it is not the root and has no data; 19; 21, the finished size, with the bytes and the entry's 12 more, fits
-  -- the buffer; 23, the allowance takes the stores needed, one for each byte.
+  -- Put: 24, 22; 15, the node exists; 18, it is not the root and has no data; 19; 21, the finished size, with the padding up to the next multiple of 8, the bytes
+  -- and the entry's 12 more, fits the buffer; 23, the allowance takes the stores needed, one for each byte of padding and of data (request C-22).
   abbrev pub putRules : ℕ → ℕ → List ℕ → ℕ → List Rule
   putRules node type bytes allowance =
       writerRules
       (rule (node ≤ w .nodes) (refusal 15)
       ∷ rule ((node ≡ 0 → ⊥) × (slotEntry tree node .kind ≡ Void)) (refusal 18)
       ∷ rule (DataFits type (length bytes)) (refusal 19)
-      ∷ rule (finishedSize w tree + 12 + length bytes ≤ length buffer) (refusal 21)
-      ∷ rule (length bytes ≤ allowance) (refusalAt 23 allowance)
+      ∷ rule (finishedSize w tree + 12 + padding (w .end) + length bytes ≤ length buffer) (refusal 21)
+      ∷ rule (padding (w .end) + length bytes ≤ allowance) (refusalAt 23 allowance)
       ∷ [])
 
   -- Close: 24, 22; 23, the allowance takes the stores needed.
@@ -147,5 +148,5 @@ module _ (buffer : List ℕ) (w : Writer) (text tree : List ℕ) where
   pub record WritingByRules : Type 0 where
     pub make : (parent : ℕ) (name : List ℕ) → By (makeRules parent name) (Is (w .nodes + 1)) (makeAnswer (length buffer) w text tree parent name)
     pub put : (node type : ℕ) (bytes : List ℕ) (allowance : ℕ)
-        → By (putRules node type bytes allowance) (Is (length bytes)) (putAnswer (length buffer) w text tree node type bytes allowance)
+        → By (putRules node type bytes allowance) (Is (padding (w .end) + length bytes)) (putAnswer (length buffer) w text tree node type bytes allowance)
     pub close : (allowance : ℕ) → By (closeRules allowance) (Is (length (closeStores buffer w text tree))) (closeAnswer buffer w text tree allowance)

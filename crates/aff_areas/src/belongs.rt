@@ -127,7 +127,13 @@ fn nodes_belong(writer: Writer, tree: &[u8]) -> bool
     if writer.length < writer.end {
         return false;
     }
-    match lost_node(tree, writer.nodes, writer.strings, header, writer.end - header) {
+    match lost_node(
+        tree,
+        writer.nodes,
+        writer.strings,
+        header,
+        writer.end - header,
+    ) {
         Lowest::At(_) => false,
         Lowest::Nothing => { areas::finished_size(writer, tree) <= writer.length }
     }

@@ -147,8 +147,15 @@ module _ (s : State) (tree : Tree) (offsets : List ℕ) (g : Invariant s tree of
   by-step (ends e t o z) =
       let asleep = sleeps-asleep s c z in
       let same : callEnd (s .writer .end) c ok ≡ s .writer .end = sym (step-end s c) ∙ ap (λ (w : Writer). w .end) (z .0) in
-      rw (t, o, same, asleep-tree (afterCall s c) asleep tree cs, asleep-end (afterCall s c) asleep (s .writer .end) cs,
-      asleep-offsets (afterCall s c) asleep (s .writer .end) offsets cs, asleep-after (afterCall s c) asleep cs)
+      rw (
+        t,
+        o,
+        same,
+        asleep-tree (afterCall s c) asleep tree cs,
+        asleep-end (afterCall s c) asleep (s .writer .end) cs,
+        asleep-offsets (afterCall s c) asleep (s .writer .end) offsets cs,
+        asleep-after (afterCall s c) asleep cs,
+      )
       (sleeps-held (s .writer .edition) tree (s .writer .end) offsets s (step s c) z (invariant-areas s tree g b))
 
 areas-from : (cs : List Call) → AreasFrom cs
