@@ -26,7 +26,7 @@ use Rattle.aff_areas.specs.Stores.{Store, applyStores}
 use Rattle.aff_areas.specs.Writer.{writerEdition}
 use Rattle.aff_areas.proofs.StoreLaws.{apply-append, apply-length}
 use Rattle.aff_run.specs.TreeSizes.{nonVoidCount, sizeOf}
-use Rattle.aff_run.specs.Run.{State, storesOf, offsetsAfter, Run, runBegin, runStart, runAnswers, runStores, runState, runTree, runOffsets, runClosed}
+use Rattle.aff_run.specs.Run.{State, storesOf, endAfter, offsetsAfter, Run, runBegin, runStart, runAnswers, runStores, runState, runTree, runEnd, runOffsets, runClosed}
 use Rattle.aff_read.specs.Shows.{Shows}
 use Rattle.aff_run.proofs.BeginInvariantLaws.{begin-invariant, begin-edition, begin-end, begin-form, begin-stores}
 use Rattle.aff_run.proofs.BeginRefusedLaws.{none-run, none-closed}
@@ -103,17 +103,18 @@ module _ (run : Run) {n : ℕ} (h : runBegin run .answer ≡ accepted n) where
       (omega (arith, kept .fits, kept .after-header, kept .buffer-length, header-least (writerEdition (runStart run .writer))), omega (arith, kept .buffer-length, kept .buffer-allowed), f)
 
   -- What holds of each closed buffer holds of the buffer after all stores.
-  pub all-holds : (P : ℕ → List ℕ → List ℕ → Tree → List ℕ → Type 0)
-      → ((s : State) (tree : Tree) (offsets : List ℕ) (g : Invariant s tree offsets) → P (s .writer .edition) (closed s tree g) (s .writer .form) tree offsets)
-      → runClosed run ≡ true → P (run .edition) (applyStores (run .buffer) (runStores run)) (run .form) (runTree run) (runOffsets run)
+  pub all-holds : (P : ℕ → List ℕ → List ℕ → Tree → List ℕ → ℕ → Type 0)
+      → ((s : State) (tree : Tree) (offsets : List ℕ) (g : Invariant s tree offsets) → P (s .writer .edition) (closed s tree g) (s .writer .form) tree offsets (s .writer .end))
+      → runClosed run ≡ true → P (run .edition) (applyStores (run .buffer) (runStores run)) (run .form) (runTree run) (runOffsets run) (runEnd run)
   all-holds P closes c =
       let all = applyStores (run .buffer) (runStores run) in
       let begun = runStart run .writer in
-      let offsets : ℕ → List ℕ = λ end. offsetsAfter end [] (run .calls) (runAnswers run) in
-      subst (λ (end : ℕ). P (run .edition) all (run .form) (runTree run) (offsets end)) (begin-end run h)
-      (subst (λ (e : ℕ). P e all (run .form) (runTree run) (offsets (begun .end))) (begin-edition run h)
-      (subst (λ (f : List ℕ). P (begun .edition) all f (runTree run) (offsets (begun .end))) (begin-form run h)
-      (subst (λ (r : List ℕ). P (begun .edition) r (begun .form) (runTree run) (offsets (begun .end))) (sym (apply-append (run .buffer) (runBegin run .stores) later))
+      let holds : ℕ → List ℕ → List ℕ → ℕ → Type 0 = λ e r f end.
+      P e r f (runTree run) (offsetsAfter end [] (run .calls) (runAnswers run)) (endAfter end (run .calls) (runAnswers run)) in
+      subst (holds (run .edition) all (run .form)) (begin-end run h)
+      (subst (λ (e : ℕ). holds e all (run .form) (begun .end)) (begin-edition run h)
+      (subst (λ (f : List ℕ). holds (begun .edition) all f (begun .end)) (begin-form run h)
+      (subst (λ (r : List ℕ). holds (begun .edition) r (begun .form) (begun .end)) (sym (apply-append (run .buffer) (runBegin run .stores) later))
       (run-holds P closes (run .calls) (runStart run) [] [] kept c))))
 
   all-is : runStores run ≡ record { at = 0; byte = 0 } ∷ later
@@ -144,7 +145,7 @@ module _ (run : Run) {n : ℕ} (h : runBegin run .answer ≡ accepted n) where
       record {
         none-made = λ q. rw q;
         all-left = all-buffer run k;
-        all-made = λ q c. rw (all-stored run k q) (all-holds (λ _ buffer form tree _. Shows buffer form tree) (λ s tree offsets g. closed-shows s tree g) c);
+        all-made = λ q c. rw (all-stored run k q) (all-holds (λ _ buffer form tree _ _. Shows buffer form tree) (λ s tree offsets g. closed-shows s tree g) c);
         otherwise = refused-3 k le;
       }
 
@@ -167,7 +168,7 @@ demand3-cut run k =
     }
 
 counted-by : (a : Answer ℕ) (run : Run) → runBegin run .answer ≡ a → runClosed run ≡ true → Counted (runState run .buffer) (run .form) (runTree run)
-counted-by (accepted n) run h c = rw (run-buffer run) (all-holds run h (λ _ buffer form tree _. Counted buffer form tree) (λ s tree offsets g. closed-counts s tree g) c)
+counted-by (accepted n) run h c = rw (run-buffer run) (all-holds run h (λ _ buffer form tree _ _. Counted buffer form tree) (λ s tree offsets g. closed-counts s tree g) c)
 counted-by (refused t) run h c = absurd (true≢false (sym c ∙ none-closed run t h))
 
 pub data-counted : DataCounted
@@ -186,7 +187,7 @@ file-written s tree offsets g =
     }
 
 made-by : (a : Answer ℕ) (run : Run) → runBegin run .answer ≡ a → runClosed run ≡ true → FileWritten (run .edition) (runState run .buffer) (run .form) (runTree run)
-made-by (accepted n) run h c = rw (run-buffer run) (all-holds run h (λ edition buffer form tree _. FileWritten edition buffer form tree) file-written c)
+made-by (accepted n) run h c = rw (run-buffer run) (all-holds run h (λ edition buffer form tree _ _. FileWritten edition buffer form tree) file-written c)
 made-by (refused t) run h c = absurd (true≢false (sym c ∙ none-closed run t h))
 
 pub file-made : FileMade

@@ -6,6 +6,7 @@ pub mod Demand1Laws
 pub mod Demand2Laws
 pub mod BreakPlacesLaws
 pub mod Demand3Laws
+pub mod DataPlacesLaws
 pub mod WithdrawnLaws
 pub mod WorkedSums
 pub mod WorkedLaws

@@ -6,5 +6,6 @@ pub mod Demand1
 pub mod Demand2
 pub mod BreakPlaces
 pub mod Demand3
+pub mod DataPlaces
 pub mod Withdrawn
 pub mod Worked

@@ -3,10 +3,10 @@
 use mathlib.Core.Path.{_≡_, refl, sym, ap, _∙_, subst}
 use mathlib.Core.Bool.{Bool, true, false, cond}
 use mathlib.Core.List.{List, [], _∷_, _++_, map}
-use Prim.Native.Nat.{ℕ, zero, suc, _+_, _-_, _*_, _≤_}
+use Prim.Native.Nat.{ℕ, zero, suc, _+_, _-_, _*_, _≤_, _<_}
 use native.Mathlib.Omega.{arith}
 use lib.ListN.{length, length-map}
-use Rattle.aff_format.specs.Answer.{accepted}
+use Rattle.aff_format.specs.Answer.{Answer, accepted}
 use Rattle.aff_format.specs.Bytes.{part}
 use Rattle.aff_format.specs.Edition.{hasCounts, headerSize}
 use Rattle.aff_format.specs.Kind.{elementSize, isVoid}
@@ -17,15 +17,17 @@ use Rattle.aff_format.specs.declared.edition.Edition.{Edition}
 use Rattle.aff_format.specs.declared.entry.Entry.{Entry}
 use Rattle.aff_format.proofs.BytesLaws.{part-middle}
 use Rattle.aff_tables.specs.Tables.{nodeEntry, treeBytes}
-use Rattle.aff_open.specs.Opening.{openAnswer, readerFor}
+use Rattle.aff_open.specs.Opening.{openAnswer, readerFor, stringsAfter, entriesAfter}
 use Rattle.aff_open.specs.Rules.{EachNode}
 use Rattle.aff_open.proofs.ObeysLaws.{obeys-accepted}
 use Rattle.aff_reader.specs.declared.reader.Reader.{Reader}
+use Rattle.aff_reader.specs.declared.reader.Span.{Span}
+use Rattle.aff_nodes.specs.Answers.{viewAnswer}
 use Rattle.aff_read.specs.Shows.{Shows}
 use Rattle.aff_file.specs.File.{FileContents, nodeIn, contentsTree, fileHeader, fileOf, Lawful}
 use Rattle.aff_file.specs.TreeIn.{nodeBy, treeIn}
 use Rattle.aff_file.proofs.FileLaws.{length-fileHeader, file-laid, file-obeys, file-edition, file-strings, file-nodes, file-records}
-use Rattle.aff_file.proofs.OpenedShowsLaws.{node-of-entry, opened-shows}
+use Rattle.aff_file.proofs.OpenedShowsLaws.{node-of-entry, view-begins, view-of-root, opened-shows}
 
 -- ---- A tree made entry by entry.
 
@@ -94,6 +96,23 @@ module _ (e : Edition) (c : FileContents) (form rest : List ℕ) (g : Lawful e c
   pub file-shows : Shows file form (contentsTree e c)
   file-shows =
       subst (Shows file form) (ap (λ (d : Edition). treeIn d file) (file-edition e c form rest g) ∙ file-tree) (opened-shows file form file-opens)
+
+  -- An accepted view begins where the entry of its node says; that of the root begins at 0.
+  module _ {r : Reader} (h : openAnswer file form stringLimit nodeLimit ≡ accepted r) (strings entries : List ℕ) (a : length strings ≡ stringLimit) (b : length entries ≡ nodeLimit) where
+    abbrev viewIn : ℕ → Answer Span
+    viewIn n = viewAnswer file r (stringsAfter file form strings entries) (entriesAfter file form strings entries) n
+
+    pub file-view : (n : ℕ) {view : Span} → viewIn n ≡ accepted view → 0 < n → (n ≤ length (c .entries)) × (view .offset ≡ nodeEntry (c .entries) n .offset)
+    file-view n {view} v lo =
+        let (hi, is) = rw (file-edition e c form rest g, file-nodes e c form rest g) at (view-begins file form h strings entries a b n v lo) in
+        (hi, is ∙ go (nodeEntry (c .entries) n) (isVoid (nodeEntry (c .entries) n .kind)) (g .storable n lo hi .void-offset))
+      where
+        go : (x : Entry) (void : Bool) → (void ≡ true → x .offset ≡ 0) → cond void 0 (x .offset) ≡ x .offset
+        go x true z = sym (z refl)
+        go x false z = refl
+
+    pub file-view-root : {view : Span} → viewIn 0 ≡ accepted view → view .offset ≡ 0
+    file-view-root = view-of-root file form h strings entries a b
 
   -- Opening reports the record count of the data.
   pub file-counts : hasCounts e ≡ true → (r : Reader) → openAnswer file form stringLimit nodeLimit ≡ accepted r → r .records ≡ c .records

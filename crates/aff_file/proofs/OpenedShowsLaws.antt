@@ -7,7 +7,7 @@ use Prim.Native.Nat.{ℕ, zero, suc, _*_, _≤_, _<_}
 use native.Mathlib.Omega.{arith}
 use lib.Dec.{eqb}
 use lib.ListN.{length, getD, length-map}
-use borrow.Author.Tests.{ne-eqb, le-ltb, lt-ltb}
+use borrow.Author.Tests.{ne-eqb, le-ltb, lt-ltb, ltb-false}
 use Rattle.aff_format.specs.Answer.{accepted}
 use Rattle.aff_format.specs.Bytes.{part}
 use Rattle.aff_format.specs.Element.{countIn}
@@ -17,16 +17,18 @@ use Rattle.aff_format.specs.Recorded.{recordedEntry}
 use Rattle.aff_format.specs.Tree.{Node, Tree, treeNode, frontBy, pathIn}
 use Rattle.aff_format.specs.declared.edition.Edition.{Edition}
 use Rattle.aff_format.specs.declared.entry.Entry.{Entry}
+use Rattle.aff_format.proofs.AnswerLaws.{passed, passed-value}
 use Rattle.aff_format.proofs.TreeLaws.{front-same}
 use Rattle.aff_tables.specs.Tables.{nodeEntry}
 use Rattle.aff_reader.specs.Belongs.{readerBelongs, ReaderBelongs}
 use Rattle.aff_reader.specs.Reader.{noSpan}
 use Rattle.aff_reader.specs.declared.reader.Reader.{Reader}
+use Rattle.aff_reader.specs.declared.reader.Span.{Span}
 use Rattle.aff_reader.proofs.BelongsLaws.{belongs-record}
 use Rattle.aff_open.specs.Opening.{openAnswer, stringsAfter, entriesAfter}
 use Rattle.aff_open.specs.Sections.{editionIn, stringsIn, nodesIn}
 use Rattle.aff_open.proofs.OpenedLaws.{OpenedShape, opened-shape, opened-belongs}
-use Rattle.aff_nodes.specs.Answers.{nameAnswer, kindAnswer, countAnswer, viewAnswer, elementAnswer}
+use Rattle.aff_nodes.specs.Answers.{existsChecks, nameAnswer, kindAnswer, countAnswer, viewAnswer, elementAnswer}
 use Rattle.aff_nodes.specs.Recall.{kindAt, parentAt, nameAt, nameSpan, dataSpan, spanBytes, bytesAt, pathAt}
 use Rattle.aff_nodes.proofs.ElementLaws.{count-in}
 use Rattle.aff_read.specs.Paths.{pathAnswer}
@@ -75,6 +77,17 @@ data-named image entries node is =
   where
     go : (e : Entry) (v : Bool) → spanBytes image (cond v noSpan (record { offset = e .offset; size = e .count * elementSize (e .kind) }))
         ≡ cond v [] (part (e .offset) (e .count * elementSize (e .kind)) image)
+    go e true = refl
+    go e false = refl
+
+-- They begin where it says, and at 0 where there are none.
+span-named : (image entries : List ℕ) (node : ℕ) {e : Entry} → recordedEntry image entries node ≡ e
+    → dataSpan image entries node .offset ≡ cond (isVoid (e .kind)) 0 (e .offset)
+unfolding dataSpan
+span-named image entries node is =
+    go (recordedEntry image entries node) (isVoid (recordedEntry image entries node .kind)) ∙ ap (λ (e : Entry). cond (isVoid (e .kind)) 0 (e .offset)) is
+  where
+    go : (e : Entry) (v : Bool) → (cond v noSpan (record { offset = e .offset; size = e .count * elementSize (e .kind) })) .offset ≡ cond v 0 (e .offset)
     go e true = refl
     go e false = refl
 
@@ -159,6 +172,24 @@ module _ (image form : List ℕ) {r : Reader} (h : openAnswer image form stringL
         (λ k lo hi. sym (ap (λ (t : Node). t .name) (node-recalled k hi)))
         (belongs .parent-exists) (r .nodes) n l
         ∙ ap (λ (steps : ℕ). frontBy (λ k. treeNode tree k .parent) (λ k. treeNode tree k .name) steps n) nodes-count)
+
+    -- An accepted view begins where the entry of its node says; that of the root is empty.
+    view-is : (n : ℕ) {view : Span} → viewAnswer image r ss es n ≡ accepted view → (n ≤ r .nodes) × (dataSpan image es n ≡ view)
+    unfolding viewAnswer
+    view-is n h =
+        let checks = existsChecks image r ss es n in
+        (ltb-false (r .nodes) n (passed checks (dataSpan image es n) h .1 .0), passed-value checks (dataSpan image es n) h)
+
+    pub view-begins : (n : ℕ) {view : Span} → viewAnswer image r ss es n ≡ accepted view → 0 < n
+        → (n ≤ length (nodesIn e image))
+        × (view .offset ≡ cond (isVoid (nodeEntry (nodesIn e image) n .kind)) 0 (nodeEntry (nodesIn e image) n .offset))
+    view-begins n h lo =
+        let (l, is) = view-is n h in
+        (omega (arith, l, nodes-many), ap (λ (v : Span). v .offset) (sym is) ∙ span-named image es n (entry-is n lo l))
+
+    pub view-of-root : {view : Span} → viewAnswer image r ss es 0 ≡ accepted view → view .offset ≡ 0
+    unfolding recordedEntry dataSpan
+    view-of-root h = ap (λ (v : Span). v .offset) (sym (view-is 0 h .1))
 
     node-shown : (n : ℕ) → n ≤ length tree → NodeShown image r ss es tree n
     unfolding kindAnswer countAnswer pathAnswer

@@ -107,12 +107,16 @@ others-both n (check wrong t ∷ before) after o p =
     let (h, q) = others-first n wrong t before o in
     rw h (others-both n before after q p)
 
--- A number that the last check alone can report: those before it found nothing wrong.
+-- A number that one check alone can report: it was reported there, and those before it found nothing wrong.
+pub check-reported : {A : Type 0} (n : ℕ) (before : List Check) → Others n before → (wrong : Bool) (r : RefusalCode) (after : List Check) → Others n after → (a : A) {t : RefusalCode}
+    → firstWrong (before ++ (check wrong r ∷ after)) a ≡ refused t → eqb (t .number) n ≡ true → Clear before × (wrong ≡ true) × (t ≡ r)
+check-reported n [] o true r after p a e h = (tt, refl, cc)
+check-reported n [] o false r after p a e h = absurd (true≢false (sym h ∙ others-reported n after p a e))
+check-reported n (check true q ∷ before) o wrong r after p a {t} e h =
+    let s : t ≡ q = cc in absurd (true≢false (sym h ∙ ap (λ (x : RefusalCode). eqb (x .number) n) s ∙ others-first n true q before o .0))
+check-reported n (check false q ∷ before) o wrong r after p a e h =
+    let c = check-reported n before (others-first n false q before o .1) wrong r after p a e h in ((refl, c .0), c .1, c .2)
+
 pub last-reported : {A : Type 0} (n : ℕ) (before : List Check) → Others n before → (wrong : Bool) (r : RefusalCode) (a : A) {t : RefusalCode}
     → firstWrong (before ++ (check wrong r ∷ [])) a ≡ refused t → eqb (t .number) n ≡ true → Clear before × (wrong ≡ true) × (t ≡ r)
-last-reported n [] o true r a e h = (tt, refl, cc)
-last-reported n [] o false r a e h = not-both (sym e)
-last-reported n (check true q ∷ before) o wrong r a {t} e h =
-    let p : t ≡ q = cc in absurd (true≢false (sym h ∙ ap (λ (x : RefusalCode). eqb (x .number) n) p ∙ others-first n true q before o .0))
-last-reported n (check false q ∷ before) o wrong r a e h =
-    let c = last-reported n before (others-first n false q before o .1) wrong r a e h in ((refl, c .0), c .1, c .2)
+last-reported n before o wrong r a e h = check-reported n before o wrong r [] refl a e h

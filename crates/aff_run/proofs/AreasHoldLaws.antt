@@ -5,7 +5,7 @@ use mathlib.Core.Bool.{Bool, true}
 use mathlib.Core.List.{List, [], _∷_, _++_}
 use Prim.Native.Nat.{ℕ, zero, suc, _-_, _*_, _≤_, _<_}
 use native.Mathlib.Omega.{arith}
-use lib.ListN.{length, getD, drop, replicate, length-append, List·getD-map}
+use lib.ListN.{length, getD, drop, replicate, length-append}
 use lib.Seq.{take-at, drop-at}
 use Rattle.aff_format.specs.Answer.{accepted}
 use Rattle.aff_format.specs.Bytes.{part}
@@ -19,15 +19,14 @@ use Rattle.aff_format.proofs.EntryLaws.{length-entryBytes, length-slotBytes}
 use Rattle.aff_tables.specs.Tables.{nodeEntry}
 use Rattle.aff_areas.specs.Writer.{writerEdition}
 use Rattle.aff_areas.specs.Areas.{slotAt}
-use Rattle.aff_areas.specs.declared.writer.Writer.{Writer}
 use Rattle.aff_run.specs.TreeSizes.{namesOf}
 use Rattle.aff_run.specs.AreasHold.{SlotOf, AreasHold}
 use Rattle.aff_run.specs.Run.{Call, State, Step, next, step, afterCall, answersOf, stateAfter, isAccepted, applyCall, treeAfter, callEnd, endAfter, callOffsets, offsetsAfter, Run, runBegin, runStart, runAnswers, runState, runTree, runEnd, runOffsets}
-use Rattle.aff_run.proofs.InvariantLaws.{Invariant, offsetOf, Blank, ZerosAfter, count-same, storables, stored-in, text-after, tree-after}
+use Rattle.aff_run.proofs.InvariantLaws.{Invariant, offset-at, Blank, ZerosAfter, count-same, storables, stored-in, text-after, tree-after}
 use Rattle.aff_run.proofs.BeginInvariantLaws.{begin-edition, begin-end, begin-invariant, begin-after}
 use Rattle.aff_run.proofs.SlotsLaws.{slotsOf, length-slotsOf, drop-slots, node-storable}
 use Rattle.aff_run.proofs.StepLaws.{asleep-tree, asleep-end, asleep-offsets, asleep-after}
-use Rattle.aff_run.proofs.RunLaws.{step-edition, step-end, Sleeps, sleeps-asleep, Outcome, goesOn, ends, outcome}
+use Rattle.aff_run.proofs.RunLaws.{step-edition, step-end, end-slept, Sleeps, sleeps-asleep, Outcome, goesOn, ends, outcome}
 
 -- ---- A live writer.
 
@@ -46,13 +45,6 @@ module _ (s : State) (tree : Tree) {offsets : List ℕ} (g : Invariant s tree of
       rw (z, g .tree-is, drop-slots (g .entries) (g .tree-rest) k (omega (arith, count-same s tree g)))
       (take-at (slotBytes e) (slotsOf (drop (suc k) (g .entries)) ++ g .tree-rest) 25 (length-slotBytes e))
 
-  -- Where its data begin.
-  place-is : (n : ℕ) → 0 < n → n ≤ length tree → nodeEntry (g .entries) n .offset ≡ getD offsets (n - 1) 0
-  place-is zero lo hi = absurd (omega arith)
-  place-is (suc k) lo hi =
-      let z : suc k - 1 ≡ k = omega arith in
-      rw (z, ← g .offsets-are) (sym (List·getD-map offsetOf (g .entries) k noEntry))
-
   slot-of : (n : ℕ) → 0 < n → n ≤ length tree → SlotOf (writerEdition (s .writer)) (namesOf tree) (s .writer .end) (getD offsets (n - 1) 0) (treeNode tree n) (part (slotAt n) 25 (s .tree))
   slot-of n lo hi =
       let t = stored-in s tree g n lo hi in
@@ -66,7 +58,7 @@ module _ (s : State) (tree : Tree) {offsets : List ℕ} (g : Invariant s tree of
         string = t .string-exists;
         name = t .name-is;
         count = t .count-is;
-        offset-is = place-is n lo hi;
+        offset-is = offset-at (g .entries) n lo ∙ ap (λ (l : List ℕ). getD l (n - 1) 0) (g .offsets-are);
         offset-aligned = t .offset-aligned;
         begins = t .begins;
         ends = t .ends;
@@ -146,11 +138,10 @@ module _ (s : State) (tree : Tree) (offsets : List ℕ) (g : Invariant s tree of
       (subst (λ (n : ℕ). AreasAfter n (step s c .writer .end)) (step-edition s c) (later (afterCall s c) _ _ kept (rest b)))
   by-step (ends e t o z) =
       let asleep = sleeps-asleep s c z in
-      let same : callEnd (s .writer .end) c ok ≡ s .writer .end = sym (step-end s c) ∙ ap (λ (w : Writer). w .end) (z .0) in
       rw (
         t,
         o,
-        same,
+        end-slept s c z,
         asleep-tree (afterCall s c) asleep tree cs,
         asleep-end (afterCall s c) asleep (s .writer .end) cs,
         asleep-offsets (afterCall s c) asleep (s .writer .end) offsets cs,

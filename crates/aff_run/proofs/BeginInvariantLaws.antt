@@ -40,7 +40,7 @@ lengths-right buffer form text tree h =
     )
 
 -- The empty tree adds nothing to header and data.
-no-size : (end : ℕ) → sizeOf end [] ≡ end
+pub no-size : (end : ℕ) → sizeOf end [] ≡ end
 unfolding sizeOf entriesSize namesFrom textOf
 no-size end = omega arith
 

@@ -230,6 +230,11 @@ module _ (s : State) (tree : Tree) {offsets : List ℕ} (g : Invariant s tree of
       ∙ ap (λ (h : List ℕ). h ++ (part (dataPlace (s .writer)) (dataSize (s .writer)) (s .buffer) ++ (symbols ++ (treeBytes (g .entries) ++ rest)))) header-is
       ∙ sym (file-laid ed contents (s .writer .form) rest)
 
+  -- The file has the finished size.
+  pub length-closed : length (fileOf ed contents (s .writer .form)) ≡ sizeOf (s .writer .end) tree
+  unfolding contents sizeOf
+  length-closed = omega (arith, length-fileOf ed contents (s .writer .form) (g .form-length), length-stored, end-is, sizes-in-bytes s tree g)
+
   -- So it opens and shows the tree, and opening reports the number of nodes that are not Void.
   pub closed-shows : Shows closed (s .writer .form) tree
   closed-shows = subst (λ (t : Tree). Shows closed (s .writer .form) t) tree-held (rw closed-is (file-shows ed contents (s .writer .form) rest lawful))

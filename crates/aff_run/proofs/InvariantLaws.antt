@@ -3,11 +3,11 @@
 use mathlib.Core.Path.{_≡_, refl, sym, ap, _∙_}
 use mathlib.Core.Bool.{Bool, true, false, cond}
 use mathlib.Core.List.{List, [], _∷_, _++_, map}
-use Prim.Native.Nat.{ℕ, zero, suc, _+_, _*_, _%_, _^_, _≤_, _<_}
+use Prim.Native.Nat.{ℕ, zero, suc, _+_, _-_, _*_, _%_, _^_, _≤_, _<_}
 use native.Mathlib.Nat.{zero-add}
 use native.Mathlib.Numerals.{one-add}
 use native.Mathlib.Omega.{arith}
-use lib.ListN.{length, getD, set, take, drop, replicate, length-append}
+use lib.ListN.{length, getD, set, take, drop, replicate, length-append, List·getD-map}
 use lib.Seq.{take-at, drop-at, take-suc, take-length}
 use Rattle.aff_format.specs.Bytes.{part, EachWithout}
 use Rattle.aff_format.specs.Edition.{headerSize, NamesWritten}
@@ -108,6 +108,10 @@ pub offsets-set : (es : List Entry) (j : ℕ) (e : Entry) → map offsetOf (set 
 offsets-set [] j e = refl
 offsets-set (d ∷ es) zero e = refl
 offsets-set (d ∷ es) (suc j) e = ap (λ (l : List ℕ). d .offset ∷ l) (offsets-set es j e)
+
+pub offset-at : (es : List Entry) (n : ℕ) → 0 < n → nodeEntry es n .offset ≡ getD (map offsetOf es) (n - 1) 0
+offset-at es zero lo = absurd (omega arith)
+offset-at es (suc k) lo = let z : suc k - 1 ≡ k = omega arith in rw z (sym (List·getD-map offsetOf es k noEntry))
 
 -- All zero.
 abbrev pub Blank : List ℕ → Type 0

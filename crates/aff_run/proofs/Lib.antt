@@ -13,3 +13,4 @@ pub mod BeginInvariantLaws
 pub mod BeginRefusedLaws
 pub mod AnswersFromTreeLaws
 pub mod AreasHoldLaws
+pub mod BufferSizeLaws

@@ -18,12 +18,12 @@ use Rattle.aff_areas.proofs.StoreLaws.{apply-append}
 use Rattle.aff_write.specs.Close.{closeStores}
 use Rattle.aff_write.specs.Put.{putStores}
 use Rattle.aff_run.specs.AnswersFromTree.{isSpent, stops}
-use Rattle.aff_run.specs.Run.{Call, make, put, close, State, Step, answerTo, needed, completed, step, afterCall, answersOf, storesOf, isAccepted, applyCall, treeAfter, callEnd, callOffsets, offsetsAfter, isClose, closedBy}
+use Rattle.aff_run.specs.Run.{Call, make, put, close, State, Step, answerTo, needed, completed, step, afterCall, answersOf, storesOf, isAccepted, applyCall, treeAfter, callEnd, endAfter, callOffsets, offsetsAfter, isClose, closedBy}
 use Rattle.aff_run.proofs.InvariantLaws.{Invariant, ZerosAfter}
 use Rattle.aff_run.proofs.MakeInvariantLaws.{made-invariant, made-after}
 use Rattle.aff_run.proofs.PutInvariantLaws.{put-invariant, put-after}
 use Rattle.aff_run.proofs.ClosedLaws.{closed, closed-buffer}
-use Rattle.aff_run.proofs.StepLaws.{accepted-clear, step-refused, asleep-stores, asleep-closed, asleep-tree, asleep-offsets}
+use Rattle.aff_run.proofs.StepLaws.{accepted-clear, step-refused, asleep-stores, asleep-closed, asleep-tree, asleep-end, asleep-offsets}
 
 -- ---- What a call leaves of the record.
 
@@ -87,6 +87,9 @@ close-sleeps s allowance h = rw h (refl, refl, refl)
 pub sleeps-asleep : (s : State) (c : Call) → Sleeps s (step s c) → step s c .writer .live ≡ false
 sleeps-asleep s c z = ap (λ (w : Writer). w .live) (z .0)
 
+pub end-slept : (s : State) (c : Call) → Sleeps s (step s c) → callEnd (s .writer .end) c (isAccepted (step s c .answer)) ≡ s .writer .end
+end-slept s c z = sym (step-end s c) ∙ ap (λ (w : Writer). w .end) (z .0)
+
 -- An accepted call makes all the stores that it needs.
 pub needed-made : (s : State) (c : Call) {n : ℕ} → step s c .answer ≡ accepted n → step s c .stores ≡ needed s c
 unfolding step
@@ -139,33 +142,36 @@ close-made s (make parent name) (accepted n) h z = absurd (true≢false (sym z))
 close-made s (put node type bytes allowance) (accepted n) h z = absurd (true≢false (sym z))
 close-made s (close allowance) (accepted n) h z = needed-made s (close allowance) h
 
--- What holds of each closed buffer, with the writer's edition and form, the tree described and where its data begin, holds of the buffer that a run with an
--- accepted close leaves.
-module _ (P : ℕ → List ℕ → List ℕ → Tree → List ℕ → Type 0)
-    (closes : (s : State) (tree : Tree) (offsets : List ℕ) (g : Invariant s tree offsets) → P (s .writer .edition) (closed s tree g) (s .writer .form) tree offsets) where
+-- What holds of each closed buffer, with the writer's edition and form, the tree described, where its data begin and where they end, holds of the buffer that a
+-- run with an accepted close leaves.
+module _ (P : ℕ → List ℕ → List ℕ → Tree → List ℕ → ℕ → Type 0)
+    (closes : (s : State) (tree : Tree) (offsets : List ℕ) (g : Invariant s tree offsets) → P (s .writer .edition) (closed s tree g) (s .writer .form) tree offsets (s .writer .end)) where
   abbrev HoldsFrom : List Call → Type 0
   HoldsFrom cs = (s : State) (tree : Tree) (offsets : List ℕ) → Invariant s tree offsets → closedBy cs (answersOf s cs) ≡ true
       → P (s .writer .edition) (applyStores (s .buffer) (storesOf s cs)) (s .writer .form) (treeAfter tree cs (answersOf s cs))
-      (offsetsAfter (s .writer .end) offsets cs (answersOf s cs))
+      (offsetsAfter (s .writer .end) offsets cs (answersOf s cs)) (endAfter (s .writer .end) cs (answersOf s cs))
 
   module _ (s : State) (tree : Tree) (offsets : List ℕ) (g : Invariant s tree offsets) (c : Call) (cs : List Call) (later : HoldsFrom cs) where
+    -- The data end there after call c.
+    abbrev nextEnd : ℕ
+    nextEnd = callEnd (s .writer .end) c (isAccepted (step s c .answer))
+
     -- The same, after call c.
     abbrev HoldsAfter : Tree → List ℕ → Type 0
     HoldsAfter after places =
         P (s .writer .edition) (applyStores (s .buffer) (step s c .stores ++ storesOf (afterCall s c) cs)) (s .writer .form)
-        (treeAfter after cs (answersOf (afterCall s c) cs))
-        (offsetsAfter (callEnd (s .writer .end) c (isAccepted (step s c .answer))) places cs (answersOf (afterCall s c) cs))
+        (treeAfter after cs (answersOf (afterCall s c) cs)) (offsetsAfter nextEnd places cs (answersOf (afterCall s c) cs)) (endAfter nextEnd cs (answersOf (afterCall s c) cs))
 
     goes-on : (after : Tree) (places : List ℕ) → Invariant (afterCall s c) after places → closedBy cs (answersOf (afterCall s c) cs) ≡ true → HoldsAfter after places
     goes-on after places kept z =
         let n = afterCall s c in
         let all = applyStores (s .buffer) (step s c .stores ++ storesOf n cs) in
         let shown = treeAfter after cs (answersOf n cs) in
-        let begin : ℕ → List ℕ = λ end. offsetsAfter end places cs (answersOf n cs) in
-        subst (λ (end : ℕ). P (s .writer .edition) all (s .writer .form) shown (begin end)) (step-end s c)
-        (subst (λ (e : ℕ). P e all (s .writer .form) shown (begin (n .writer .end))) (step-edition s c)
-        (subst (λ (f : List ℕ). P (n .writer .edition) all f shown (begin (n .writer .end))) (step-form s c)
-        (subst (λ (r : List ℕ). P (n .writer .edition) r (n .writer .form) shown (begin (n .writer .end))) (sym (apply-append (s .buffer) (step s c .stores) (storesOf n cs)))
+        let holds : ℕ → List ℕ → List ℕ → ℕ → Type 0 = λ e r f end. P e r f shown (offsetsAfter end places cs (answersOf n cs)) (endAfter end cs (answersOf n cs)) in
+        subst (λ (end : ℕ). holds (s .writer .edition) all (s .writer .form) end) (step-end s c)
+        (subst (λ (e : ℕ). holds e all (s .writer .form) (n .writer .end)) (step-edition s c)
+        (subst (λ (f : List ℕ). holds (n .writer .edition) all f (n .writer .end)) (step-form s c)
+        (subst (λ (r : List ℕ). holds (n .writer .edition) r (n .writer .form) (n .writer .end)) (sym (apply-append (s .buffer) (step s c .stores) (storesOf n cs)))
         (later n after places kept z))))
 
     -- What comes after an accepted close changes nothing.
@@ -175,7 +181,9 @@ module _ (P : ℕ → List ℕ → List ℕ → Tree → List ℕ → Type 0)
         rw (
           asleep-stores (afterCall s c) asleep cs,
           asleep-tree (afterCall s c) asleep tree cs,
-          asleep-offsets (afterCall s c) asleep (callEnd (s .writer .end) c (isAccepted (step s c .answer))) offsets cs,
+          asleep-offsets (afterCall s c) asleep nextEnd offsets cs,
+          asleep-end (afterCall s c) asleep nextEnd cs,
+          end-slept s c z,
           append-nil,
           close-made s c (step s c .answer) refl a,
           ← closed-buffer s tree g,

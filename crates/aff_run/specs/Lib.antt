@@ -4,3 +4,4 @@ pub mod Run
 pub mod AnswersFromTree
 pub mod Cut
 pub mod AreasHold
+pub mod BufferSize
