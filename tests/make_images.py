@@ -2,7 +2,7 @@
 """Makes the images of the test program test_open: lawful odd files, and damaged ones on both sides of each boundary.
 
 It shares no code with the library: it is written from source document 003, for edition 3 source document 000, document 01 and requests C-11, C-13,
-C-15 and C-18, and what each image must be answered with is said here by hand. It writes crates/test_open/stdin (each
+C-15, C-18 and C-22, and what each image must be answered with is said here by hand. It writes crates/test_open/stdin (each
 image after its length in 4 bytes), crates/test_open/stdout and tests/test_open.txt. A refusal has three numbers there: its number, its place, and the second
 number, which is the place in a node's name for 10 and 0 for the others.
 
@@ -19,6 +19,7 @@ ROOT = os.path.dirname(os.path.dirname(os.path.abspath(__file__)))
 VOID, CHAR, INT, DOUBLE, COMPLEX = 1, 2, 3, 4, 5
 EDITIONS = (1, 2, 3)
 COUNTED = (2, 3)  # those whose section headers have a record count
+WRITTEN = (2, 3)  # those that our writer writes
 TEXT = {1: b"LHPC AFF version 1.0", 2: b"LHPC AFF version 2.0", 3: b"LHPC AFF version 3.0"}
 HEADER = {1: 144, 2: 168, 3: 168}
 FORM = bytes([0, 64, 2, 53, 4, 0, 3, 253])
@@ -51,6 +52,18 @@ def form(ed):
 def entry(kind, parent, string, count=0, offset=0):
     b = struct.pack(">BQI", kind, parent, string)
     return b if kind == VOID else b + struct.pack(">IQ", count, offset)
+
+
+def aligned_data(ed, parts):
+    """The data section that our writer makes of the data of its puts, in their order, and the offset of each (request C-22): each begins at a multiple of 8,
+    counted from the start of the file, with zero bytes up to there. Nothing is padded after the last."""
+    file, offsets = bytearray(HEADER[ed]), []
+    for part in parts:
+        while len(file) % 8:
+            file.append(0)
+        offsets.append(len(file))
+        file += part
+    return bytes(file[HEADER[ed]:]), offsets
 
 
 def strings_of(table):
@@ -551,6 +564,45 @@ def wide_names():
     return i
 
 
+# Files with padding and their MD5 sums in both written editions, as the issue of request C-22 states them: `abc`, then a Double; the Double first.
+ALIGNED = {2: "83af5aeaec7934f518ddfbcd2759d236", 3: "1005f6ce7bb4470d076dcb00e77eb581"}
+DOUBLE_FIRST = {2: "715e7c4b9b41de6028ce3180af33d8dc", 3: "f157ff7b0ec0ee3346739cbbfa4e9e5b"}
+
+
+def aligned(ed):
+    """The Char array `abc` and, after five zero bytes, the Double 1.0. Places and data are written by hand."""
+    nodes = [entry(CHAR, 0, 0, 3, 168), entry(DOUBLE, 0, 1, 1, 176)]
+    i = Image(ed, strings=[b"a", b"b"], data=b"abc\0\0\0\0\0\x3f\xf0\0\0\0\0\0\0", entries=nodes)
+    i.count, i.records = {"data": 2}, 2
+    return i
+
+
+def double_first(ed):
+    """The same nodes with the data of the second one first: no byte is padded."""
+    nodes = [entry(CHAR, 0, 0, 3, 176), entry(DOUBLE, 0, 1, 1, 168)]
+    i = Image(ed, strings=[b"a", b"b"], data=b"\x3f\xf0\0\0\0\0\0\0abc", entries=nodes)
+    i.count, i.records = {"data": 2}, 2
+    return i
+
+
+def padding():
+    """Request C-22: files of our writer with data at multiples of 8. A reader asks for no such multiple, and does not look at the bytes between."""
+    for ed in WRITTEN:
+        i = aligned(ed)
+        assert len(i.bytes()) == 238 and md5(i.bytes()).hex() == ALIGNED[ed]
+        assert i.bytes()[168:188].hex(" ") == "61 62 63 00 00 00 00 00 3f f0 00 00 00 00 00 00 61 00 62 00"
+        case(f"edition {ed}: a padded Double, 238 bytes", i, opened(i, 2))
+        i = double_first(ed)
+        assert len(i.bytes()) == 233 and md5(i.bytes()).hex() == DOUBLE_FIRST[ed]
+        case(f"edition {ed}: a Double before three Chars, 233 bytes", i, opened(i, 2))
+        i = aligned(ed)
+        i.data = b"abc\1\2\3\4\5" + i.data[8:]
+        case(f"edition {ed}: other bytes than zero before a Double", i, opened(i, 2))
+        nodes = [entry(CHAR, 0, 0, 3, 168), entry(DOUBLE, 0, 1, 1, 171)]
+        i = node_file(ed, nodes, [b"a", b"b"], b"abc\x3f\xf0\0\0\0\0\0\0")
+        case(f"edition {ed}: a Double at 171, right after three Chars", i, opened(i, 2))
+
+
 def third_edition():
     """Request C-15: what source document 000 has otherwise than 003 has it."""
     i = Image(3)
@@ -616,6 +668,7 @@ def main():
     node_faults()
     name_places()
     third_edition()
+    padding()
     crate = os.path.join(top, "crates", "test_open")
     os.makedirs(crate, exist_ok=True)
     os.makedirs(os.path.join(top, "tests"), exist_ok=True)

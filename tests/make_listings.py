@@ -13,7 +13,7 @@ import os
 import struct
 
 from make_images import (
-    CHAR, COMPLEX, COUNTED, DOUBLE, EDITIONS, HEADER, HEADERS, INT, MANY, VOID, WIDE, Image, changed, destination, entry, md5, wide_names,
+    CHAR, COMPLEX, COUNTED, DOUBLE, EDITIONS, HEADER, HEADERS, INT, MANY, VOID, WIDE, WRITTEN, Image, aligned, changed, destination, entry, md5, wide_names,
 )
 
 WORD = {VOID: b"void", CHAR: b"char", INT: b"int", DOUBLE: b"double", COMPLEX: b"complex"}
@@ -25,7 +25,8 @@ BRIEF = 1024
 
 
 def make(ed, nodes, ended=True, after=None):
-    """The image of a tree: a node is (parent, name, kind, count), numbered from 1. Where `ended` is false, the last string has no zero (request C-13).
+    """The image of a tree: a node is (parent, name, kind, count), numbered from 1. Its data follow each other without padding, as a reader allows and our
+    writer does not write them (request C-22). Where `ended` is false, the last string has no zero (request C-13).
     `after`: bytes of no section that follow the symbol section, which is then the last; where it is not given, the tree table follows it."""
     strings, data, entries = [], b"", []
     for parent, name, kind, count in nodes:
@@ -107,6 +108,10 @@ REFUSED_21, TOO_LONG = [b"refused 21 0\n"], [b"too long\n"]
 NAMED = [(0, b"9a", VOID, 0), (1, b"p x=\xff\\", DOUBLE, 1), (1, b"\n", CHAR, 2)]
 NAMED_SHORT = [b"/9a/p\\x20x=\\xff\\x5c double 1\n", b"/9a/\\x0a char 2\n"]
 NAMED_FULL = [b"/ void 0\n", b"/9a void 0\n", *NAMED_SHORT]
+# The tree of samples/aligned.aff, and what is printed of it, by hand.
+PADDED = [(0, b"a", CHAR, 3), (0, b"b", DOUBLE, 1)]
+PADDED_SHORT = [b"/a char 3\n", b"/b double 1\n"]
+PADDED_FULL = [b"/ void 0\n", *PADDED_SHORT]
 # Bytes on both sides of each limit of what is printed as it is, and how each is printed, by hand.
 ESCAPES = {
     1: b"\\x01", 31: b"\\x1f", 32: b"\\x20", 33: b"!", 34: b'"', 46: b".", 48: b"0", 91: b"[", 92: b"\\x5c", 93: b"]", 125: b"}", 126: b"~", 127: b"\\x7f",
@@ -231,6 +236,8 @@ def cases():
     yield "65,536 bytes", padded(make(2, WORKED), LIMIT), lines(WORKED, False), lines(WORKED), *calls(WORKED)
     for what, image, line in refusals():
         yield what, image, line, line, b"", b""
+    for ed in WRITTEN:
+        yield f"edition {ed}: a padded Double, 238 bytes", aligned(ed).bytes(), PADDED_SHORT, PADDED_FULL, *calls(PADDED)
 
 
 def write(top, path, content):
@@ -263,6 +270,7 @@ def main():
     write(top, "samples/worked3.aff", make(3, WORKED))
     write(top, "samples/wide_names.aff", wide_names().bytes())
     write(top, "samples/unterminated.aff", make(2, WORKED, ended=False))
+    write(top, "samples/aligned.aff", aligned(2).bytes())
     print(k + 1, "images")
 
 

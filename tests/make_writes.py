@@ -2,26 +2,31 @@
 """Makes the script of the test program test_write, and what it must print.
 
 A script is a run of steps: the writer's calls, and between them what is printed, or changed without the writer. What must be printed is worked
-out here from document 01, requests C-15 and C-18 and source document 000, with no code of the library: `Writer` answers the calls by its tables, and a
-finished file is laid out a second time by make_images. The refusal that a case is about is said by hand besides. Everything is run in both written editions.
+out here from document 01, requests C-15, C-18 and C-22 and source document 000, with no code of the library: `Writer` answers the calls by its tables, and
+a finished file is laid out a second time by make_images. The refusal that a case is about is said by hand besides. Everything is run in both written
+editions.
 It writes crates/test_write/stdin (each step after its length in 4 bytes) and stdout.
 
     tests/make_writes.py [FOLDER]      FOLDER: where these are written, the repository where none is given
 """
+import itertools
 import struct
 
-from make_images import CHAR, COMPLEX, DOUBLE, HEADER, INT, NAMES, VOID, WIDE, Image, destination, entry, fault, form, md5
+from make_images import (
+    ALIGNED, CHAR, COMPLEX, DOUBLE, DOUBLE_FIRST, HEADER, INT, NAMES, VOID, WIDE, WRITTEN, Image, aligned, aligned_data, destination, double_first, entry,
+    fault, form, md5,
+)
 from make_listings import SIZE, brief, lines, write
 
 BUFFER_SIZE, TEXT, TREE, LIMIT = 65536, 32768, 51200, 2048
 MOST = 2**64 - 1
-WRITTEN = (2, 3)
-FIELDS = ("length", "edition", "strings", "text", "nodes", "data", "open")
+# `end` is the place where the data end, padding counted (request C-22).
+FIELDS = ("length", "edition", "strings", "text", "nodes", "end", "open")
 
 
 class Writer:
     """Buffer, areas and record, and what each call answers: ("accepted", n) or ("refused", number, place). The recorded edition decides the size of the
-    header, and with it the place of the data, the finished size and the least buffer; the order of the section headers; and the rule for names."""
+    header, and with it the first place of the data and the least buffer; the order of the section headers; and the rule for names."""
 
     def __init__(self):
         self.buffer, self.text, self.tree = bytearray(BUFFER_SIZE), bytearray(TEXT + 1), bytearray(TREE + 1)
@@ -47,7 +52,7 @@ class Writer:
 
     def size(self):
         kinds = [self.slot(k)[0] for k in range(1, self.rec["nodes"] + 1)]
-        return self.header() + self.rec["data"] + self.rec["text"] + sum(13 if k == VOID else 25 for k in kinds)
+        return self.rec["end"] + self.rec["text"] + sum(13 if k == VOID else 25 for k in kinds)
 
     def belongs(self):
         r, used = self.rec, self.text[:self.rec["text"]]
@@ -57,11 +62,13 @@ class Writer:
             return False
         if used.count(0) != r["strings"] or used[-1:] not in (b"", b"\0"):
             return False
+        if r["end"] < self.header():
+            return False
         for k in range(1, r["nodes"] + 1):
             kind, parent, string, count, offset = self.slot(k)
             if not 1 <= kind <= 5 or parent >= k or string >= r["strings"]:
                 return False
-            if kind != VOID and not self.header() <= offset <= self.header() + r["data"] - count * SIZE[kind]:
+            if kind != VOID and not self.header() <= offset <= r["end"] - count * SIZE[kind]:
                 return False
         return self.size() <= r["length"]
 
@@ -88,7 +95,7 @@ class Writer:
             return ("refused", 3, 0)
         if buffer < HEADER[edition]:
             return ("refused", 21, 0)
-        self.rec.update(length=buffer, edition=edition, open=1)
+        self.rec.update(length=buffer, edition=edition, end=HEADER[edition], open=1)
         self.form = passed
         answer = self.store([(0, 0)], allowance)
         if answer[0] == "accepted":
@@ -130,13 +137,13 @@ class Writer:
             return ("refused", 18, 0)
         if kind not in SIZE or len(data) % SIZE[kind]:
             return ("refused", 19, 0)
-        if self.size() + 12 + len(data) > r["length"]:
+        padding = -r["end"] % 8
+        if self.size() + 12 + padding + len(data) > r["length"]:
             return ("refused", 21, 0)
-        at = self.header() + r["data"]
-        answer = self.store([(at + i, b) for i, b in enumerate(data)], allowance)
+        answer = self.store(list(enumerate(bytes(padding) + data, r["end"])), allowance)
         if answer[0] == "accepted":
-            self.put_slot(node, kind, *self.slot(node)[1:3], len(data) // SIZE[kind], at)
-            r["data"] += len(data)
+            self.put_slot(node, kind, *self.slot(node)[1:3], len(data) // SIZE[kind], r["end"] + padding)
+            r["end"] += padding + len(data)
         return answer
 
     def close(self, allowance):
@@ -144,12 +151,12 @@ class Writer:
         if wrong:
             return wrong
         nodes, h = [self.slot(k) for k in range(1, r["nodes"] + 1)], self.header()
-        data = bytes(self.buffer[h:h + r["data"]])
+        data = bytes(self.buffer[h:r["end"]])
         image = Image(r["edition"], strings=self.strings(), entries=[entry(*n) for n in nodes], data=data)
         image.form = self.form
         image.count = {"data": sum(n[0] != VOID for n in nodes)}
         stores = list(enumerate(image.bytes()))
-        stores = stores[h + len(data):] + stores[1:h] + stores[:1]
+        stores = stores[r["end"]:] + stores[1:h] + stores[:1]
         answer = self.store(stores, allowance)
         r["open"] = 0
         return answer
@@ -228,16 +235,14 @@ class Script:
         self.step("x")
         self.out.append(self.w.buffer[:self.w.passed[0]].hex() + "\n")
 
-    def layout(self):
-        """The file of the tree that the calls described, laid out from that and the recorded edition alone."""
-        strings, data, entries, edition = [], b"", [], self.w.rec["edition"]
+    def layout(self, moved=None):
+        """The file of the tree that the calls described, laid out from that and the recorded edition alone. `moved`: nodes with altered offsets."""
+        strings, entries, edition = [], [], self.w.rec["edition"]
         for parent, name, kind, held in self.tree:
             if name not in strings:
                 strings.append(name)
-        at = {}
-        for k in self.order:
-            at[k] = HEADER[edition] + len(data)
-            data += self.tree[k - 1][3]
+        data, offsets = aligned_data(edition, [self.tree[k - 1][3] for k in self.order])
+        at = {**dict(zip(self.order, offsets)), **(moved or {})}
         for k, (parent, name, kind, held) in enumerate(self.tree, 1):
             entries.append(entry(kind, parent, strings.index(name), len(held) // SIZE.get(kind, 1), at.get(k, 0)))
         image = Image(edition, strings=strings, entries=entries, data=data)
@@ -256,9 +261,9 @@ class Script:
         self.step("o")
         self.out.append("refused %d %d\n" % (number, place))
 
-    def opened(self):
-        """The buffer opened, and every answer of every node; and that it begins with the file of the tree."""
-        file, strings, full = self.layout()
+    def opened(self, moved=None):
+        """The buffer opened, and every answer of every node; and that it begins with the file of the tree. A node with an altered offset has the bytes there."""
+        file, strings, full = self.layout(moved)
         assert bytes(self.w.buffer[:len(file)]) == file
         self.step("o")
         self.out.append("opened %d %d %d %d\n" % (self.w.rec["edition"], strings, len(self.tree), full))
@@ -266,6 +271,8 @@ class Script:
         for k, (parent, name, kind, held) in enumerate([(0, b"", VOID, b"")] + self.tree):
             if k:
                 paths.append(paths[parent] + b"/" + name)
+            if moved and k in moved:
+                held = file[moved[k]:moved[k] + len(held)]
             size = SIZE.get(kind, 1)
             elements = [element(kind, held[i:i + size]) for i in range(0, len(held), size)]
             front = "%d path %s name %s type %d count accepted %d bytes %s\n"
@@ -373,8 +380,8 @@ def every_kind(s):
     ]
     for k, (name, kind, held) in enumerate(data, 1):
         s.make(0, name, yes(k))
-    for k in (3, 1, 4, 5, 2):
-        s.put(k, data[k - 1][1], data[k - 1][2], expect=yes(len(data[k - 1][2])))
+    for k, stores in ((3, 88), (1, 9), (4, 7 + 48), (5, 0), (2, 28)):
+        s.put(k, data[k - 1][1], data[k - 1][2], expect=yes(stores))
     s.sums()
     s.close()
     s.sums()
@@ -447,7 +454,7 @@ def limits(s):
     s.make(0, b"one.more", no(20))
     s.make(1, letter + b"1", no(20))
     s.put(LIMIT, INT, INT70 * 3, expect=yes(12))
-    s.put(1, CHAR, b"first", expect=yes(5))
+    s.put(1, CHAR, b"first", expect=yes(4 + 5))
     s.sums()
     s.close()
     s.sums()
@@ -638,15 +645,15 @@ def put_refusals(s):
     s.put(2, INT, INT70, expect=yes(4))
     s.put(2, INT, INT70, expect=no(18))
     s.put(2, 0, INT70, expect=no(18))
-    s.put(1, CHAR, bytes(75), expect=no(21))
-    s.put(1, CHAR, bytes(range(74)), expect=yes(74))
+    s.put(1, CHAR, bytes(71), expect=no(21))
+    s.put(1, CHAR, bytes(range(70)), expect=yes(4 + 70))
     s.make(0, b"a", no(17))
     s.make(0, b"n", no(21))
     s.close(expect=yes(300 - 78))
     s.listed()
     s.opened()
-    for allowance in (0, 1, 5, 11):
-        s.case("put: 23 after %d of 12 stores; the node stays Void" % allowance, 300)
+    for allowance in (0, 1, 4, 5, 6, 16):
+        s.case("put: 23 after %d of 5 + 12 stores; the node stays Void" % allowance, 300)
         s.begin()
         s.make(0, b"a")
         s.make(0, b"b")
@@ -702,7 +709,7 @@ def altered(s):
         ("strings", (0, 1, 3, 2049, MOST)),
         ("text", (0, 3, 5, 6, 32769, MOST)),
         ("nodes", (3, 2049, MOST)),
-        ("data", (3, 91, 300, MOST)),
+        ("end", (0, 4, 167, 168, 171, 259, 300, 301, 2**32 + 172, MOST)),
     ):
         right = s.w.rec[field]
         for value in values:
@@ -793,11 +800,258 @@ def other_edition(s):
         s.opened()
 
 
+# Request C-22: data at multiples of 8. Nodes a and b of the root mostly get these; stores, places and sums are those of the request's examples.
+ABC, ONE = b"abc", struct.pack(">d", 1.0)
+# The sum of the file of edition 2 with `abc` and a Double array of no element.
+ABC_EMPTY = "3f1de327357ae517ffe35c357e6c5f46"
+
+
+def two_nodes(s, title, buffer, fill=0xEE):
+    s.case(title, buffer, fill)
+    s.begin(1, expect=yes(1))
+    s.make(0, b"a", yes(1))
+    s.make(0, b"b", yes(2))
+
+
+def finished(s, file, stores=222):
+    """Close makes exactly this file and leaves the rest of the buffer; it is opened and read."""
+    rest = bytes(s.w.buffer[len(file):s.w.passed[0]])
+    s.close(stores, yes(stores))
+    assert bytes(s.w.buffer[:s.w.passed[0]]) == file + rest
+    s.sums()
+    s.listed()
+    s.opened()
+
+
+def slot_is(s, node, kind, count, offset):
+    """What a node's slot must be, by hand: type, count, offset."""
+    assert (s.w.slot(node)[0], *s.w.slot(node)[3:]) == (kind, count, offset), s.w.slot(node)
+
+
+def padding(s):
+    for buffer in (238, 300):
+        two_nodes(s, "padding: abc, then a Double, in a buffer of %d" % buffer, buffer)
+        s.put(1, CHAR, ABC, 3, yes(3))
+        s.put(2, DOUBLE, ONE, 13, yes(13))
+        slot_is(s, 2, DOUBLE, 1, 176)
+        assert s.w.rec["end"] == 184 and md5(aligned(s.edition).bytes()).hex() == ALIGNED[s.edition]
+        s.hex()
+        finished(s, aligned(s.edition).bytes())
+    two_nodes(s, "padding: the Double first", 233)
+    s.put(2, DOUBLE, ONE, 8, yes(8))
+    s.put(1, CHAR, ABC, 3, yes(3))
+    slot_is(s, 1, CHAR, 3, 176)
+    assert s.w.rec["end"] == 179 and md5(double_first(s.edition).bytes()).hex() == DOUBLE_FIRST[s.edition]
+    finished(s, double_first(s.edition).bytes())
+    two_nodes(s, "padding: a buffer of 237 refuses the Double", 237)
+    s.put(1, CHAR, ABC, expect=yes(3))
+    s.put(2, DOUBLE, ONE, expect=no(21))
+    s.put(2, DOUBLE, ONE, 0, expect=no(21))
+    s.close(expect=yes(168 + 4 + 38))
+    s.opened()
+    two_nodes(s, "padding: a buffer of 232 takes the Double first, and then no abc", 232)
+    s.put(2, DOUBLE, ONE, expect=yes(8))
+    s.put(1, CHAR, ABC, expect=no(21))
+    s.put(1, CHAR, ABC[:2], expect=yes(2))
+    s.close(expect=yes(222))
+    s.opened()
+    cut_puts(s)
+    empty_puts(s)
+    lengths(s)
+    orders(s)
+
+
+def cut_puts(s):
+    for allowance in (0, 4, 5, 6, 12):
+        two_nodes(s, "padding: the Double with an allowance of %d of 5 + 8 stores" % allowance, 300)
+        s.put(1, CHAR, ABC, expect=yes(3))
+        before = bytes(s.w.buffer[:300])
+        s.put(2, DOUBLE, ONE, allowance, no(23, allowance))
+        stored = (bytes(5) + ONE)[:allowance]
+        assert bytes(s.w.buffer[:300]) == before[:171] + stored + before[171 + allowance:]
+        slot_is(s, 2, VOID, 0, 0)
+        assert s.w.rec["end"] == 171 and not s.w.rec["open"]
+        s.hex()
+        s.sums()
+        s.put(2, DOUBLE, ONE, expect=no(22))
+        s.close(expect=no(22))
+        s.refused(3)
+    for total in (*range(19), 237, 238, 239):
+        s.case("padding: abc and a Double with %d stores in all" % total, 238, 0x55)
+        begin, first, second, close = (max(0, total - before) for before in (0, 1, 1 + 3, 1 + 3 + 13))
+        s.begin(begin)
+        s.make(0, b"a")
+        s.make(0, b"b")
+        s.put(1, CHAR, ABC, first)
+        s.put(2, DOUBLE, ONE, second)
+        s.close(close, yes(222) if total == 239 else None)
+        s.hex()
+        if total < 239:
+            s.refused(3)
+        else:
+            assert md5(bytes(s.w.buffer[:238])).hex() == ALIGNED[s.edition]
+            s.opened()
+
+
+def empty_puts(s):
+    two_nodes(s, "padding: abc, then a put of no Doubles, in a buffer of 230", 230)
+    s.put(1, CHAR, ABC, expect=yes(3))
+    s.put(2, DOUBLE, b"", 5, yes(5))
+    slot_is(s, 2, DOUBLE, 0, 176)
+    assert s.w.rec["end"] == 176
+    s.hex()
+    s.close(222, yes(222))
+    assert s.edition == 3 or md5(bytes(s.w.buffer[:230])).hex() == ABC_EMPTY
+    s.hex()
+    s.opened()
+    two_nodes(s, "padding: a buffer of 229 refuses the put of no Doubles", 229)
+    s.put(1, CHAR, ABC, expect=yes(3))
+    s.put(2, DOUBLE, b"", expect=no(21))
+    s.close(expect=yes(210))
+    s.opened()
+    for allowance in (0, 4):
+        two_nodes(s, "padding: a put of no Doubles with an allowance of %d of 5 stores" % allowance, 300)
+        s.put(1, CHAR, ABC, expect=yes(3))
+        s.put(2, DOUBLE, b"", allowance, no(23, allowance))
+        slot_is(s, 2, VOID, 0, 0)
+        assert s.w.rec["end"] == 171
+        s.hex()
+        s.close(expect=no(22))
+        s.refused(3)
+    two_nodes(s, "padding: a put of no bytes as the first stores nothing, and so does a second", 300)
+    s.put(2, DOUBLE, b"", 0, yes(0))
+    slot_is(s, 2, DOUBLE, 0, 168)
+    s.put(1, CHAR, b"", 0, yes(0))
+    slot_is(s, 1, CHAR, 0, 168)
+    assert s.w.rec["end"] == 168
+    s.sums()
+    s.close(expect=yes(222))
+    s.opened()
+    two_nodes(s, "padding: puts of no bytes after one byte: only the first of them pads", 300)
+    s.make(0, b"c", yes(3))
+    s.put(1, CHAR, b"x", 1, yes(1))
+    s.put(2, COMPLEX, b"", 7, yes(7))
+    s.put(3, INT, b"", 0, yes(0))
+    slot_is(s, 3, INT, 0, 176)
+    s.close(expect=yes(168 + 6 + 75))
+    s.opened()
+    worked(s, 300, title="padding: nothing is padded after the last put")
+    s.put(2, INT, INT70, expect=yes(4))
+    s.make(2, b"c", yes(3))
+    assert s.w.rec["end"] == 172
+    s.close(expect=yes(168 + 6 + 51))
+    assert bytes(s.w.buffer[168:178]) == INT70 + b"a\0n\0c\0"
+    s.opened()
+
+
+def lengths(s):
+    """A put of so many bytes before a Double: its stores, and its place."""
+    for first, stores, offset in ((1, 15, 176), (6, 10, 176), (7, 9, 176), (8, 8, 176), (9, 15, 184), (15, 9, 184), (16, 8, 184), (17, 15, 192)):
+        two_nodes(s, "padding: a put of %d bytes before a Double" % first, 300)
+        s.put(1, CHAR, bytes(range(1, first + 1)), first, yes(first))
+        s.put(2, DOUBLE, ONE, stores, yes(stores))
+        slot_is(s, 2, DOUBLE, 1, offset)
+        assert s.w.rec["end"] == offset + 8
+        s.close(expect=yes(222))
+        s.opened()
+
+
+def orders(s):
+    """A buffer of the header, all bytes put, 7 for each put, strings and entries takes the puts in every order."""
+    data = [(CHAR, b"x"), (INT, INT70 * 3), (DOUBLE, ONE)]
+    most = 168 + sum(len(held) + 7 for _, held in data) + 6 + 75
+    for order in itertools.permutations((1, 2, 3)):
+        two_nodes(s, "padding: the puts in the order %d, %d, %d" % order, most)
+        s.make(0, b"c", yes(3))
+        for k in order:
+            s.put(k, *data[k - 1])
+            assert s.order[-1] == k
+        s.close(expect=yes(168 + 6 + 75))
+        s.opened()
+
+
+def ends(s):
+    """24 by the recorded end of data: below the header, before the end of some data, and where the finished size passes the buffer."""
+    s.case("end: no data in the buffer", 300)
+    s.begin()
+    s.make(0, b"a", yes(1))
+    for end in (0, 1, 144, 160, 167):
+        s.alter("end", end)
+        all_24(s)
+    s.alter("end", 168)
+    s.make(1, b"n", yes(2))
+    # 300 - 4 - 26 is the highest end that fits, and 12 fewer before a put.
+    for end in (271, 300, 301, 2**31, 2**32 + 168, 2**63, MOST):
+        s.alter("end", end)
+        all_24(s)
+    s.alter("end", 270)
+    s.make(0, b"b", no(21))
+    s.put(1, CHAR, b"", expect=no(21))
+    s.alter("end", 257)
+    s.put(1, CHAR, b"", expect=no(21))
+    s.alter("end", 256)
+    s.put(1, CHAR, b"xyz", expect=no(21))
+    s.put(1, CHAR, b"xy", expect=yes(2))
+    slot_is(s, 1, CHAR, 2, 256)
+    s.sums()
+    two_nodes(s, "end: 184 where the Double ends", 400)
+    s.put(1, CHAR, ABC)
+    s.put(2, DOUBLE, ONE)
+    for end in (167, 168, 171, 176, 183):
+        s.alter("end", end)
+        all_24(s)
+    s.alter("end", 184)
+    s.make(0, b"c", yes(3))
+    # Not an end that puts could have left: 24 does not judge that. The next put begins at the next multiple of 8.
+    s.alter("end", 185)
+    s.make(0, b"d", yes(4))
+    s.put(3, CHAR, b"xyz", 10, yes(7 + 3))
+    slot_is(s, 3, CHAR, 3, 192)
+    s.hex()
+    s.alter("end", 197)
+    s.close(expect=yes(168 + 8 + 88))
+    assert bytes(s.w.buffer[197:205]) == b"a\0b\0c\0d\0"
+    s.hex()
+    s.listed()
+    two_nodes(s, "end: a put of no bytes stands at the end", 400)
+    s.put(1, CHAR, ABC)
+    s.put(2, DOUBLE, b"", expect=yes(5))
+    for end in (171, 175):
+        s.alter("end", end)
+        all_24(s)
+    s.alter("end", 176)
+    s.close(expect=yes(222))
+    s.opened()
+
+
+def offsets(s):
+    """An offset inside what was put is no 24, also where it is no multiple of 8: the node then has other bytes."""
+    two_nodes(s, "offset: altered inside what was put", 300)
+    s.put(1, CHAR, ABC)
+    s.put(2, DOUBLE, ONE)
+    for node, bad in ((1, (0, 167, 182, 255)), (2, (0, 167, 177, 184, 255))):
+        right = s.w.slot(node)[4]
+        for low in bad:
+            s.poke("tree", 25 * node - 1, low)
+            all_24(s)
+        s.poke("tree", 25 * node - 1, right)
+    for node, low in ((3, 181), (4, 174), (5, 169)):
+        s.poke("tree", 24, low)
+        s.make(node - 1, b"a", yes(node))
+    s.poke("tree", 49, 173)
+    s.put(3, INT, INT70, 4, yes(4))
+    slot_is(s, 3, INT, 1, 184)
+    s.close(expect=yes(168 + 4 + 101))
+    s.hex()
+    s.opened(moved={1: 169, 2: 173})
+    assert s.out[-11] == "1 path /a name a type 2 count accepted 3 bytes 626300\n" and s.out[-8] == "  elements 0000003ff0000000 refused 16 0\n"
+
+
 def main():
     top = destination(__doc__)
     s = Script()
     for s.edition in WRITTEN:
-        for part in (whole_files, every_kind, no_bytes, limits, begin_refusals, make_refusals, put_refusals, close_refusals, altered):
+        for part in (whole_files, every_kind, no_bytes, limits, begin_refusals, make_refusals, put_refusals, close_refusals, altered, padding, ends, offsets):
             part(s)
     unwritten_editions(s)
     write(top, "crates/test_write/stdin", b"".join(s.stdin))

@@ -12,7 +12,7 @@ pub fn sum(bytes: &[u8]) {
     io::print_hex(STDOUT_FILENO, number::be64(&sum, 8), 16);
 }
 
-// The record: length, edition, strings, bytes of text, nodes, bytes of data, whether it is open; and its form.
+// The record: length, edition, strings, bytes of text, nodes, end of data, whether it is open; and its form.
 pub fn print(writer: Writer) {
     console::text(b", record");
     show::next(writer.length as u64);
@@ -20,7 +20,7 @@ pub fn print(writer: Writer) {
     show::next(writer.strings as u64);
     show::next(writer.text as u64);
     show::next(writer.nodes as u64);
-    show::next(writer.data as u64);
+    show::next(writer.end as u64);
     if writer.live {
         console::text(b" open ");
     } else {

@@ -75,7 +75,7 @@ fn edition_of(value: u64) -> u32 {
     if value < 4294967296 { value as u32 } else { 0 }
 }
 
-// The record with one field altered: length 0, edition 1, strings 2, text 3, nodes 4, data 5, open 6.
+// The record with one field altered: length 0, edition 1, strings 2, text 3, nodes 4, end 5, open 6.
 fn altered(writer: Writer, field: u64, value: u64) -> Writer {
     let form = writer.form;
     let mut edition = writer.edition;
@@ -93,7 +93,7 @@ fn altered(writer: Writer, field: u64, value: u64) -> Writer {
         strings: chosen(field, 2, value, writer.strings),
         text: chosen(field, 3, value, writer.text),
         nodes: chosen(field, 4, value, writer.nodes),
-        data: chosen(field, 5, value, writer.data),
+        end: chosen(field, 5, value, writer.end),
         live,
     }
 }
