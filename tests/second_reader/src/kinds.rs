@@ -1,8 +1,8 @@
-//! Kinds of malformed names and paths (request C-18), for the counts of what was met. No comparison depends on them.
+//! Kinds of malformed names and paths (request C-18) and of puts (request C-22), for the counts of what was met. No comparison depends on them.
 
 use crate::open::Node;
 
-/// Two parts of a line: what is malformed, and more of it.
+/// Two parts of a line: what was met, and more of it.
 pub type Kind = (&'static str, &'static str);
 
 /// Where a name breaks the rule for a subkey.
@@ -55,6 +55,41 @@ pub fn of_name(name: &[u8], place: u64) -> Kind {
     };
     (where_in(name, place), byte)
 }
+
+/// A put that was accepted, with the zeros that it stored first.
+pub fn of_put(bytes: &[u8], padding: u64) -> Kind {
+    let what = match bytes.is_empty() {
+        true => "a put of no bytes",
+        false => "a put of bytes",
+    };
+    match padding {
+        0 => (what, "not padded"),
+        _ => (what, "padded"),
+    }
+}
+
+/// A put that was refused by 23 after so many stores, of which so many are padding.
+pub fn of_cut_put(made: u64, padding: u64) -> Kind {
+    let place = match padding {
+        0 => "without padding",
+        _ if made < padding => "inside its padding",
+        _ => "after its padding",
+    };
+    ("a put that is cut", place)
+}
+
+/// A recorded end of data, altered: below the header's size, not above the buffer's length, or above it.
+pub fn of_end(end: u64, header: u64, length: u64) -> Kind {
+    let place = match end {
+        _ if end < header => "inside the header",
+        _ if end <= length => "in the rest of the buffer",
+        _ => "past the buffer",
+    };
+    ("an altered end of data", place)
+}
+
+/// An offset in the tree area, altered.
+pub const UNALIGNED: Kind = ("an altered offset", "no multiple of 8");
 
 /// A path that lookup refuses: the fault, and in which subkey it is.
 #[cfg(any(test, feature = "library"))]

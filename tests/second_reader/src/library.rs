@@ -40,7 +40,7 @@ extern "C" {
     ) -> u32;
 }
 
-// The writer: its record is 8 numbers (what the last call reported, the buffer's length, the edition, strings, bytes of text, nodes, bytes of
+// The writer: its record is 8 numbers (what the last call reported, the buffer's length, the edition, strings, bytes of text, nodes, the end of
 // data, 1 while open) and the 12 bytes of form that it keeps.
 extern "C" {
     fn aff_begin(
@@ -457,7 +457,7 @@ impl<Buffer: AsRef<[u8]> + AsMut<[u8]>> Writer<Buffer> {
             Alteration::Strings(number) => self.numbers[3] = number,
             Alteration::Text(number) => self.numbers[4] = number,
             Alteration::Nodes(number) => self.numbers[5] = number,
-            Alteration::Data(number) => self.numbers[6] = number,
+            Alteration::End(number) => self.numbers[6] = number,
             Alteration::Flag(number) => self.numbers[7] = number,
             Alteration::Byte(area, place, byte) => {
                 let areas = [self.buffer.as_mut(), &mut self.text, &mut self.tree];

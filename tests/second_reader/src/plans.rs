@@ -7,8 +7,8 @@ use crate::library;
 use crate::open::{open, Refused};
 use crate::random::Random;
 use crate::report::Report;
-use crate::runs::{play, shows_run, worked_calls, Call, Run};
-use crate::writer::{Store, Writer, TEXT_AREA, TREE_AREA};
+use crate::runs::{padded_calls, play, shows_run, worked_calls, Call, Run};
+use crate::writer::{Store, Writer, ALIGNMENT, TEXT_AREA, TREE_AREA};
 use std::collections::BTreeMap;
 
 /// A run that is accepted to its end, with what is known of it beforehand.
@@ -44,7 +44,8 @@ pub fn shown(counts: &BTreeMap<(Edition, Left), usize>, editions: &[Edition]) ->
     )
 }
 
-/// The calls of a run of so many nodes in an edition, and the file that it writes into. `most` is how many elements a node gets at most.
+/// The calls of a run of so many nodes in an edition, and the file that it writes into. `most` is how many elements a node gets at most. The file has at least
+/// the header, all bytes put and 7 for each put, the strings with their zeros, and the entries.
 pub fn run(random: &Random, edition: Edition, nodes: usize, most: usize) -> Run {
     let mut calls = vec![Call::begin(edition)];
     let mut size = edition.header();
@@ -63,7 +64,7 @@ pub fn run(random: &Random, edition: Edition, nodes: usize, most: usize) -> Run 
             let code = random.between(2, 5) as u64;
             let width = Kind::from_code(code).map_or(1, |kind| kind.width());
             let bytes = random.bytes(random.below(most + 1) * width);
-            size += bytes.len();
+            size += bytes.len() + ALIGNMENT as usize - 1;
             calls.push(Call::Put(node as u64, code, bytes));
         }
     }
@@ -83,6 +84,16 @@ pub fn worked(edition: Edition) -> Run {
         text: vec![0; TEXT_AREA],
         tree: vec![0; TREE_AREA],
         calls: worked_calls(edition),
+    }
+}
+
+/// Request C-22's first example in an edition, in a buffer of 238 bytes that are not zero: every store of padding can be seen.
+pub fn padded(edition: Edition) -> Run {
+    Run {
+        buffer: vec![0x55; 238],
+        text: vec![0; TEXT_AREA],
+        tree: vec![0; TREE_AREA],
+        calls: padded_calls(edition),
     }
 }
 
@@ -207,6 +218,7 @@ mod tests {
     fn in_order() {
         for edition in Edition::WRITTEN {
             leaves_in_order(&planned(run(&Random::of(3, 7), edition, 4, 3)));
+            leaves_in_order(&planned(padded(edition)));
         }
     }
 
@@ -243,12 +255,14 @@ mod tests {
         assert!(plan.is_inside_close(&buffer));
     }
 
-    /// Every call of a planned run is accepted, and the worked run makes 1 + 4 + 210 stores.
+    /// Every call of a planned run is accepted. The worked run makes 1 + 4 + 210 stores, the one with padding 1 + 3 + 13 + 222.
     #[test]
     fn accepted() {
         for edition in Edition::WRITTEN {
             let plan = planned(worked(edition));
             assert_eq!((plan.before_close, plan.stores.len()), (5, 215));
+            let plan = planned(padded(edition));
+            assert_eq!((plan.before_close, plan.stores.len()), (17, 239));
             let run = run(&Random::of(5, 5), edition, 2048, 8);
             let made = |call: &&Call| matches!(call, Call::Make(..));
             assert_eq!(run.calls.iter().filter(made).count(), 2048);

@@ -112,7 +112,7 @@ impl Report {
         self.by_number.entry(number).or_default().add(edition);
     }
 
-    /// A kind of malformed name or path, which 10 or 14 is about.
+    /// A kind of malformed name or path, which 10 or 14 is about; of a put, or of altered memory, with the number of the refusal that it got, or 0.
     pub fn met(&mut self, number: u32, kind: Kind, edition: Option<Edition>) {
         self.kinds.entry((number, kind)).or_default().add(edition);
     }
@@ -145,7 +145,10 @@ impl Report {
             }
         }
         for ((number, (what, more)), count) in &self.kinds {
-            println!("{number}: {what}, {more}: {count}");
+            match number {
+                0 => println!("{what}, {more}: {count}"),
+                _ => println!("{number}: {what}, {more}: {count}"),
+            }
         }
         let [refused, passed] = &self.judged;
         if refused.total() + passed.total() > 0 {

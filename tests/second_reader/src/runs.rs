@@ -2,13 +2,14 @@
 //! and beside the library's writer where it is linked.
 
 use crate::answers::{decoded, judged, Choice, Passed, Reader};
-use crate::format::{form_for, Edition, Kind, MOST};
+use crate::format::{big, form_for, Edition, Kind, MOST};
 use crate::images::{malformed, subkey, WIDE_NAMES};
 use crate::kinds;
 use crate::open::{open, Refused};
 use crate::random::Random;
 use crate::report::Report;
-use crate::writer::{Numbers, Record, Reported, Writer, TEXT_AREA, TREE_AREA};
+use crate::writer::{Numbers, Record, Reported, Writer, ALIGNMENT, TEXT_AREA, TREE_AREA};
+use std::collections::BTreeMap;
 
 /// One call with its arguments; allowances come from a total that is handed down.
 #[derive(Clone, Debug)]
@@ -30,7 +31,7 @@ pub enum Alteration {
     Strings(u64),
     Text(u64),
     Nodes(u64),
-    Data(u64),
+    End(u64),
     Flag(u64),
     Byte(usize, usize, u8),
 }
@@ -70,7 +71,7 @@ impl Desk for Writer {
             record.strings,
             record.text,
             record.nodes,
-            record.data,
+            record.end,
             record.flag,
         ];
         (numbers, record.form)
@@ -85,7 +86,7 @@ impl Writer {
             Alteration::Strings(number) => self.record.strings = number,
             Alteration::Text(number) => self.record.text = number,
             Alteration::Nodes(number) => self.record.nodes = number,
-            Alteration::Data(number) => self.record.data = number,
+            Alteration::End(number) => self.record.end = number,
             Alteration::Flag(number) => self.record.flag = number,
             Alteration::Byte(area, place, byte) => {
                 let area =
@@ -159,6 +160,19 @@ pub fn worked_calls(edition: Edition) -> Vec<Call> {
     ]
 }
 
+/// Request C-22's first example: children `a` and `b` of the root, `abc` in `a`, then the Double 1.0 in `b`, close. 238 bytes and 239 stores.
+#[cfg(any(test, feature = "library"))]
+pub fn padded_calls(edition: Edition) -> Vec<Call> {
+    vec![
+        Call::begin(edition),
+        Call::Make(0, b"a".to_vec()),
+        Call::Make(0, b"b".to_vec()),
+        Call::Put(1, 2, b"abc".to_vec()),
+        Call::Put(2, 4, 1_f64.to_be_bytes().to_vec()),
+        Call::Close,
+    ]
+}
+
 /// A node as the calls describe it.
 #[derive(Clone)]
 struct Described {
@@ -210,13 +224,50 @@ fn path_in(tree: &[Described], number: usize) -> Vec<u8> {
     }
 }
 
+/// Where the data of a finished file stand, from the calls alone (C-22).
+struct Layout {
+    /// All bytes of the data section.
+    data: Vec<u8>,
+    /// The offset of each node with data.
+    offsets: BTreeMap<u64, u64>,
+}
+
+/// The bytes of the accepted puts in order after a header, each at a multiple of 8, with zeros before it.
+fn laid_out(header: usize, calls: &[Call], answers: &[Reported]) -> Layout {
+    let mut file = vec![0; header];
+    let mut offsets = BTreeMap::new();
+    for (call, reported) in calls.iter().zip(answers) {
+        if let (Call::Put(node, _, bytes), Ok(_)) = (call, reported) {
+            while !(file.len() as u64).is_multiple_of(ALIGNMENT) {
+                file.push(0);
+            }
+            offsets.insert(*node, file.len() as u64);
+            file.extend(bytes);
+        }
+    }
+    Layout {
+        data: file.split_off(header),
+        offsets,
+    }
+}
+
 /// "An opened file shows this tree if each of the tree's numbers answers with its name, path (output long enough), type, count
 /// and bytes, and any other number with 15." The file is of the edition passed to begin.
-fn shows(edition: u32, form: &[u8], buffer: &[u8], tree: &[Described], report: &mut Report) {
+/// Its data section is that of the calls, and each node's data begin where the calls put them.
+fn shows(calls: &[Call], answers: &[Reported], buffer: &[u8], report: &mut Report) {
+    let Call::Begin(number, form) = &calls[0] else {
+        unreachable!("the calls of a run from its last begin on");
+    };
+    let tree = described(calls, answers);
     let opened = open(buffer, form);
     report.same("opened", &true, &opened.is_ok());
     let Ok(opened) = opened else { return };
-    report.same("edition", &u64::from(edition), &opened.record.edition);
+    report.same("edition", &u64::from(*number), &opened.record.edition);
+    let edition = Edition::written((*number).into()).expect("accepted");
+    let layout = laid_out(edition.header(), calls, answers);
+    let section = opened.record.data;
+    let data = &buffer[section.offset as usize..][..section.size as usize];
+    report.same("data section", layout.data.as_slice(), data);
     let passed = Passed {
         image: buffer,
         record: opened.record,
@@ -233,7 +284,7 @@ fn shows(edition: u32, form: &[u8], buffer: &[u8], tree: &[Described], report: &
         let path = if n == 0 {
             b"/".to_vec()
         } else {
-            path_in(tree, number)
+            path_in(&tree, number)
         };
         report.same("name", &Ok(node.name.as_slice()), &reader.name(n));
         report.same("lookup", &Ok(n), &reader.lookup(&path));
@@ -242,6 +293,8 @@ fn shows(edition: u32, form: &[u8], buffer: &[u8], tree: &[Described], report: &
         report.same("path length", &Ok(path.len() as u64), &length);
         report.same("path", &[path.as_slice(), b".."].concat(), &output);
         report.same("kind", &Ok(node.kind), &reader.kind(n));
+        let offset = reader.view(n).map(|part| part.map(|part| part.offset));
+        report.same("offset", &Ok(layout.offsets.get(&n).copied()), &offset);
         shows_data(&reader, n, node, buffer, report);
     }
     let past = [tree.len() as u64, u64::MAX].map(|n| reader.kind(n));
@@ -327,9 +380,10 @@ pub fn random_run(random: &Random) -> Run {
         add(&mut run, &mut model, random.pick(&more));
     }
     if style == Style::Usual && closed && random.one_in(3) {
-        // The finished size, or one byte around it: the last calls that need room are refused or just fit.
-        run.buffer
-            .resize(model.finished() as usize - 1 + random.below(3), 5);
+        // The finished size, one byte around it, or up to 8 fewer: the last calls that make the file longer are refused or just fit, with and without
+        // their padding.
+        let fewer = random.pick(&[0, 1, 2, random.below(10)]);
+        run.buffer.resize(model.finished() as usize + 1 - fewer, 5);
     }
     if random.one_in(6) {
         let again = [
@@ -490,10 +544,16 @@ fn put(random: &Random, nodes: usize) -> Call {
     let node = random.below(nodes + 2) as u64;
     let code = match random.below(12) {
         0 => random.pick(&[0, 1, 6, 259, 1 << 32 | 3, u64::MAX]),
-        _ => random.between(2, 5) as u64,
+        // Chars and Ints leave ends that are no multiple of 8.
+        _ => random.pick(&[2, 2, 2, 3, 3, 4, 5]),
     };
     let width = Kind::from_code(code).map_or(1, |kind| kind.width().max(1));
-    let mut size = random.below(6) * width;
+    let count = match random.below(6) {
+        0 => 0,
+        1..=2 if width == 1 => random.pick(&[7, 8, 9, 15, 16, 17]),
+        _ => random.between(1, 5),
+    };
+    let mut size = count * width;
     if random.one_in(12) {
         size += 1;
     }
@@ -515,12 +575,14 @@ fn alteration(random: &Random, now: &Writer) -> Alteration {
         ];
         random.pick(&near)
     };
-    match random.below(18) {
+    match random.below(26) {
         0 => Alteration::Length(other(record.length)),
         1 => Alteration::Strings(other(record.strings)),
         2 => Alteration::Text(other(record.text)),
         3 => Alteration::Nodes(other(record.nodes)),
-        4 => Alteration::Data(other(record.data)),
+        4 => Alteration::End(other(record.end)),
+        18..=21 => Alteration::End(other_end(random, now)),
+        22..=25 => other_offset(random, now),
         5..=6 => Alteration::Flag(random.pick(&[0, 1, 2, 7, 256, 1 << 32 | 1, u64::MAX, any])),
         7..=8 => Alteration::Byte(0, random.below(now.buffer.len()), random.byte()),
         9..=11 => {
@@ -534,6 +596,54 @@ fn alteration(random: &Random, now: &Writer) -> Alteration {
         }
         _ => slot_byte(random, record),
     }
+}
+
+/// Another end of data: inside the header, among the data put, a few bytes after them, about the highest that the buffer takes, or past it.
+fn other_end(random: &Random, now: &Writer) -> u64 {
+    let (old, length) = (now.record.end, now.record.length);
+    let header = Edition::Two.header() as u64;
+    let put = old.saturating_sub(header).min(length) as usize;
+    let entries: u64 = now
+        .tree
+        .chunks(25)
+        .take(now.record.nodes.min(MOST as u64) as usize)
+        .map(|slot| if slot[0] == 1 { 13 } else { 25 })
+        .sum();
+    let highest = length
+        .saturating_sub(now.record.text)
+        .saturating_sub(entries);
+    match random.below(9) {
+        0 => random.below(header as usize) as u64,
+        1 => random.pick(&[header - 8, header - 1, header]),
+        2..=3 => header + random.below(put + 1) as u64,
+        4..=5 => old.saturating_add(random.between(1, 16) as u64),
+        6 => highest.saturating_sub(random.below(20) as u64),
+        7 => highest.saturating_add(random.between(1, 2) as u64),
+        _ => random.pick(&[length, length.saturating_add(1), u64::MAX, 1 << 32 | old]),
+    }
+}
+
+/// Another last byte of the offset of a node that has data, where there is one: near the old one, or about the first and the last place inside what was
+/// put. Most of them are no multiple of 8.
+fn other_offset(random: &Random, now: &Writer) -> Alteration {
+    let nodes = now.record.nodes.min(MOST as u64) as usize;
+    let slots = now.tree.chunks_exact(25).take(nodes).enumerate();
+    let full: Vec<(usize, &[u8])> = slots.filter(|(_, slot)| slot[0] != 1).collect();
+    if full.is_empty() {
+        return slot_byte(random, &now.record);
+    }
+    let (number, slot) = random.pick(&full);
+    let width = Kind::from_code(slot[0].into()).map_or(1, |kind| kind.width() as u64);
+    let last = now.record.end.wrapping_sub(big(slot, 13, 4) * width);
+    let offset = match random.below(4) {
+        0 => random.between(166, 170) as u64,
+        1 => last.wrapping_add(random.below(3) as u64).wrapping_sub(1),
+        _ => {
+            let near = big(slot, 17, 8).wrapping_add(random.below(20) as u64);
+            near.wrapping_sub(10)
+        }
+    };
+    Alteration::Byte(2, 25 * number + 24, offset as u8)
 }
 
 /// Another byte in a node's slot: its type, or the end of its parent, string, count or offset, most of them near what exists.
@@ -563,7 +673,7 @@ fn undone(alteration: &Alteration, now: &Writer) -> Alteration {
         Alteration::Strings(_) => Alteration::Strings(record.strings),
         Alteration::Text(_) => Alteration::Text(record.text),
         Alteration::Nodes(_) => Alteration::Nodes(record.nodes),
-        Alteration::Data(_) => Alteration::Data(record.data),
+        Alteration::End(_) => Alteration::End(record.end),
         Alteration::Flag(_) => Alteration::Flag(record.flag),
         Alteration::Byte(area, place, byte) => {
             let old = [&now.buffer, &now.text, &now.tree][area % 3].get(place);
@@ -601,8 +711,8 @@ pub fn compare(seed: u64, number: u64, other: Option<NewDesk>, report: &mut Repo
         .zip(&answers)
         .map(|(c, t)| stores(c, t))
         .sum();
-    count(&run.calls, &answers, report);
-    let cuts = cuts(&random, total, run.calls.len());
+    count(&run, &answers, report);
+    let cuts = cuts(&random, &run.calls, &answers, total);
     if !run.is_altered() {
         shows_run(&run.calls, &answers, &whole.buffer, report);
         for cut in &cuts {
@@ -617,10 +727,64 @@ pub fn compare(seed: u64, number: u64, other: Option<NewDesk>, report: &mut Repo
     report.end(&[]);
 }
 
-/// Counts the answers of the writer's calls, and the names that make refused, by the edition that the record then has.
-fn count(calls: &[Call], answers: &[Reported], report: &mut Report) {
+/// What request C-22 is about in a run: puts, padded or not, and how they were cut; and the first call after an altered end of data or offset. The number is
+/// 23 for a put that was cut, 24 for a call that was refused by it, else 0.
+pub fn met(run: &Run, answers: &[Reported]) -> Vec<(u32, kinds::Kind)> {
+    let header = Edition::Two.header() as u64;
+    let (mut end, mut before, mut altered) = (0, None, None);
+    let mut met = Vec::new();
+    for (call, reported) in run.calls.iter().zip(answers) {
+        if let Call::Alter(alteration) = call {
+            altered = match *alteration {
+                // An end that is put back is not altered.
+                Alteration::End(number) if before.take() == Some(number) => None,
+                Alteration::End(number) => {
+                    before = Some(end);
+                    Some(kinds::of_end(number, header, run.buffer.len() as u64))
+                }
+                Alteration::Byte(2, place, byte) if place % 25 == 24 => {
+                    let aligned = u64::from(byte).is_multiple_of(ALIGNMENT);
+                    (!aligned).then_some(kinds::UNALIGNED)
+                }
+                _ => None,
+            };
+            if let Alteration::End(number) = *alteration {
+                end = number;
+            }
+            continue;
+        }
+        if let Some(kind) = altered.take() {
+            let number = if *reported == Err((24, 0)) { 24 } else { 0 };
+            met.push((number, kind));
+        }
+        match (call, reported) {
+            (Call::Begin(..), _) => end = header,
+            (Call::Put(_, _, bytes), Ok(made)) => {
+                met.push((0, kinds::of_put(bytes, made - bytes.len() as u64)));
+                end += made;
+            }
+            (Call::Put(..), Err((23, made))) => {
+                let padding = end.next_multiple_of(ALIGNMENT) - end;
+                met.push((23, kinds::of_cut_put(*made, padding)));
+            }
+            _ => (),
+        }
+    }
+    met
+}
+
+/// Counts the answers of the writer's calls, and the names that make refused, by the edition that the record then has; and what request C-22 is about, by the
+/// edition of the first begin.
+fn count(run: &Run, answers: &[Reported], report: &mut Report) {
     let mut edition = None;
-    for (call, reported) in calls.iter().zip(answers) {
+    let first = match run.calls.first() {
+        Some(Call::Begin(number, _)) => Edition::written((*number).into()),
+        _ => None,
+    };
+    for (number, kind) in met(run, answers) {
+        report.met(number, kind, first);
+    }
+    for (call, reported) in run.calls.iter().zip(answers) {
         match call {
             Call::Begin(number, _) => edition = Edition::written((*number).into()),
             Call::Alter(Alteration::Edition(number)) => edition = Edition::written(*number),
@@ -636,15 +800,30 @@ fn count(calls: &[Call], answers: &[Reported], report: &mut Report) {
     }
 }
 
-/// All cuts of a short run, some of a long one.
-fn cuts(random: &Random, total: u64, calls: usize) -> Vec<u64> {
+/// All cuts of a short run; some of a long one, a part of them inside puts, where the padding is more often met than their bytes.
+fn cuts(random: &Random, calls: &[Call], answers: &[Reported], total: u64) -> Vec<u64> {
     if total <= 260 {
         return (0..=total).collect();
     }
-    let some = if calls > 100 { 1 } else { 12 };
+    let some = if calls.len() > 100 { 1 } else { 12 };
     let mut cuts: Vec<u64> = (0..some)
         .map(|_| random.below(total as usize) as u64)
         .collect();
+    let (mut before, mut puts) = (0, Vec::new());
+    for (call, reported) in calls.iter().zip(answers) {
+        let made = stores(call, reported);
+        if let (Call::Put(_, _, bytes), Ok(_)) = (call, reported) {
+            let padding = made - bytes.len() as u64;
+            puts.extend([(before, made), (before, padding), (before, padding)]);
+        }
+        before += made;
+    }
+    puts.retain(|(_, size)| *size > 0);
+    let inside = if puts.is_empty() { 0 } else { some / 2 };
+    for _ in 0..inside {
+        let (first, size) = random.pick(&puts);
+        cuts.push(first + random.below(size as usize) as u64);
+    }
     cuts.extend([0, 1, total - 1, total]);
     cuts
 }
@@ -660,8 +839,8 @@ pub fn shows_run(calls: &[Call], answers: &[Reported], buffer: &[u8], report: &m
         |(call, reported): (&Call, &Reported)| matches!(call, Call::Close) && reported.is_ok();
     let was_closed = calls.iter().zip(reported).any(closed);
     report.same("close", &reported[0].is_ok(), &was_closed);
-    if let (Call::Begin(edition, form), true) = (&calls[0], was_closed) {
-        shows(*edition, form, buffer, &described(calls, reported), report);
+    if was_closed {
+        shows(calls, reported, buffer, report);
     }
 }
 
@@ -670,7 +849,7 @@ pub fn shows_run(calls: &[Call], answers: &[Reported], buffer: &[u8], report: &m
 fn check_cut(run: &Run, cut: u64, total: u64, report: &mut Report) {
     let mut desk = run.desk();
     let answers = play(&mut desk, &run.calls, cut);
-    count(&run.calls, &answers, report);
+    count(run, &answers, report);
     let made: u64 = run
         .calls
         .iter()

@@ -30,14 +30,17 @@ fn edition_of(number: u64) -> Edition {
     Edition::WRITTEN[number as usize % Edition::WRITTEN.len()]
 }
 
-/// Runs 0 and 1 are document 01's worked run in both written editions; the others have up to 12 nodes.
+/// Runs 0 and 1 are document 01's worked run in both written editions, 2 and 3 request C-22's first example; the others have up to 12 nodes.
 fn run_of(seed: u64, number: u64) -> Run {
     let edition = edition_of(number);
-    if number < Edition::WRITTEN.len() as u64 {
-        return plans::worked(edition);
+    match number {
+        0..=1 => plans::worked(edition),
+        2..=3 => plans::padded(edition),
+        _ => {
+            let random = Random::of(seed, number);
+            plans::run(&random, edition, random.below(13), 4)
+        }
     }
-    let random = Random::of(seed, number);
-    plans::run(&random, edition, random.below(13), 4)
 }
 
 /// The process that is stepped through: it stops itself, then makes the calls.

@@ -1,5 +1,5 @@
 //! Document 01's worked file and cases, the symbol tables of requests C-11 and C-13, request C-12's listings, request C-18's places, request C-15's
-//! edition 3, and the generator's images beside what their maker knows.
+//! edition 3, request C-22's padding, and the generator's images beside what their maker knows.
 
 use crate::answers::{decoded, judged, listing, shown, Choice, Element, Passed, LISTED};
 use crate::cases;
@@ -10,7 +10,9 @@ use crate::md5::md5;
 use crate::open::{bad_nodes, open, Opened, Refused, Span};
 use crate::random::Random;
 use crate::report::Report;
-use crate::runs::{bad_name, play, worked_calls, Alteration, Call, Desk};
+use crate::runs::{
+    bad_name, met, padded_calls, play, random_run, worked_calls, Alteration, Call, Desk,
+};
 use crate::writer::{Record, Writer, TEXT_AREA, TREE_AREA};
 use crate::{kinds, paths};
 use std::collections::BTreeMap;
@@ -135,7 +137,7 @@ fn begins() {
         assert_eq!(dirty(168).call(&begin(&form), 0), Err((23, 0)));
         let mut desk = dirty(168);
         assert_eq!(desk.call(&begin(&form), 1), Ok(1));
-        let numbers = [1, 168, edition.number(), 0, 0, 0, 0, 1];
+        let numbers = [1, 168, edition.number(), 0, 0, 0, 168, 1];
         assert_eq!(desk.numbers(), (numbers, form));
         assert!(desk.text.iter().chain(&desk.tree).all(|byte| *byte == 0));
     }
@@ -195,6 +197,281 @@ fn recorded_editions() {
     }
     assert_eq!(desk(0).record, Record::default());
     assert_eq!(desk(0).call(&Call::Close, 0), Err((24, 0)));
+}
+
+/// The calls of request C-22's first example, with the two puts in the other order.
+fn double_first(edition: Edition) -> Vec<Call> {
+    let mut calls = padded_calls(edition);
+    calls.swap(3, 4);
+    calls
+}
+
+/// The same with a put of no Doubles.
+fn no_doubles(edition: Edition) -> Vec<Call> {
+    let mut calls = padded_calls(edition);
+    calls[4] = Call::Put(2, 4, Vec::new());
+    calls
+}
+
+/// The first so many calls, all accepted, in a buffer of some length that holds other bytes than zero.
+fn begun(buffer: usize, calls: &[Call]) -> Writer {
+    let mut desk = dirty(buffer);
+    let answers = play(&mut desk, calls, u64::MAX);
+    assert!(answers.iter().all(Result::is_ok), "{answers:?}");
+    desk
+}
+
+/// Kind, count and offset of a node in the tree area.
+fn slot(desk: &Writer, node: usize) -> (u8, u64, u64) {
+    let place = 25 * (node - 1);
+    let slot = &desk.tree[place..place + 25];
+    (slot[0], big(slot, 13, 4), big(slot, 17, 8))
+}
+
+/// Request C-22's examples: stores, places, size and digest of the whole file. The digests were made elsewhere.
+#[test]
+fn padded_files() {
+    for (edition, padded, first) in [
+        (
+            Edition::Two,
+            "83af5aeaec7934f518ddfbcd2759d236",
+            "715e7c4b9b41de6028ce3180af33d8dc",
+        ),
+        (
+            Edition::Three,
+            "1005f6ce7bb4470d076dcb00e77eb581",
+            "f157ff7b0ec0ee3346739cbbfa4e9e5b",
+        ),
+    ] {
+        let mut desk = dirty(238);
+        let answers = play(&mut desk, &padded_calls(edition), 239);
+        assert_eq!(answers, [Ok(1), Ok(1), Ok(2), Ok(3), Ok(13), Ok(222)]);
+        assert_eq!((slot(&desk, 1), slot(&desk, 2)), ((2, 3, 168), (4, 1, 176)));
+        let data = "6162630000000000 3ff0000000000000 61006200";
+        assert_eq!(hex(&desk.buffer[168..188]), data.replace(' ', ""));
+        assert_eq!((desk.record.end, desk.finished()), (184, 238));
+        assert_eq!(hex(&md5(&desk.buffer)), padded);
+        let mut desk = dirty(233);
+        let answers = play(&mut desk, &double_first(edition), 234);
+        assert_eq!(answers, [Ok(1), Ok(1), Ok(2), Ok(8), Ok(3), Ok(222)]);
+        assert_eq!((slot(&desk, 1), slot(&desk, 2)), ((2, 3, 176), (4, 1, 168)));
+        assert_eq!((desk.record.end, desk.finished()), (179, 233));
+        assert_eq!(hex(&md5(&desk.buffer)), first);
+        let mut desk = dirty(230);
+        let answers = play(&mut desk, &no_doubles(edition), 231);
+        assert_eq!(answers, [Ok(1), Ok(1), Ok(2), Ok(3), Ok(5), Ok(222)]);
+        assert_eq!((slot(&desk, 2), desk.record.end), ((4, 0, 176), 176));
+        assert_eq!(desk.finished(), 230);
+        if edition == Edition::Two {
+            assert_eq!(hex(&md5(&desk.buffer)), "3f1de327357ae517ffe35c357e6c5f46");
+        }
+    }
+}
+
+/// 21 and 23 of a put count its padding: buffers on both sides, and every allowance that is too small. A cut put has stored its zeros and bytes as far as the
+/// allowance goes; its node stays Void, and the record is as before, but stopped.
+#[test]
+fn padding_in_refusals() {
+    for edition in Edition::WRITTEN {
+        for (calls, put, size) in [
+            (padded_calls(edition), 4, 238),
+            (double_first(edition), 4, 233),
+            (no_doubles(edition), 4, 230),
+        ] {
+            let answers = play(&mut dirty(size - 1), &calls, u64::MAX);
+            assert_eq!(answers[put], Err((21, 0)));
+            assert!(play(&mut dirty(size), &calls, u64::MAX)[put].is_ok());
+        }
+        for (calls, stored) in [
+            (
+                padded_calls(edition),
+                b"\0\0\0\0\0\x3f\xf0\0\0\0\0\0\0".as_slice(),
+            ),
+            (no_doubles(edition), &[0; 5]),
+        ] {
+            for allowance in 0..stored.len() {
+                let mut desk = begun(300, &calls[..4]);
+                let before = desk.clone();
+                let reported = desk.call(&calls[4], allowance as u64);
+                assert_eq!(reported, Err((23, allowance as u64)));
+                assert_eq!(desk.buffer[..171], before.buffer[..171]);
+                assert_eq!(desk.buffer[171..][..allowance], stored[..allowance]);
+                assert_eq!(
+                    desk.buffer[171 + allowance..],
+                    before.buffer[171 + allowance..]
+                );
+                let stopped = Record {
+                    flag: 0,
+                    ..before.record
+                };
+                assert_eq!((desk.record, desk.record.end), (stopped, 171));
+                assert!(desk.tree == before.tree && desk.text == before.text);
+                assert_eq!(desk.call(&Call::Close, u64::MAX), Err((22, 0)));
+            }
+            let mut desk = begun(300, &calls[..4]);
+            let needed = stored.len() as u64;
+            assert_eq!(desk.call(&calls[4], needed), Ok(needed));
+        }
+    }
+}
+
+/// The cut drill of the first example: 239 stores, and every cut before the last is refused by 3.
+#[test]
+fn padded_cuts() {
+    for edition in Edition::WRITTEN {
+        for total in 0..=239 {
+            let mut desk = dirty(238);
+            play(&mut desk, &padded_calls(edition), total);
+            let reported = open(&desk.buffer, &edition.form()).map(|_| ()).err();
+            let refused = (total < 239).then_some(Refused::from((3, 0)));
+            assert_eq!(reported, refused, "{total}");
+        }
+    }
+}
+
+/// Where a Double begins after a put of some bytes, and how many stores it takes. A put of no bytes as the first stores nothing.
+#[test]
+fn lengths_before_a_double() {
+    for edition in Edition::WRITTEN {
+        for (first, stores, offset) in [
+            (0, 8, 168),
+            (1, 15, 176),
+            (7, 9, 176),
+            (8, 8, 176),
+            (9, 15, 184),
+            (15, 9, 184),
+            (16, 8, 184),
+            (17, 15, 192),
+        ] {
+            let calls = padded_calls(edition);
+            let mut desk = begun(300, &calls[..3]);
+            let put = Call::Put(1, 2, vec![b'x'; first as usize]);
+            assert_eq!(desk.call(&put, first), Ok(first));
+            assert_eq!(
+                (slot(&desk, 1), desk.record.end),
+                ((2, first, 168), 168 + first)
+            );
+            assert_eq!(desk.call(&calls[4], stores), Ok(stores));
+            assert_eq!(
+                (slot(&desk, 2), desk.record.end),
+                ((4, 1, offset), offset + 8)
+            );
+        }
+    }
+}
+
+/// Whether the record passes 24 with another end of data: the same calls on a copy.
+fn passes(desk: &Writer, alteration: Alteration) -> bool {
+    let mut desk = desk.clone();
+    desk.call(&Call::Alter(alteration), 0).unwrap();
+    let calls = [
+        Call::Make(9, Vec::new()),
+        Call::Put(9, 0, Vec::new()),
+        Call::Close,
+    ];
+    let reported = calls.map(|call| desk.clone().call(&call, 0));
+    match reported {
+        [Err((24, 0)), Err((24, 0)), Err((24, 0))] => false,
+        [Err((15, 0)), Err((15, 0)), Err((23, 0))] => true,
+        other => panic!("{other:?}"),
+    }
+}
+
+/// 24 by the recorded end of data and by offsets. What was put begins after the header; an offset need not be a multiple of 8.
+#[test]
+fn recorded_ends() {
+    for edition in Edition::WRITTEN {
+        let calls = padded_calls(edition);
+        let desk = begun(300, &calls[..2]);
+        assert_eq!(desk.record.end, 168);
+        // A node and a string of 2 bytes: 300 - 13 - 2 is the highest end.
+        for end in [168, 169, 175, 285] {
+            assert!(passes(&desk, Alteration::End(end)), "{end}");
+        }
+        for end in [
+            0,
+            1,
+            160,
+            167,
+            286,
+            300,
+            301,
+            1 << 32 | 168,
+            1 << 63,
+            u64::MAX,
+        ] {
+            assert!(!passes(&desk, Alteration::End(end)), "{end}");
+        }
+        let desk = begun(300, &calls[..5]);
+        // 300 - 50 - 4 is the highest end, 184 the end of the Double.
+        for end in [184, 185, 246] {
+            assert!(passes(&desk, Alteration::End(end)), "{end}");
+        }
+        for end in [0, 167, 168, 176, 183, 247, 300, u64::MAX] {
+            assert!(!passes(&desk, Alteration::End(end)), "{end}");
+        }
+        for (node, inside, outside) in [(1, 168..=181, [167, 182]), (2, 168..=176, [167, 177])] {
+            let offset = |low: u8| Alteration::Byte(2, 25 * node - 1, low);
+            for low in inside {
+                assert!(passes(&desk, offset(low)), "{node} {low}");
+            }
+            for low in outside {
+                assert!(!passes(&desk, offset(low)), "{node} {low}");
+            }
+        }
+        // A put of no bytes stands at its offset: an end below it is 24.
+        let desk = begun(300, &no_doubles(edition)[..5]);
+        assert!(passes(&desk, Alteration::End(176)));
+        assert!(!passes(&desk, Alteration::End(175)));
+        // An end that no puts leave: the next put begins at the multiple of 8 after it.
+        let mut desk = begun(300, &calls[..2]);
+        desk.call(&Call::Alter(Alteration::End(177)), 0).unwrap();
+        assert_eq!(desk.call(&Call::Put(1, 2, b"x".to_vec()), 8), Ok(8));
+        assert_eq!((slot(&desk, 1), desk.record.end), ((2, 1, 184), 185));
+    }
+}
+
+/// Header, all bytes put, 7 for each put, strings with their zeros and entries: a buffer of that length takes the puts in every order.
+#[test]
+fn puts_in_every_order() {
+    let lengths = [1, 8, 9, 3];
+    for edition in Edition::WRITTEN {
+        let names = [b"a", b"b", b"c", b"d"];
+        let makes = names.map(|name| Call::Make(0, name.to_vec()));
+        let size = edition.header() + lengths.iter().map(|n| n + 7 + 2 + 25).sum::<usize>();
+        let random = Random::of(34, edition.number());
+        let mut ends = Vec::new();
+        for _ in 0..60 {
+            let mut calls = vec![Call::begin(edition)];
+            calls.extend(makes.clone());
+            let put = |k: usize| Call::Put(k as u64 + 1, 2, vec![7; lengths[k]]);
+            calls.extend(random.permutation(4).into_iter().map(put));
+            calls.push(Call::Close);
+            let desk = begun(size, &calls);
+            assert!(desk.finished() <= size as u64);
+            ends.push(desk.record.end);
+        }
+        // The order decides where the data end.
+        let (least, most) = (ends.iter().min().unwrap(), ends.iter().max().unwrap());
+        assert_eq!((*least, *most), (201, 208));
+    }
+}
+
+/// Random runs meet puts with and without padding, of bytes and of none, cut in each way; ends of data altered to every part of the file; offsets that are no
+/// multiple of 8, with 24 and without.
+#[test]
+fn kinds_of_puts() {
+    let made = |number: u64| {
+        let random = Random::of(33, number);
+        let run = random_run(&random);
+        let cuts = if run.calls.len() > 100 { 0 } else { 6 };
+        let cuts = (0..cuts).map(|_| random.below(60) as u64);
+        let totals = cuts.chain([u64::MAX]);
+        let met = |total| met(&run, &play(&mut run.desk(), &run.calls, total));
+        totals.flat_map(met).collect::<Vec<_>>()
+    };
+    let counts = counted((0..250).flat_map(made));
+    assert_eq!(counts.len(), 4 + 3 + 4 + 2, "{counts:?}");
 }
 
 /// P1 to P10. P3 and P4 are in edition 3, too; P5 is not.

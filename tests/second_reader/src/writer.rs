@@ -1,4 +1,5 @@
-//! A model of the writer, from document 01, "Writing keys", and request C-15: begin, make, put, close, their refusals, and their byte stores in order.
+//! A model of the writer, from document 01, "Writing keys", and requests C-15 and C-22: begin, make, put, close, their refusals, and their byte stores in
+//! order.
 
 use crate::format::{Edition, Entry, Kind, Refusal, DATA, LONGEST_IMAGE, MOST, SYMBOLS, TREE};
 use crate::md5::md5;
@@ -9,6 +10,8 @@ pub const TEXT_AREA: usize = 32_768;
 pub const TREE_AREA: usize = 51_200;
 /// "the tree area holds node n's entry at place 25(n − 1), 25 bytes".
 const SLOT: usize = 25;
+/// "Each put begins at the next multiple of 8" (C-22), counted from the start of the file.
+pub const ALIGNMENT: u64 = 8;
 
 /// What the writer records.
 #[derive(Clone, Copy, PartialEq, Eq, Debug, Default)]
@@ -21,7 +24,8 @@ pub struct Record {
     pub strings: u64,
     pub text: u64,
     pub nodes: u64,
-    pub data: u64,
+    /// "The writer's record carries the end of data under this rule" (C-22): a place in the file, which is the header's size after begin.
+    pub end: u64,
     pub form: [u8; 12],
 }
 
@@ -36,7 +40,7 @@ pub struct Writer {
     pub tree: Vec<u8>,
 }
 
-/// The 8 numbers of the record in C: what the last call returned, length, edition, strings, bytes of text, nodes, bytes of data, flag; and the form.
+/// The 8 numbers of the record in C: what the last call returned, length, edition, strings, bytes of text, nodes, end of data, flag; and the form.
 pub type Numbers = ([u64; 8], [u8; 12]);
 
 /// One store of a byte at a place.
@@ -87,6 +91,7 @@ impl Writer {
             flag: 1,
             length,
             edition: edition.number(),
+            end: edition.header() as u64,
             form: form.try_into().expect("12 bytes"),
             ..Record::default()
         };
@@ -144,7 +149,8 @@ impl Writer {
             || self.record.text + more > TEXT_AREA as u64
     }
 
-    /// "Put: 24, 22, 15, 18, 19, 21, 23." "Each put stores its bytes ascending."
+    /// "Put: 24, 22, 15, 18, 19, 21, 23." C-22: "Each put begins at the next multiple of 8, with zero bytes stored first up to there. ... Finished size
+    /// counts the padding, so 01's 21 moves with it. Padding bytes are stores like the rest". A put that is cut gives its node nothing and moves no end.
     pub fn put(&mut self, node: u64, code: u64, bytes: &[u8], allowance: u64) -> Reported {
         self.judge()?;
         if node > self.record.nodes {
@@ -159,10 +165,10 @@ impl Writer {
             return Err((19, 0));
         }
         let size = bytes.len() as u64;
-        if self.finished() + 12 + size > self.record.length {
+        if self.finished() + 12 + self.padding() + size > self.record.length {
             return Err((21, 0));
         }
-        let offset = self.data_end();
+        let offset = self.record.end + self.padding();
         let made = self.store(&self.putting(bytes), allowance)?;
         let entry = Entry {
             kind,
@@ -171,17 +177,24 @@ impl Writer {
             ..self.node(node)
         };
         self.set_slot(node, &entry);
-        self.record.data += size;
+        self.record.end = offset + size;
         Ok(made)
     }
 
-    /// The stores of put: its bytes ascending, after the data put before.
+    /// How many zeros a put stores first: what the end of data lacks of a multiple of 8.
+    pub fn padding(&self) -> u64 {
+        self.record.end.next_multiple_of(ALIGNMENT) - self.record.end
+    }
+
+    /// The stores of put: zeros, then its bytes, ascending from the end of data on.
     pub fn putting(&self, bytes: &[u8]) -> Vec<Store> {
-        let offset = self.data_end() as usize;
-        (offset..).zip(bytes.iter().copied()).collect()
+        let zeros = std::iter::repeat_n(0, self.padding() as usize);
+        let first = self.record.end as usize;
+        (first..).zip(zeros.chain(bytes.iter().copied())).collect()
     }
 
     /// "Close: 24, 22, 23." "Close stores strings, entries, header bytes 1 to 167 ascending, and last the `L` at place 0." C-15: the header is the edition's.
+    /// C-22: "Strings are not aligned": they begin at the end of data.
     pub fn close(&mut self, allowance: u64) -> Reported {
         self.judge()?;
         let made = self.store(&self.closing(), allowance)?;
@@ -194,7 +207,7 @@ impl Writer {
         let symbols = &self.text[..self.record.text as usize];
         let tree = self.entries();
         let header = self.header(symbols, &tree);
-        let start = self.data_end() as usize;
+        let start = self.record.end as usize;
         let tables = symbols.iter().chain(&tree).copied();
         let mut stores: Vec<Store> = (start..).zip(tables).collect();
         stores.extend((0..).zip(header.iter().copied()).skip(1));
@@ -206,11 +219,11 @@ impl Writer {
     fn header(&self, symbols: &[u8], tree: &[u8]) -> Vec<u8> {
         let edition = self.edition();
         let first = edition.header() as u64;
-        let data = &self.buffer[first as usize..][..self.record.data as usize];
+        let end = self.record.end;
+        let data = &self.buffer[first as usize..end as usize];
         let full = (1..=self.record.nodes)
             .filter(|number| self.node(*number).kind != Kind::Void)
             .count();
-        let end = self.data_end();
         let mut header = [edition.text().as_slice(), &self.record.form].concat();
         for section in edition.header_order() {
             let (bytes, offset, records) = match section {
@@ -290,23 +303,18 @@ impl Writer {
         })
     }
 
-    /// "Finished size = 168 + data bytes + string bytes with their zeros + 13 for each Void node + 25 for each other." 168 is the header of both written
-    /// editions.
+    /// "Finished size = 168 + data bytes + string bytes with their zeros + 13 for each Void node + 25 for each other." C-22: it "counts the padding", so the
+    /// first two are the end of data.
     pub fn finished(&self) -> u64 {
         let entries: u64 = (1..=self.record.nodes)
             .map(|number| self.node(number).kind.entry() as u64)
             .sum();
-        self.data_end() + self.record.text + entries
+        self.record.end + self.record.text + entries
     }
 
     /// The recorded edition, where 24 has been judged.
     fn edition(&self) -> Edition {
         Edition::written(self.record.edition).expect("24 has been judged")
-    }
-
-    /// Where the data put so far end: "Data go to the image at place 168 and on", after the edition's header.
-    fn data_end(&self) -> u64 {
-        self.edition().header() as u64 + self.record.data
     }
 
     /// 24, then 22: "writer closed or stopped".
@@ -320,7 +328,8 @@ impl Writer {
         }
     }
 
-    /// 24 of the writer, over all that is recorded. C-15: "24 also for a writer's record whose edition is not a written one".
+    /// 24 of the writer, over all that is recorded. C-15: "24 also for a writer's record whose edition is not a written one". C-22: what was put begins after
+    /// the header, so the end of data is not inside it; and before anything is added to the end, it is compared with the length.
     fn belongs(&self) -> bool {
         let record = &self.record;
         let sizes = Edition::written(record.edition).is_some()
@@ -332,9 +341,9 @@ impl Writer {
             && record.strings <= MOST as u64
             && record.nodes <= MOST as u64;
         sizes
+            && (self.edition().header() as u64..=record.length).contains(&record.end)
             && self.text_belongs()
             && (1..=record.nodes).all(|number| self.slot_belongs(number))
-            && u128::from(record.data) + u128::from(LONGEST_IMAGE) < u128::from(u64::MAX)
             && self.finished() <= record.length
     }
 
@@ -350,9 +359,10 @@ impl Writer {
         let Some(entry) = self.slot(number) else {
             return false;
         };
+        let first = self.edition().header() as u64;
         let put = Span {
-            offset: self.edition().header() as u64,
-            size: self.record.data,
+            offset: first,
+            size: self.record.end - first,
         };
         let data = entry.kind == Kind::Void || put.holds(entry.offset, entry.bytes());
         entry.string < self.record.strings && entry.parent < number && data
