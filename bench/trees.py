@@ -34,11 +34,12 @@ class Tree:
         return b"".join(reversed(parts))
 
     def image(self, edition=2):
-        """A node with data has 64 Doubles: element j of node n is n + j / 1024."""
+        """A node with data has 64 Doubles: element j of node n is n + j / 1024. Their bytes are a multiple of 8, so our writer, which begins each put at such
+        a multiple (request C-22), makes this file without padding."""
         return self.laid_out(edition, DOUBLE, COUNT, lambda node: struct.pack(f">{COUNT}d", *(node + j / 1024 for j in range(COUNT))))
 
     def small_image(self):
-        """A node with data has one Int, its number."""
+        """A node with data has one Int, its number. The Ints follow each other without padding: a file that is only read."""
         return self.laid_out(2, INT, 1, lambda node: struct.pack(">i", node))
 
     def laid_out(self, edition, kind, count, data_of):

@@ -8,7 +8,7 @@
 #include "../include/aff.h"
 #include "timing.h"
 
-enum { NODES = 2048, COUNT = 64, SLOT = 25, BUFFER_SIZE = 2 << 20, TAKEN = 18 };
+enum { NODES = 2048, COUNT = 64, SLOT = 25, HEADER = 168, BUFFER_SIZE = 2 << 20, TAKEN = 18 };
 
 static uint32_t edition;
 static uint8_t form[AFF_FORM], buffer[BUFFER_SIZE], text[AFF_TEXT], tree[AFF_TREE], kept[AFF_FORM];
@@ -38,6 +38,7 @@ static void make(size_t k) {
     expect(aff_make(PASSED, nodes[k].parent, (const uint8_t *)nodes[k].name, nodes[k].length) == 0 && numbers[0] == k + 1);
 }
 
+// 64 Doubles are a multiple of 8 bytes, so no put of these trees stores padding.
 static void put(size_t k) {
     expect(aff_put(PASSED, k + 1, AFF_DOUBLE, nodes[k].data, sizeof nodes[k].data, UINT64_MAX) == 0 && numbers[0] == sizeof nodes[k].data);
 }
@@ -104,9 +105,9 @@ static void load(const char *path) {
     expect(count > 0 && nodes[count - 1].full);
 }
 
-// The file that close has finished: what it stored, and the data before.
+// The file that close has finished: up to the end of data, and after it what close stored, but for the header, which is at the front.
 static void save(const char *path) {
-    size_t size = numbers[0] + numbers[6];
+    size_t size = numbers[6] + numbers[0] - HEADER;
     FILE *file = fopen(path, "wb");
     expect(file != NULL && fwrite(buffer, 1, size, file) == size && fclose(file) == 0);
 }

@@ -1,6 +1,7 @@
 // Reads one key of an AFF file: `read FILE PATH` prints a line for each element of the node with that path.
 //     rt staticlib aff_c && cc -I include samples/read.c target/staticlib/libaff_c.a -o target/read
 //     target/read samples/worked.aff /a/n
+//     target/read samples/aligned.aff /b
 #include "aff.h"
 #include <inttypes.h>
 #include <stdio.h>
@@ -108,6 +109,9 @@ int main(int argc, char **argv) {
     number = aff_lookup(OPENED, (const uint8_t *)argv[2], strlen(argv[2]), &node, &place);
     check(argv[2], number, place);
     // Type and place of the data are asked for once; each element is then decoded from there.
+    // In a file of this library's writer, offset is a multiple of 8 for every node with data, since request C-22. So in a file that is mapped at its start, its
+    // doubles are aligned. Their bytes are still big-endian. Files of other writers, or of this one before that request, may have their data at any offset: check
+    // offset % 8 before you take an address there as that of a double, or copy the bytes with memcpy. aff_decode takes bytes at any address.
     check(argv[2], aff_kind(OPENED, node, &kind), 0);
     check(argv[2], aff_view(OPENED, node, &offset, &size), 0);
     if (size == 0) {

@@ -9,6 +9,9 @@
 #include <stdlib.h>
 #include <unistd.h>
 
+// A buffer takes the file if it has at least 168 bytes for the header, all bytes that are put and up to 7 zero bytes before each put, every name once with a
+// zero, and 25 bytes for each node (13 if it stays Void).
+enum { HEADER = 168 };
 static uint8_t buffer[65536], text[AFF_TEXT], tree[AFF_TREE], form[AFF_FORM], kept[AFF_FORM];
 static uint64_t numbers[AFF_NUMBERS];
 #define WRITER buffer, sizeof buffer, numbers, kept, text, AFF_TEXT, tree, AFF_TREE
@@ -65,8 +68,8 @@ int main(int argc, char **argv) {
     big_endian(-70, data);
     check("/a/n", aff_put(WRITER, n, AFF_INT, data, sizeof data, UINT64_MAX));
     uint64_t stored = check("close", aff_close(WRITER, UINT64_MAX));
-    // The data were stored before; close stored all else.
-    if (!save(argv[1], buffer, (size_t)(stored + numbers[6]))) {
+    // The data end at numbers[6], which counts the header from the start of the file. close stored the header, and the strings and entries after the data.
+    if (!save(argv[1], buffer, (size_t)(numbers[6] + stored - HEADER))) {
         perror(argv[1]);
         return 1;
     }

@@ -1,15 +1,15 @@
 // Calls the library through include/aff.h and compares what it returns and leaves with what the header says:
-// `c_calls samples/worked.aff samples/worked3.aff samples/unterminated.aff samples/wide_names.aff`. In both written editions it makes document 01's worked
-// file with every total allowance from 0 to 216, tries each refusal of the writer with every other value of the record unchanged, passes null pointers with
-// length 0 and records of every length, reads a file whose last string has no zero, and asks for the places in malformed names and paths. It tries editions
-// that are not written or do not exist, makes and reads names that only edition 3 allows, and reads special numbers. It prints counts; the exit status is
-// 1 where anything differs.
+// `c_calls samples/worked.aff samples/worked3.aff samples/unterminated.aff samples/wide_names.aff samples/aligned.aff`. In both written editions it makes
+// document 01's worked file with every total allowance from 0 to 216, makes a file with padding and records other ends of its data, tries each refusal of the
+// writer with every other value of the record unchanged, passes null pointers with length 0 and records of every length, reads a file whose last string has no
+// zero, and asks for the places in malformed names and paths. It tries editions that are not written or do not exist, makes and reads names that only edition
+// 3 allows, and reads special numbers. It prints counts; the exit status is 1 where anything differs.
 #include "aff.h"
 #include <stdio.h>
 #include <stdlib.h>
 #include <string.h>
 
-enum { WORKED = 214, UNTERMINATED = 213, WIDE = 253, STORES = 215, BUFFER = 400 };
+enum { WORKED = 214, UNTERMINATED = 213, WIDE = 253, ALIGNED = 238, STORES = 215, HEADER = 168, BUFFER = 400 };
 
 // The edition of what is written, and the 12 signature bytes of editions 2 and 3.
 static uint32_t edition;
@@ -64,6 +64,8 @@ static void reset(struct writer *w, size_t length, uint8_t value) {
 // Everything that an opening leaves.
 static uint32_t strings[AFF_STRINGS], entries[AFF_ENTRIES];
 static uint64_t record[AFF_RECORD];
+
+#define OPENED(image, length) image, length, record, strings, AFF_STRINGS, entries, AFF_ENTRIES
 
 static uint32_t open_image(const uint8_t *image, size_t length) {
     return aff_open_image(image, length, form, AFF_FORM, strings, AFF_STRINGS, entries, AFF_ENTRIES, record, AFF_RECORD);
@@ -206,14 +208,21 @@ static void refusals_of_writer(void) {
 static void stops_of_writer(void) {
     static struct writer w, before;
     static const uint64_t zeros[AFF_NUMBERS];
-    const uint64_t stopped[AFF_NUMBERS] = {0, BUFFER, edition, 0, 0, 0, 0, 0};
+    const uint64_t stopped[AFF_NUMBERS] = {0, BUFFER, edition, 0, 0, 0, HEADER, 0};
+    // The data end at 172: four zeros up to 176, then the Int.
+    static const uint8_t stored[8] = {0, 0, 0, 0, 0xff, 0xff, 0xff, 0xba};
+    for (uint64_t allowance = 0; allowance < sizeof stored; allowance++) {
+        two_nodes(&w, BUFFER);
+        memcpy(&before, &w, sizeof before);
+        CHECK(put(&w, 1, AFF_INT, 4, allowance) == AFF_ERR_ALLOWANCE);
+        memcpy(before.buffer + 172, stored, allowance);
+        before.numbers[0] = allowance;
+        before.numbers[7] = 0;
+        CHECK(before.numbers[6] == 172 && memcmp(&before, &w, sizeof w) == 0);
+    }
     two_nodes(&w, BUFFER);
-    memcpy(&before, &w, sizeof before);
-    CHECK(put(&w, 1, AFF_INT, 4, 2) == AFF_ERR_ALLOWANCE);
-    memcpy(before.buffer + 172, seventy, 2);
-    before.numbers[0] = 2;
-    before.numbers[7] = 0;
-    CHECK(memcmp(&before, &w, sizeof w) == 0);
+    CHECK(put(&w, 1, AFF_INT, 4, sizeof stored) == AFF_OK && w.numbers[0] == sizeof stored && w.numbers[6] == 180);
+    CHECK(memcmp(w.buffer + 172, stored, sizeof stored) == 0 && w.tree[24] == 176);
     for (int call = 0; call < 3; call++) {
         reset(&w, call == 1 ? 167 : BUFFER, 0x44);
         memcpy(&before, &w, sizeof before);
@@ -225,15 +234,95 @@ static void stops_of_writer(void) {
     }
 }
 
-// After an accepted close the file is numbers[0] + numbers[6] bytes long; the whole buffer opens too.
+// The length of the file after an accepted close: up to the end of data, and after it what close stored, but for the header.
+static uint64_t finished(const struct writer *w) {
+    return w->numbers[6] + w->numbers[0] - HEADER;
+}
+
+// The file after an accepted close; the whole buffer opens too.
 static void finished_size(const uint8_t *worked) {
     static struct writer w;
     reset(&w, BUFFER, 0x55);
-    CHECK(begin(&w, 1) == AFF_OK && w.numbers[0] == 1 && open_image(w.buffer, BUFFER) == AFF_ERR_SIGNATURE);
+    CHECK(begin(&w, 1) == AFF_OK && w.numbers[0] == 1 && w.numbers[6] == HEADER && open_image(w.buffer, BUFFER) == AFF_ERR_SIGNATURE);
     CHECK(make(&w, 0, "a") == AFF_OK && make(&w, 1, "n") == AFF_OK && w.numbers[0] == 2);
-    CHECK(put(&w, 2, AFF_INT, 4, 4) == AFF_OK && finish(&w, 210) == AFF_OK && w.numbers[7] == 0);
-    CHECK(w.numbers[0] + w.numbers[6] == WORKED && memcmp(w.buffer, worked, WORKED) == 0 && w.buffer[WORKED] == 0x55);
+    CHECK(put(&w, 2, AFF_INT, 4, 4) == AFF_OK && w.numbers[6] == 172 && finish(&w, 210) == AFF_OK && w.numbers[6] == 172 && w.numbers[7] == 0);
+    CHECK(finished(&w) == WORKED && memcmp(w.buffer, worked, WORKED) == 0 && w.buffer[WORKED] == 0x55);
     CHECK(open_image(w.buffer, WORKED) == AFF_OK && open_image(w.buffer, BUFFER) == AFF_OK && record[1] == BUFFER && record[2] == edition);
+}
+
+// ---- Data at multiples of 8
+
+static const uint8_t one[8] = {0x3f, 0xf0};
+
+// The nodes /a and /b, and `abc` in /a.
+static void before_double(struct writer *w, size_t length) {
+    reset(w, length, 0x55);
+    CHECK(begin(w, 1) == AFF_OK && make(w, 0, "a") == AFF_OK && make(w, 0, "b") == AFF_OK);
+    CHECK(aff_put(WRITER(w), 1, AFF_CHAR, (const uint8_t *)"abc", 3, 3) == AFF_OK && w->numbers[0] == 3 && w->numbers[6] == 171);
+}
+
+// samples/aligned.aff, made: the Double stores five zeros first, which count in 21 and 23. In edition 3 all but the header is the same. Then an empty array
+// in place of the Double, which stores the zeros too.
+static void padded_file(const uint8_t *aligned) {
+    static struct writer w;
+    uint64_t offset = 77, size = 77;
+    before_double(&w, ALIGNED - 1);
+    REFUSED(&w, AFF_ERR_SPACE, aff_put(WRITER(&w), 2, AFF_DOUBLE, one, 8, UINT64_MAX));
+    before_double(&w, ALIGNED);
+    CHECK(aff_put(WRITER(&w), 2, AFF_DOUBLE, one, 8, 13) == AFF_OK && w.numbers[0] == 13 && w.numbers[6] == 184);
+    CHECK(finish(&w, 222) == AFF_OK && w.numbers[0] == 222 && finished(&w) == ALIGNED && w.numbers[6] == 184);
+    CHECK(memcmp(w.buffer + HEADER, aligned + HEADER, ALIGNED - HEADER) == 0 && (edition == 3 || memcmp(w.buffer, aligned, ALIGNED) == 0));
+    CHECK(open_image(w.buffer, ALIGNED) == AFF_OK && record[2] == edition && record[7] == HEADER && record[8] == 16 && record[11] == 2);
+    CHECK(aff_view(OPENED(w.buffer, ALIGNED), 2, &offset, &size) == AFF_OK && offset == 176 && size == 8);
+    for (uint64_t allowance = 0; allowance < 13; allowance++) {
+        before_double(&w, BUFFER);
+        CHECK(aff_put(WRITER(&w), 2, AFF_DOUBLE, one, 8, allowance) == AFF_ERR_ALLOWANCE && w.numbers[0] == allowance);
+        CHECK(w.numbers[6] == 171 && w.numbers[7] == 0 && w.tree[25] == AFF_VOID && w.buffer[171 + allowance] == 0x55);
+        CHECK(memcmp(w.buffer + 171, aligned + 171, allowance) == 0 && open_image(w.buffer, BUFFER) == AFF_ERR_SIGNATURE);
+    }
+    before_double(&w, BUFFER);
+    CHECK(aff_put(WRITER(&w), 2, AFF_DOUBLE, NULL, 0, 4) == AFF_ERR_ALLOWANCE && w.numbers[0] == 4 && w.numbers[6] == 171 && w.tree[25] == AFF_VOID);
+    before_double(&w, BUFFER);
+    CHECK(aff_put(WRITER(&w), 2, AFF_DOUBLE, NULL, 0, 5) == AFF_OK && w.numbers[0] == 5 && w.numbers[6] == 176 && w.tree[49] == 176);
+    CHECK(finish(&w, UINT64_MAX) == AFF_OK && finished(&w) == 230 && open_image(w.buffer, 230) == AFF_OK);
+}
+
+// 24 by the end of data: below the header, before the end of some data, and where the finished file would not fit. Any other end passes, and the next put
+// begins at the multiple of 8 from there on. An offset need not be such a multiple.
+static void recorded_ends(void) {
+    static struct writer w;
+    // 400 - 4 - 38 is the highest end.
+    static const uint64_t wrong[] = {0, 1, 160, 167, 168, 170, 359, BUFFER, BUFFER + 1, (uint64_t)1 << 32 | 171, (uint64_t)1 << 63, UINT64_MAX};
+    static const uint64_t right[] = {171, 172, 175, 176, 300, 358};
+    before_double(&w, BUFFER);
+    for (size_t k = 0; k < sizeof wrong / sizeof *wrong; k++) {
+        w.numbers[6] = wrong[k];
+        REFUSED(&w, AFF_ERR_MISMATCH, make(&w, 0, "c"));
+        REFUSED(&w, AFF_ERR_MISMATCH, put(&w, 2, AFF_INT, 4, 0));
+        REFUSED(&w, AFF_ERR_MISMATCH, finish(&w, 0));
+    }
+    for (size_t k = 0; k < sizeof right / sizeof *right; k++) {
+        w.numbers[6] = right[k];
+        REFUSED(&w, AFF_ERR_NOT_FOUND, make(&w, 3, "c"));
+        REFUSED(&w, AFF_ERR_NOT_FOUND, put(&w, 3, AFF_INT, 4, 0));
+    }
+    w.numbers[6] = 177;
+    CHECK(put(&w, 2, AFF_INT, 4, 11) == AFF_OK && w.numbers[0] == 11 && w.numbers[6] == 188 && w.tree[49] == 184);
+    for (uint8_t low = 168; low <= 185; low++) {
+        w.tree[24] = low;
+        REFUSED(&w, AFF_ERR_NOT_FOUND, make(&w, 3, "c"));
+    }
+    w.tree[24] = 186;
+    REFUSED(&w, AFF_ERR_MISMATCH, make(&w, 3, "c"));
+    w.tree[24] = 167;
+    REFUSED(&w, AFF_ERR_MISMATCH, make(&w, 3, "c"));
+    // Before any data the end is that of the header.
+    reset(&w, BUFFER, 0x55);
+    CHECK(begin(&w, 1) == AFF_OK && make(&w, 0, "a") == AFF_OK);
+    w.numbers[6] = HEADER - 1;
+    REFUSED(&w, AFF_ERR_MISMATCH, put(&w, 1, AFF_INT, 4, 4));
+    w.numbers[6] = HEADER;
+    CHECK(put(&w, 1, AFF_INT, 0, 0) == AFF_OK && w.numbers[0] == 0 && w.numbers[6] == HEADER && w.tree[24] == 168);
 }
 
 // ---- Editions
@@ -311,8 +400,6 @@ static void forms(const uint8_t *worked) {
 }
 
 // ---- Null pointers with length 0, and other lengths
-
-#define OPENED(image, length) image, length, record, strings, AFF_STRINGS, entries, AFF_ENTRIES
 
 // A lookup that is refused: the number and the place, which is written in every case. The node is unchanged.
 static void looked_up(const uint8_t *image, size_t length, const char *path, size_t path_length, uint32_t expected, uint64_t place) {
@@ -563,7 +650,7 @@ static void wide_names(const uint8_t *expected) {
     for (uint64_t n = 2; n <= 3; n++) {
         CHECK(aff_put(WRITER(&w), n, nodes[n - 1].kind, nodes[n - 1].data, nodes[n - 1].length, 8) == AFF_OK);
     }
-    CHECK(finish(&w, UINT64_MAX) == AFF_OK && w.numbers[0] + w.numbers[6] == WIDE && memcmp(w.buffer, expected, WIDE) == 0);
+    CHECK(finish(&w, UINT64_MAX) == AFF_OK && finished(&w) == WIDE && memcmp(w.buffer, expected, WIDE) == 0);
     CHECK(open_image(expected, WIDE) == AFF_OK && record[2] == 3 && record[10] == 3);
     for (uint64_t n = 1; n <= 3; n++) {
         uint64_t offset = 77, size = 77, found = 77, place = 77;
@@ -620,10 +707,11 @@ static size_t loaded(const char *path, uint8_t *bytes, size_t most) {
 }
 
 int main(int argc, char **argv) {
-    static uint8_t samples[2][WORKED + 1], unterminated[UNTERMINATED + 1], wide[WIDE + 1];
-    if (argc != 5 || loaded(argv[1], samples[0], WORKED + 1) != WORKED || loaded(argv[2], samples[1], WORKED + 1) != WORKED ||
-        loaded(argv[3], unterminated, sizeof unterminated) != UNTERMINATED || loaded(argv[4], wide, sizeof wide) != WIDE) {
-        fputs("usage: c_calls samples/worked.aff samples/worked3.aff samples/unterminated.aff samples/wide_names.aff\n", stderr);
+    static uint8_t samples[2][WORKED + 1], unterminated[UNTERMINATED + 1], wide[WIDE + 1], aligned[ALIGNED + 1];
+    if (argc != 6 || loaded(argv[1], samples[0], WORKED + 1) != WORKED || loaded(argv[2], samples[1], WORKED + 1) != WORKED ||
+        loaded(argv[3], unterminated, sizeof unterminated) != UNTERMINATED || loaded(argv[4], wide, sizeof wide) != WIDE ||
+        loaded(argv[5], aligned, sizeof aligned) != ALIGNED) {
+        fputs("usage: c_calls samples/worked.aff samples/worked3.aff samples/unterminated.aff samples/wide_names.aff samples/aligned.aff\n", stderr);
         return 2;
     }
     for (edition = 2; edition <= 3; edition++) {
@@ -632,6 +720,8 @@ int main(int argc, char **argv) {
         refusals_of_writer();
         stops_of_writer();
         finished_size(worked);
+        padded_file(aligned);
+        recorded_ends();
         unwritten_editions();
         recorded_editions();
         forms(worked);

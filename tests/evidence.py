@@ -26,8 +26,8 @@ TARGET = os.path.join(ROOT, "target")
 FOLDER = os.path.join(TARGET, "evidence")
 SECOND = os.path.join(TARGET, "second_reader", "release", "second_reader")
 LIBRARY = os.path.join(TARGET, "staticlib", "libaff_c.a")
-WORKED_FILE, WORKED3_FILE, UNTERMINATED_FILE, WIDE_FILE = (
-    os.path.join(ROOT, "samples", f"{name}.aff") for name in ("worked", "worked3", "unterminated", "wide_names"))
+WORKED_FILE, WORKED3_FILE, UNTERMINATED_FILE, WIDE_FILE, ALIGNED_FILE = (
+    os.path.join(ROOT, "samples", f"{name}.aff") for name in ("worked", "worked3", "unterminated", "wide_names", "aligned"))
 WARNINGS = ["-Wall", "-Wextra", "-pedantic", "-Werror", "-Wconversion", "-Wshadow", "-I", os.path.join(ROOT, "include")]
 
 # What is compared by the second reader, the command, how many, and what follows these on the command line.
@@ -149,6 +149,8 @@ def sources():
             ends([read, UNTERMINATED_FILE, "/a/n"], out="-70\n"),
             ends([read, first, "/a/n"], out="-70\n"),
             ends([read, WORKED3_FILE, "/a/n"], out="-70\n"),
+            ends([read, ALIGNED_FILE, "/a"], out="97\n98\n99\n"),
+            ends([read, ALIGNED_FILE, "/b"], out="1\n"),
             *(ends([read, WIDE_FILE, os.fsdecode(path)], status, out, err) for path, status, out, err in WIDE_PATHS),
             ends([read, WORKED_FILE, "/a"], err="a Void node, which has no data"),
             ends([read, empty, "/e"], err="an empty array"),
@@ -170,7 +172,7 @@ def sources():
 def calls():
     """tests/c_calls.c prints its own counts."""
     compile_it, path = program("tests/c_calls.c")
-    return ends(compile_it) and subprocess.run([path, WORKED_FILE, WORKED3_FILE, UNTERMINATED_FILE, WIDE_FILE]).returncode == 0
+    return ends(compile_it) and subprocess.run([path, WORKED_FILE, WORKED3_FILE, UNTERMINATED_FILE, WIDE_FILE, ALIGNED_FILE]).returncode == 0
 
 
 def stack():
@@ -186,7 +188,7 @@ def second_reader(words):
 def parts(seed, part):
     """Each part: its name, what is compared, what runs, and the function that does it."""
     yield "sources", "the header and the sample programs in C and C++", "include/aff.h, samples/read.c, samples/write.c", sources
-    yield "calls", "every call through the header: allowances, refusals, editions, null pointers, numbers", "tests/c_calls.c", calls
+    yield "calls", "every call through the header: allowances, padding, refusals, editions, null pointers, numbers", "tests/c_calls.c", calls
     yield "stack", "the stack of every call on chains of 2,048 nodes in every edition, at most 262,144 bytes", "tests/stack.c", stack
     for what, command, count, more in COMPARED:
         words = [command, str(seed), str(max(1, count // part)), *more]

@@ -15,7 +15,7 @@
 #include <sys/mman.h>
 #include <unistd.h>
 
-enum { NODES = 2048, LIMIT = 262144, PAGE = 4096, PATTERN = 0xa5, BUFFER = 1 << 20 };
+enum { NODES = 2048, LIMIT = 262144, PAGE = 4096, PATTERN = 0xa5, BUFFER = 1 << 20, PADDING = 7 };
 
 static uint8_t *stack;
 static size_t stack_size = 327680;
@@ -200,7 +200,9 @@ static uint32_t call_make(void) {
 }
 
 static uint32_t call_put(void) {
-    return aff_put(WRITER, numbers[5], AFF_COMPLEX, data, sizeof data, UINT64_MAX);
+    bool first = numbers[5] == 1;
+    uint32_t found = aff_put(WRITER, numbers[5], first ? AFF_CHAR : AFF_COMPLEX, data, first ? 1 : sizeof data, UINT64_MAX);
+    return found == AFF_OK && numbers[5] == 2 && numbers[0] != sizeof data + PADDING ? (uint32_t)AFF_ERR_NOT_FOUND : found;
 }
 
 static uint32_t call_close(void) {
@@ -210,13 +212,14 @@ static uint32_t call_close(void) {
 static struct call writing[] = {
     {"aff_form", call_form, 0}, {"aff_begin", call_begin, 0}, {"aff_make", call_make, 0}, {"aff_put", call_put, 0}, {"aff_close", call_close, 0}};
 
-// A put to every node; the calls are measured for the first node, one in the middle and the last.
+// A put to every node, the first of one Char, so that the second stores padding; the calls are measured for the first two nodes, one in the middle and the
+// last.
 static void write_chain(uint32_t of_edition) {
     edition = of_edition;
     measure(&writing[0]);
     measure(&writing[1]);
     for (size_t k = 1; k <= NODES; k++) {
-        bool measured = k == 1 || k == NODES / 2 || k == NODES;
+        bool measured = k <= 2 || k == NODES / 2 || k == NODES;
         for (int call = 2; call <= 3; call++) {
             if (measured) {
                 measure(&writing[call]);
