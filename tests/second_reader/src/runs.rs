@@ -362,17 +362,23 @@ pub fn random_run(random: &Random) -> Run {
         Style::Many => 2 * MOST,
         Style::Long => 60,
         Style::Begins => random.between(2, 8),
-        _ => random.pick(&[0, 3, 8, 12, 60]),
+        _ => random.pick(&[0, 3, 8, 12, 12, 20, 60]),
     };
+    // The size that the file has after each put with padding, and the padding.
+    let mut padded = Vec::new();
     for _ in 0..calls {
-        if style == Style::Altered && random.one_in(6) {
+        if style == Style::Altered && random.one_in(4) {
             alter_and_restore(random, &mut run, &mut model);
         }
         let call = match style == Style::Begins && random.one_in(2) {
             true => begin(random, style),
             false => middle(random, &model, style),
         };
-        add(&mut run, &mut model, call);
+        let is_put = style == Style::Usual && matches!(call, Call::Put(..));
+        let padding = if is_put { model.padding() } else { 0 };
+        if add(&mut run, &mut model, call) && padding > 0 {
+            padded.push((model.finished() as usize, padding as usize));
+        }
     }
     let closed = add(&mut run, &mut model, Call::Close);
     for _ in 0..random.below(3) {
@@ -380,10 +386,13 @@ pub fn random_run(random: &Random) -> Run {
         add(&mut run, &mut model, random.pick(&more));
     }
     if style == Style::Usual && closed && random.one_in(3) {
-        // The finished size, one byte around it, or up to 8 fewer: the last calls that make the file longer are refused or just fit, with and without
-        // their padding.
-        let fewer = random.pick(&[0, 1, 2, random.below(10)]);
-        run.buffer.resize(model.finished() as usize + 1 - fewer, 5);
+        // The finished size, or one byte around it: the last calls that make the file longer are refused or just fit.
+        run.buffer
+            .resize(model.finished() as usize - 1 + random.below(3), 5);
+    } else if !padded.is_empty() && random.one_in(3) {
+        // A put with padding just fits, or would fit without some or all of its padding.
+        let (size, padding) = random.pick(&padded);
+        run.buffer.resize(size - random.below(padding + 2), 5);
     }
     if random.one_in(6) {
         let again = [
@@ -456,9 +465,10 @@ fn begin(random: &Random, style: Style) -> Call {
 fn middle(random: &Random, now: &Writer, style: Style) -> Call {
     let nodes = now.record.nodes.min(MOST as u64) as usize;
     match (style, random.below(12)) {
-        (Style::Many, 1) => put(random, nodes),
+        (Style::Many, 1) => put(random, now),
         (Style::Many, _) => make(random, now, style),
-        (_, 1..=4) => put(random, nodes),
+        (_, 1..=5) if nodes > 0 => put(random, now),
+        (_, 1..=2) => put(random, now),
         _ => make(random, now, style),
     }
 }
@@ -540,8 +550,18 @@ fn long_name(random: &Random) -> Vec<u8> {
     name
 }
 
-fn put(random: &Random, nodes: usize) -> Call {
-    let node = random.below(nodes + 2) as u64;
+/// A put to any node, mostly to one that is Void.
+fn put(random: &Random, now: &Writer) -> Call {
+    let nodes = now.record.nodes.min(MOST as u64) as usize;
+    let slots = (1..).zip(now.tree.chunks(25).take(nodes));
+    let void: Vec<u64> = slots
+        .filter(|(_, slot)| slot[0] == 1)
+        .map(|(number, _)| number)
+        .collect();
+    let node = match random.below(4) {
+        1..=3 if !void.is_empty() => random.pick(&void),
+        _ => random.below(nodes + 2) as u64,
+    };
     let code = match random.below(12) {
         0 => random.pick(&[0, 1, 6, 259, 1 << 32 | 3, u64::MAX]),
         // Chars and Ints leave ends that are no multiple of 8.
@@ -690,7 +710,7 @@ fn alter_and_restore(random: &Random, run: &mut Run, model: &mut Writer) {
     let calls = [middle(random, model, Style::Altered), Call::Close];
     let close = usize::from(random.one_in(12));
     add(run, model, calls[close].clone());
-    if !random.one_in(4) {
+    if !random.one_in(10) {
         add(run, model, Call::Alter(restored));
     }
 }
