@@ -109,8 +109,8 @@ int main(int argc, char **argv) {
     number = aff_lookup(OPENED, (const uint8_t *)argv[2], strlen(argv[2]), &node, &place);
     check(argv[2], number, place);
     // Type and place of the data are asked for once; each element is then decoded from there.
-    // In a file of this library's writer, offset is a multiple of 8 for every node with data, since request C-22. So in a file that is mapped at its start, its
-    // doubles are aligned. Their bytes are still big-endian. Files of other writers, or of this one before that request, may have their data at any offset: check
+    // In a file of this library's writer, offset is a multiple of 8 for every node with data, since request C-22: if the file is mapped from its start, its
+    // doubles are aligned. Their bytes are still big-endian. Files of other writers, or of this one before that request, may have data at any offset: check
     // offset % 8 before you take an address there as that of a double, or copy the bytes with memcpy. aff_decode takes bytes at any address.
     check(argv[2], aff_kind(OPENED, node, &kind), 0);
     check(argv[2], aff_view(OPENED, node, &offset, &size), 0);

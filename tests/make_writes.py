@@ -262,7 +262,7 @@ class Script:
         self.out.append("refused %d %d\n" % (number, place))
 
     def opened(self, moved=None):
-        """The buffer opened, and every answer of every node; and that it begins with the file of the tree. A node with an altered offset has the bytes there."""
+        """The buffer opened, and every answer of every node; and that it begins with the file of the tree. A node in `moved` has the bytes at its offset."""
         file, strings, full = self.layout(moved)
         assert bytes(self.w.buffer[:len(file)]) == file
         self.step("o")
