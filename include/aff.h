@@ -20,7 +20,8 @@
 //
 // Programs written for an older header, in which AFF_NUMBERS is 7, must be changed and compiled again: aff_begin takes the edition as its first argument,
 // and numbers[2] of the writer's record is the edition, so that the numbers after it have moved by one. If AFF_RECORD is 12 in the older header, the record
-// of an opening has one number more, and aff_lookup has one more output, place.
+// of an opening has one number more, and aff_lookup has one more output, place. Where the older header calls numbers[6] the bytes of data, it is now the end of
+// data, 168 more before any padding: a program that computes the file's size from it must be changed (see aff_close).
 #ifndef AFF_H
 #define AFF_H
 
@@ -160,9 +161,16 @@ uint32_t aff_decode(uint64_t kind, const uint8_t *bytes, size_t bytes_length, ui
 // ---- Writing a file of edition 2 or 3 into a buffer
 
 // The writer's record is 8 numbers and 12 bytes of form, kept. numbers[0] is what the last call reported; [1] is the buffer's length, [2] the edition,
-// [3] the number of strings, [4] of bytes of text, [5] of nodes without the root, [6] of bytes of data; [7] is 1 while the file is open, and any other
-// number means closed or stopped. Pass record, work areas and buffer to each call as the last one left them. aff_make, aff_put and aff_close first return 24
-// if they do not belong together or the recorded edition is not 2 or 3, and then 22 if the file is not open.
+// [3] the number of strings, [4] of bytes of text, [5] of nodes without the root; [6] is the end of data, the place in the buffer after the last byte put,
+// 168 while there is none; [7] is 1 while the file is open, and any other number means closed or stopped. Pass record, work areas and buffer to each call as
+// the last one left them. aff_make, aff_put and aff_close first return 24 if they do not belong together, if the recorded edition is not 2 or 3, or if the
+// recorded end of data is below 168, and then 22 if the file is not open.
+//
+// The data of each node begin at a multiple of 8 from the start of the file: aff_put stores zeros up to the next one first. So in a file mapped at a page, or
+// in a buffer at a multiple of 8, the Doubles that this library wrote are aligned (their bytes are big-endian; files of other writers need not be aligned).
+//
+// A buffer that is never too small, in whatever order the calls come: 168 bytes, 14 and the name's bytes for each aff_make, and 19 and the data's bytes for
+// each aff_put. (A name used again, and data that need fewer zeros than 7, take less.)
 //
 // An allowance is the largest number of bytes that a call may store in the buffer; UINT64_MAX is no limit. After a refusal with 23 exactly that many
 // are stored, numbers[0] is their number, numbers[7] is 0, and the work areas are unchanged; the file cannot be continued. After any other refusal only
@@ -192,14 +200,14 @@ uint32_t aff_begin(uint32_t edition, uint8_t *buffer, size_t buffer_length, cons
 uint32_t aff_make(const uint8_t *buffer, size_t buffer_length, AFF_WRITER, uint8_t *text, size_t text_length, uint8_t *tree, size_t tree_length,
     uint64_t parent, const uint8_t *name, size_t name_length);
 
-// Gives a Void node its type and its data, once; the bytes are stored as they are, so pass them big-endian. 0 bytes are an empty array. numbers[0] is
-// the number of bytes stored. Returns 15 if there is no such node, 18 for the root or a node with data, 19 for a type other than 2 to 5 or for bytes
+// Gives a Void node its type and its data, once; the bytes are stored as they are, so pass them big-endian. 0 bytes are an empty array. Zeros are stored
+// before them up to the next multiple of 8, for 0 bytes too; numbers[0] is the number of bytes stored, zeros included. Returns 15 if there is no such node, 18 for the root or a node with data, 19 for a type other than 2 to 5 or for bytes
 // that are no whole number of elements, 21 if the finished file would not fit the buffer.
 uint32_t aff_put(uint8_t *buffer, size_t buffer_length, AFF_WRITER, const uint8_t *text, size_t text_length, uint8_t *tree, size_t tree_length,
     uint64_t node, uint64_t kind, const uint8_t *bytes, size_t bytes_length, uint64_t allowance);
 
 // Finishes the file: stores strings, entries, the header from byte 1 on, and last the first byte. numbers[0] is the number of bytes stored, numbers[7]
-// is 0. The file is then the first numbers[0] + numbers[6] bytes of the buffer, and the whole buffer opens too. An open file always fits its buffer.
+// is 0. The file is then the first numbers[6] + numbers[0] - 168 bytes of the buffer (the end of data, the strings, the entries), and the whole buffer opens too. An open file always fits its buffer.
 uint32_t aff_close(uint8_t *buffer, size_t buffer_length, AFF_WRITER, const uint8_t *text, size_t text_length, const uint8_t *tree,
     size_t tree_length, uint64_t allowance);
 

@@ -12,6 +12,7 @@ use Rattle.aff_format.specs.Answer.{Answer, accepted, refused, check, refusal, 
 use Rattle.aff_format.specs.Edition.{headerSize, editionBy, namesWritten}
 use Rattle.aff_format.specs.Limits.{stringLimit, nodeLimit}
 use Rattle.aff_format.specs.Tree.{Tree}
+use Rattle.aff_format.specs.declared.edition.Edition.{Edition}
 use Rattle.aff_format.specs.declared.refusal.RefusalCode.{RefusalCode}
 use Rattle.aff_format.proofs.AnswerLaws.{check-reported}
 use Rattle.aff_open.specs.Opening.{openAnswer, stringsAfter, entriesAfter}
@@ -23,7 +24,7 @@ use Rattle.aff_tables.specs.Tables.{nodeEntry}
 use Rattle.aff_file.specs.File.{FileContents, fileOf, Lawful}
 use Rattle.aff_file.proofs.FileShowsLaws.{file-view, file-view-root}
 use Rattle.aff_write.specs.Begin.{beginLengthsWrong, beginAnswer}
-use Rattle.aff_run.specs.AnswersFromTree.{AllWrongRecord}
+use Rattle.aff_run.specs.AnswersFromTree.{closeNeeds, AllWrongRecord}
 use Rattle.aff_run.specs.BufferSize.{callsMost, NeverBy}
 use Rattle.aff_run.specs.TreeSizes.{namesFrom, entriesSize, sizeOf}
 use Rattle.aff_run.specs.Run.{State, beginStep, Run, runBegin, runStart, runAnswers, runState, runTree, runEnd, runOffsets, runClosed}
@@ -97,8 +98,14 @@ views-aligned run c = let p = placed run c in subst (ViewsOf run) (sym (p .file)
 
 -- ---- Sizes.
 
+by-stores : (e : Edition) (end : ℕ) (tree : Tree) {n : ℕ} → n ≡ sizeOf end tree → n + headerSize e ≡ end + closeNeeds e tree
+unfolding sizeOf closeNeeds
+by-stores e end tree h = omega arith
+
 files-sized : FilesSized
-files-sized run c = let p = placed run c in record { contents = p .held; rest = p .after; file = p .file; size = p .size }
+files-sized run c =
+    let p = placed run c in
+    record { contents = p .held; rest = p .after; file = p .file; size = p .size; by-close = by-stores (editionBy (run .edition)) (runEnd run) (runTree run) (p .size) }
 
 wrong-never : (answers : List (Answer ℕ)) → AllWrongRecord answers → NeverBy 21 answers
 wrong-never [] h = tt

@@ -13,6 +13,7 @@ use Rattle.aff_reader.specs.declared.reader.Reader.{Reader}
 use Rattle.aff_reader.specs.declared.reader.Span.{Span}
 use Rattle.aff_nodes.specs.Answers.{viewAnswer}
 use Rattle.aff_file.specs.File.{FileContents, fileOf}
+use Rattle.aff_run.specs.AnswersFromTree.{closeNeeds}
 use Rattle.aff_run.specs.BufferSize.{callsMost, NeverBy, putsCount, putsBytes}
 use Rattle.aff_run.specs.TreeSizes.{sizeOf}
 use Rattle.aff_run.specs.Run.{Run, runBegin, runAnswers, runState, runTree, runEnd, runOffsets, runClosed}
@@ -42,6 +43,9 @@ pub record FileSized (run : Run) : Type 0 where
   pub rest : List ℕ
   pub file : runState run .buffer ≡ fileOf (editionBy (run .edition)) contents (run .form) ++ rest
   pub size : length (fileOf (editionBy (run .edition)) contents (run .form)) ≡ sizeOf (runEnd run) (runTree run)
+  -- So it is the end of data and the stores that the accepted close reported, less the header: what include/aff.h gives as the size of the file.
+  pub by-close : length (fileOf (editionBy (run .edition)) contents (run .form)) + headerSize (editionBy (run .edition))
+      ≡ runEnd run + closeNeeds (editionBy (run .edition)) (runTree run)
 
 abbrev pub FilesSized : Type 0
 FilesSized = (run : Run) → runClosed run ≡ true → FileSized run

@@ -44,6 +44,10 @@ placed : (n : ℕ) (w : Writer) → getD (numbersBy n w) 2 0 ≡ w .edition
 unfolding numbersBy
 placed n w = refl
 
+end-placed : (n : ℕ) (w : Writer) → getD (numbersBy n w) 6 0 ≡ w .end
+unfolding numbersBy
+end-placed n w = refl
+
 module _ (image form strings entries output : List ℕ) {r : Reader} (long : 13 ≤ length output)
     (h : openAnswer image form (length strings) (length entries) ≡ accepted r) where
   -- The edition of an opened image is one that exists: its number is at most 3.
@@ -81,6 +85,7 @@ records-in-c =
       writer-kept = kept;
       reader-kept = opened-kept;
       edition-at = placed;
+      end-at = end-placed;
       opened-edition-at = opened-placed;
       edition-wide = no-writer;
       opened-edition-wide = no-reader;

@@ -21,6 +21,8 @@ pub record RecordsInC : Type 0 where
       → openAnswer image form (length strings) (length entries) ≡ accepted r → readerIn (take 12 (recordLeft image form strings entries output)) ≡ r
   -- include/aff.h: the edition is numbers[2] of a writer, and record[2] of an accepted opening.
   pub edition-at : (n : ℕ) (w : Writer) → getD (numbersBy n w) 2 0 ≡ w .edition
+  -- The end of data is numbers[6] of a writer (request C-22).
+  pub end-at : (n : ℕ) (w : Writer) → getD (numbersBy n w) 6 0 ≡ w .end
   pub opened-edition-at : (image form strings entries output : List ℕ) {r : Reader} → 13 ≤ length output
       → openAnswer image form (length strings) (length entries) ≡ accepted r → getD (recordLeft image form strings entries output) 2 0 ≡ r .edition
   -- An edition above 32 bits is none: 24 for the writer, and 24 for the reader.

@@ -25,13 +25,13 @@ writerIn l form =
       strings = getD l 3 0;
       text = getD l 4 0;
       nodes = getD l 5 0;
-      «data» = getD l 6 0;
+      end = getD l 6 0;
       live = eqb (getD l 7 0) 1;
     }
 
 -- What a call reported and a record as 8 numbers.
 unfoldable pub numbersBy : ℕ → Writer → List ℕ
-numbersBy reported w = reported ∷ w .length ∷ w .edition ∷ w .strings ∷ w .text ∷ w .nodes ∷ w .«data» ∷ cond (w .live) 1 0 ∷ []
+numbersBy reported w = reported ∷ w .length ∷ w .edition ∷ w .strings ∷ w .text ∷ w .nodes ∷ w .end ∷ cond (w .live) 1 0 ∷ []
 
 -- What an answer reports: its value, or the refusal's place.
 abbrev pub reportedNumber : Answer ℕ → ℕ

@@ -27,7 +27,7 @@ fn writer_of(numbers: &[u64; 8], kept: &[u8; 12]) -> Writer
         strings: numbers[3] as usize,
         text: numbers[4] as usize,
         nodes: numbers[5] as usize,
-        data: numbers[6] as usize,
+        end: numbers[6] as usize,
         live: numbers[7] == 1,
     }
 }
@@ -48,7 +48,7 @@ fn numbers_by(reported: usize, writer: Writer) -> [u64; 8]
         writer.strings as u64,
         writer.text as u64,
         writer.nodes as u64,
-        writer.data as u64,
+        writer.end as u64,
         flag(writer.live),
     ]
 }
