@@ -1,12 +1,12 @@
--- Where the data of a run stand: the file that a close makes has the entries of the run, whose offsets are aligned and are those described, and a view begins where the
--- entry of its node says. The bounds are those of the calls. Assumes nothing.
+-- Where the data of a run are: the file that a close makes is the one described; its entries have aligned offsets, those described, and a view begins where the entry of
+-- its node says. The bounds are those of the calls. Assumes nothing.
 use mathlib.Core.Path.{_≡_, refl, sym, ap, _∙_, subst}
 use mathlib.Core.Bool.{Bool, true, false, not, true≢false}
 use mathlib.Core.List.{List, [], _∷_, _++_, map}
 use Prim.Native.Nat.{ℕ, zero, suc, _+_, _-_, _%_, _≤_, _<_}
 use native.Mathlib.Omega.{arith}
 use lib.Dec.{eqb, ltb}
-use lib.ListN.{length, getD}
+use lib.ListN.{length, getD, length-map}
 use borrow.Author.Tests.{eqb-true, eqb-false, eq-eqb, le-ltb}
 use Rattle.aff_format.specs.Answer.{Answer, accepted, refused, check, refusal, refusalAt}
 use Rattle.aff_format.specs.Edition.{headerSize, editionBy, namesWritten}
@@ -14,6 +14,7 @@ use Rattle.aff_format.specs.Limits.{stringLimit, nodeLimit}
 use Rattle.aff_format.specs.Tree.{Tree}
 use Rattle.aff_format.specs.declared.edition.Edition.{Edition}
 use Rattle.aff_format.specs.declared.refusal.RefusalCode.{RefusalCode}
+use Rattle.aff_format.proofs.AlignLaws.{next-multiple}
 use Rattle.aff_format.proofs.AnswerLaws.{check-reported}
 use Rattle.aff_open.specs.Opening.{openAnswer, stringsAfter, entriesAfter}
 use Rattle.aff_open.specs.Rules.{EachNode}
@@ -25,52 +26,55 @@ use Rattle.aff_file.specs.File.{FileContents, fileOf, Lawful}
 use Rattle.aff_file.proofs.FileShowsLaws.{file-view, file-view-root}
 use Rattle.aff_write.specs.Begin.{beginLengthsWrong, beginAnswer}
 use Rattle.aff_run.specs.AnswersFromTree.{closeNeeds, AllWrongRecord}
-use Rattle.aff_run.specs.BufferSize.{callsMost, NeverBy}
+use Rattle.aff_run.specs.BufferSize.{mostAddedBy, NoneBy}
+use Rattle.aff_run.specs.DescribedFile.{describedContents}
 use Rattle.aff_run.specs.TreeSizes.{namesFrom, entriesSize, sizeOf}
-use Rattle.aff_run.specs.Run.{State, beginStep, Run, runBegin, runStart, runAnswers, runState, runTree, runEnd, runOffsets, runClosed}
+use Rattle.aff_run.specs.Run.{State, DataLayout, noData, beginStep, Run, runBegin, runStart, runAnswers, runState, runTree, runLayout, runClosed}
 use Rattle.aff_run.proofs.AnswersFromTreeLaws.{run-from-tree, run-spent, run-refused}
 use Rattle.aff_run.proofs.BeginInvariantLaws.{no-size}
 use Rattle.aff_run.proofs.BeginRefusedLaws.{none-closed}
-use Rattle.aff_run.proofs.BufferSizeLaws.{end-least, end-most, answers-fit}
+use Rattle.aff_run.proofs.BufferSizeLaws.{end-least, end-most, most-swapped, answers-fit}
 use Rattle.aff_run.proofs.ClosedLaws.{contents, rest, closed, closed-is, lawful, length-closed}
+use Rattle.aff_run.proofs.DescribedFileLaws.{contents-described}
 use Rattle.aff_run.proofs.InvariantLaws.{Invariant, offsetOf, offset-at, stored-in, count-same}
 use Rattle.aff_run.proofs.StepLaws.{run-buffer}
 use Rattle.aff.specs.Demand1.{NotBy}
-use Rattle.aff.specs.DataPlaces.{ViewPlaced, ViewsAligned, FileSized, FilesSized, BufferSuffices, DataPlaces}
+use Rattle.aff.specs.DataPlaces.{ViewPlaced, ViewsAligned, FilesDescribed, BufferSuffices, DataPlaces}
 use Rattle.aff.proofs.Demand3Laws.{all-holds}
 
 -- ---- The file of a run.
 
--- A buffer is a file of these places and this size, and then the bytes after it.
-record Placed (edition : ℕ) (buffer form : List ℕ) (tree : Tree) (offsets : List ℕ) (end : ℕ) : Type 0 where
+-- A buffer is the file of a tree and a layout, and then the bytes after it; each offset in it is a multiple of 8.
+record Placed (edition : ℕ) (buffer form : List ℕ) (tree : Tree) (layout : DataLayout) : Type 0 where
   held : FileContents
   after : List ℕ
   held-lawful : Lawful (editionBy edition) held form (length after)
   file : buffer ≡ fileOf (editionBy edition) held form ++ after
-  size : length (fileOf (editionBy edition) held form) ≡ sizeOf end tree
-  places : map offsetOf (held .entries) ≡ offsets
+  size : length (fileOf (editionBy edition) held form) ≡ sizeOf (layout .end) tree
+  described : held ≡ describedContents tree layout
+  places : map offsetOf (held .entries) ≡ layout .offsets
   multiples : EachNode (held .entries) (λ k. nodeEntry (held .entries) k .offset % 8 ≡ 0)
 
-closed-placed : (s : State) (tree : Tree) (offsets : List ℕ) (g : Invariant s tree offsets)
-    → Placed (s .writer .edition) (closed s tree g) (s .writer .form) tree offsets (s .writer .end)
+closed-placed : (s : State) (tree : Tree) (layout : DataLayout) (g : Invariant s tree layout) → Placed (s .writer .edition) (closed s tree g) (s .writer .form) tree layout
 unfolding contents
-closed-placed s tree offsets g =
+closed-placed s tree layout g =
     record {
       held = contents s tree g;
       after = rest s tree g;
       held-lawful = lawful s tree g;
       file = closed-is s tree g;
-      size = length-closed s tree g;
+      size = length-closed s tree g ∙ ap (λ (end : ℕ). sizeOf end tree) (g .end-is);
+      described = contents-described s tree g;
       places = g .offsets-are;
       multiples = λ k lo hi. stored-in s tree g k lo (omega (arith, count-same s tree g)) .offset-aligned;
     }
 
 placed-by : (a : Answer ℕ) (run : Run) → runBegin run .answer ≡ a → runClosed run ≡ true
-    → Placed (run .edition) (runState run .buffer) (run .form) (runTree run) (runOffsets run) (runEnd run)
+    → Placed (run .edition) (runState run .buffer) (run .form) (runTree run) (runLayout run)
 placed-by (accepted n) run h c = rw (run-buffer run) (all-holds run h Placed closed-placed c)
 placed-by (refused t) run h c = absurd (true≢false (sym c ∙ none-closed run t h))
 
-placed : (run : Run) → runClosed run ≡ true → Placed (run .edition) (runState run .buffer) (run .form) (runTree run) (runOffsets run) (runEnd run)
+placed : (run : Run) → runClosed run ≡ true → Placed (run .edition) (runState run .buffer) (run .form) (runTree run) (runLayout run)
 placed run c = placed-by (runBegin run .answer) run refl c
 
 -- ---- Views.
@@ -81,40 +85,51 @@ ViewsOf run buffer = (r : Reader) → openAnswer buffer (run .form) stringLimit 
     → (strings entries : List ℕ) → length strings ≡ stringLimit → length entries ≡ nodeLimit → (n : ℕ) (view : Span)
     → viewAnswer buffer r (stringsAfter buffer (run .form) strings entries) (entriesAfter buffer (run .form) strings entries) n ≡ accepted view → ViewPlaced run n view
 
-module _ (run : Run) (p : Placed (run .edition) (runState run .buffer) (run .form) (runTree run) (runOffsets run) (runEnd run)) where
+module _ (run : Run) (p : Placed (run .edition) (runState run .buffer) (run .form) (runTree run) (runLayout run)) where
   file-views : ViewsOf run (fileOf (editionBy (run .edition)) (p .held) (run .form) ++ p .after)
   file-views r h strings entries a b zero view v =
       let z = file-view-root (editionBy (run .edition)) (p .held) (run .form) (p .after) (p .held-lawful) h strings entries a b v in
-      record { multiple = rw z; place = λ lo. absurd (omega arith) }
+      record { multiple = rw z; described = λ lo. absurd (omega arith); place = λ lo. absurd (omega arith) }
   file-views r h strings entries a b (suc k) view v =
       let (hi, is) = file-view (editionBy (run .edition)) (p .held) (run .form) (p .after) (p .held-lawful) h strings entries a b (suc k) v (omega arith) in
       record {
         multiple = rw is (p .multiples (suc k) (omega arith) hi);
+        described = λ lo. omega (arith, hi, ap length (p .places), length-map (p .held .entries) offsetOf);
         place = λ lo. is ∙ offset-at (p .held .entries) (suc k) lo ∙ ap (λ (l : List ℕ). getD l (suc k - 1) 0) (p .places);
       }
 
 views-aligned : ViewsAligned
 views-aligned run c = let p = placed run c in subst (ViewsOf run) (sym (p .file)) (file-views run p)
 
--- ---- Sizes.
+-- ---- The file.
 
 by-stores : (e : Edition) (end : ℕ) (tree : Tree) {n : ℕ} → n ≡ sizeOf end tree → n + headerSize e ≡ end + closeNeeds e tree
 unfolding sizeOf closeNeeds
 by-stores e end tree h = omega arith
 
-files-sized : FilesSized
-files-sized run c =
+files-described : FilesDescribed
+files-described run c =
     let p = placed run c in
-    record { contents = p .held; rest = p .after; file = p .file; size = p .size; by-close = by-stores (editionBy (run .edition)) (runEnd run) (runTree run) (p .size) }
+    let e = editionBy (run .edition) in
+    record {
+      file = fileOf e (p .held) (run .form);
+      rest = p .after;
+      is = ap (λ (x : FileContents). fileOf e x (run .form)) (p .described);
+      buffer = p .file;
+      size = p .size;
+      by-close = by-stores e (runLayout run .end) (runTree run) (p .size);
+    }
 
-wrong-never : (answers : List (Answer ℕ)) → AllWrongRecord answers → NeverBy 21 answers
+-- ---- The buffer.
+
+wrong-never : (answers : List (Answer ℕ)) → AllWrongRecord answers → NoneBy 21 answers
 wrong-never [] h = tt
 wrong-never (a ∷ answers) h = (other a (h .0), wrong-never answers (h .1))
   where
     other : (a : Answer ℕ) → a ≡ refused (refusal 24) → NotBy 21 a
     other a e t g n = let q : refusal 24 ≡ t = cc in let z : _≡_ {A = ℕ} 24 21 = ap (λ (x : RefusalCode). x .number) q ∙ n in omega arith
 
-module _ (run : Run) (f : headerSize (editionBy (run .edition)) + callsMost (run .calls) ≤ length (run .buffer)) where
+module _ (run : Run) (f : headerSize (editionBy (run .edition)) + mostAddedBy (run .calls) ≤ length (run .buffer)) where
   begin-never : NotBy 21 (runBegin run .answer)
   unfolding beginStep beginAnswer
   begin-never t h n =
@@ -123,15 +138,15 @@ module _ (run : Run) (f : headerSize (editionBy (run .edition)) + callsMost (run
       refl (ltb (length (run .buffer)) (headerSize (editionBy (run .edition)))) (refusal 21) (check (ltb (run .allowance) 1) (refusalAt 23 (run .allowance)) ∷ []) refl 1 h (eq-eqb (t .number) 21 n) in
       true≢false (sym (q .1) ∙ le-ltb (length (run .buffer)) (headerSize (editionBy (run .edition))) (omega arith))
 
-  size-now : sizeOf (headerSize (editionBy (run .edition))) [] + callsMost (run .calls) ≤ length (run .buffer)
+  size-now : sizeOf (headerSize (editionBy (run .edition))) [] + mostAddedBy (run .calls) ≤ length (run .buffer)
   size-now = omega (arith, no-size (headerSize (editionBy (run .edition))))
 
-  never-by : (a : Answer ℕ) → runBegin run .answer ≡ a → NeverBy 21 (runAnswers run)
+  never-by : (a : Answer ℕ) → runBegin run .answer ≡ a → NoneBy 21 (runAnswers run)
   never-by (accepted n) h =
       answers-fit (run .calls) (runStart run) (editionBy (run .edition)) (length (run .buffer)) false (headerSize (editionBy (run .edition))) [] size-now (run-from-tree run h)
   never-by (refused t) h = go (eqb (t .number) 23) refl
     where
-      go : (b : Bool) → eqb (t .number) 23 ≡ b → NeverBy 21 (runAnswers run)
+      go : (b : Bool) → eqb (t .number) 23 ≡ b → NoneBy 21 (runAnswers run)
       go true e =
           answers-fit (run .calls) (runStart run) (editionBy (run .edition)) (length (run .buffer)) true (headerSize (editionBy (run .edition))) [] size-now (run-spent run t h e)
       go false e = wrong-never (runAnswers run) (run-refused run t h e .0)
@@ -142,10 +157,12 @@ buffer-suffices run f = (begin-never run f, never-by run f (runBegin run .answer
 pub data-places : DataPlaces
 data-places =
     record {
+      next-multiple = next-multiple;
       views-aligned = views-aligned;
-      files-sized = files-sized;
+      files-described = files-described;
       end-bounds = λ run.
-          let header = headerSize (editionBy (run .edition)) in
-          record { least = end-least header (run .calls) (runAnswers run); most = end-most header (run .calls) (runAnswers run) };
+          let none = noData (headerSize (editionBy (run .edition))) in
+          record { least = end-least none (run .calls) (runAnswers run); most = end-most none (run .calls) (runAnswers run) };
       buffer-suffices = buffer-suffices;
+      in-any-order = most-swapped;
     }

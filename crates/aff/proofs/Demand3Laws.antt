@@ -9,7 +9,7 @@ use lib.ListN.{length, getD, set, take}
 use lib.Seq.{take-length, getD-set-same}
 use borrow.Author.Tests.{le-ltb}
 use Rattle.aff_format.specs.Answer.{Answer, accepted, refused, refusal}
-use Rattle.aff_format.specs.Edition.{signatureText, headerSize, leastHeader, isKnown}
+use Rattle.aff_format.specs.Edition.{signatureText, headerSize, leastHeader, isKnown, editionBy}
 use Rattle.aff_format.specs.declared.edition.Edition.{Edition}
 use Rattle.aff_format.specs.declared.edition.FoundEdition.{FoundEdition}
 use Rattle.aff_format.specs.declared.edition.FoundEdition.the-variants.{Known, Unknown}
@@ -26,9 +26,9 @@ use Rattle.aff_areas.specs.Stores.{Store, applyStores}
 use Rattle.aff_areas.specs.Writer.{writerEdition}
 use Rattle.aff_areas.proofs.StoreLaws.{apply-append, apply-length}
 use Rattle.aff_run.specs.TreeSizes.{nonVoidCount, sizeOf}
-use Rattle.aff_run.specs.Run.{State, storesOf, endAfter, offsetsAfter, Run, runBegin, runStart, runAnswers, runStores, runState, runTree, runEnd, runOffsets, runClosed}
+use Rattle.aff_run.specs.Run.{State, storesOf, DataLayout, noData, Run, runBegin, runStart, runStores, runState, runTree, runLayout, runClosed}
 use Rattle.aff_read.specs.Shows.{Shows}
-use Rattle.aff_run.proofs.BeginInvariantLaws.{begin-invariant, begin-edition, begin-end, begin-form, begin-stores}
+use Rattle.aff_run.proofs.BeginInvariantLaws.{begin-invariant, begin-edition, begin-form, begin-stores}
 use Rattle.aff_run.proofs.BeginRefusedLaws.{none-run, none-closed}
 use Rattle.aff_run.proofs.ClosedLaws.{contents, rest, lawful, tree-held, closed, closed-is, closed-shows, closed-counts}
 use Rattle.aff_run.proofs.CutLaws.{cut-run-stores, cut-run-buffer, cut-begin, cut-run-answers-before, cut-begin-out, cut-run-answer-out}
@@ -92,7 +92,7 @@ module _ (run : Run) {n : ℕ} (h : runBegin run .answer ≡ accepted n) where
   abbrev later : List Store
   later = storesOf (runStart run) (run .calls)
 
-  kept : Invariant (runStart run) [] []
+  kept : Invariant (runStart run) [] (noData (headerSize (editionBy (run .edition))))
   kept = begin-invariant run h
 
   sizes : (leastHeader ≤ length (run .buffer)) × (length (run .buffer) ≤ imageLimit) × (length (run .form) ≡ 12)
@@ -103,19 +103,17 @@ module _ (run : Run) {n : ℕ} (h : runBegin run .answer ≡ accepted n) where
       (omega (arith, kept .fits, kept .after-header, kept .buffer-length, header-least (writerEdition (runStart run .writer))), omega (arith, kept .buffer-length, kept .buffer-allowed), f)
 
   -- What holds of each closed buffer holds of the buffer after all stores.
-  pub all-holds : (P : ℕ → List ℕ → List ℕ → Tree → List ℕ → ℕ → Type 0)
-      → ((s : State) (tree : Tree) (offsets : List ℕ) (g : Invariant s tree offsets) → P (s .writer .edition) (closed s tree g) (s .writer .form) tree offsets (s .writer .end))
-      → runClosed run ≡ true → P (run .edition) (applyStores (run .buffer) (runStores run)) (run .form) (runTree run) (runOffsets run) (runEnd run)
+  pub all-holds : (P : ℕ → List ℕ → List ℕ → Tree → DataLayout → Type 0)
+      → ((s : State) (tree : Tree) (layout : DataLayout) (g : Invariant s tree layout) → P (s .writer .edition) (closed s tree g) (s .writer .form) tree layout)
+      → runClosed run ≡ true → P (run .edition) (applyStores (run .buffer) (runStores run)) (run .form) (runTree run) (runLayout run)
   all-holds P closes c =
       let all = applyStores (run .buffer) (runStores run) in
       let begun = runStart run .writer in
-      let holds : ℕ → List ℕ → List ℕ → ℕ → Type 0 = λ e r f end.
-      P e r f (runTree run) (offsetsAfter end [] (run .calls) (runAnswers run)) (endAfter end (run .calls) (runAnswers run)) in
-      subst (holds (run .edition) all (run .form)) (begin-end run h)
-      (subst (λ (e : ℕ). holds e all (run .form) (begun .end)) (begin-edition run h)
-      (subst (λ (f : List ℕ). holds (begun .edition) all f (begun .end)) (begin-form run h)
-      (subst (λ (r : List ℕ). holds (begun .edition) r (begun .form) (begun .end)) (sym (apply-append (run .buffer) (runBegin run .stores) later))
-      (run-holds P closes (run .calls) (runStart run) [] [] kept c))))
+      let holds : ℕ → List ℕ → List ℕ → Type 0 = λ e r f. P e r f (runTree run) (runLayout run) in
+      subst (λ (e : ℕ). holds e all (run .form)) (begin-edition run h)
+      (subst (λ (f : List ℕ). holds (begun .edition) all f) (begin-form run h)
+      (subst (λ (r : List ℕ). holds (begun .edition) r (begun .form)) (sym (apply-append (run .buffer) (runBegin run .stores) later))
+      (run-holds P closes (run .calls) (runStart run) [] (noData (headerSize (editionBy (run .edition)))) kept c)))
 
   all-is : runStores run ≡ record { at = 0; byte = 0 } ∷ later
   all-is = ap (λ (b : List Store). b ++ later) (begin-stores run h)
@@ -145,7 +143,7 @@ module _ (run : Run) {n : ℕ} (h : runBegin run .answer ≡ accepted n) where
       record {
         none-made = λ q. rw q;
         all-left = all-buffer run k;
-        all-made = λ q c. rw (all-stored run k q) (all-holds (λ _ buffer form tree _ _. Shows buffer form tree) (λ s tree offsets g. closed-shows s tree g) c);
+        all-made = λ q c. rw (all-stored run k q) (all-holds (λ _ buffer form tree _. Shows buffer form tree) (λ s tree layout g. closed-shows s tree g) c);
         otherwise = refused-3 k le;
       }
 
@@ -168,7 +166,7 @@ demand3-cut run k =
     }
 
 counted-by : (a : Answer ℕ) (run : Run) → runBegin run .answer ≡ a → runClosed run ≡ true → Counted (runState run .buffer) (run .form) (runTree run)
-counted-by (accepted n) run h c = rw (run-buffer run) (all-holds run h (λ _ buffer form tree _ _. Counted buffer form tree) (λ s tree offsets g. closed-counts s tree g) c)
+counted-by (accepted n) run h c = rw (run-buffer run) (all-holds run h (λ _ buffer form tree _. Counted buffer form tree) (λ s tree layout g. closed-counts s tree g) c)
 counted-by (refused t) run h c = absurd (true≢false (sym c ∙ none-closed run t h))
 
 pub data-counted : DataCounted
@@ -176,8 +174,8 @@ data-counted run c = counted-by (runBegin run .answer) run refl c
 
 -- ---- The finished file.
 
-file-written : (s : State) (tree : Tree) (offsets : List ℕ) (g : Invariant s tree offsets) → FileWritten (s .writer .edition) (closed s tree g) (s .writer .form) tree
-file-written s tree offsets g =
+file-written : (s : State) (tree : Tree) (layout : DataLayout) (g : Invariant s tree layout) → FileWritten (s .writer .edition) (closed s tree g) (s .writer .form) tree
+file-written s tree layout g =
     record {
       contents = contents s tree g;
       rest = rest s tree g;
@@ -187,7 +185,7 @@ file-written s tree offsets g =
     }
 
 made-by : (a : Answer ℕ) (run : Run) → runBegin run .answer ≡ a → runClosed run ≡ true → FileWritten (run .edition) (runState run .buffer) (run .form) (runTree run)
-made-by (accepted n) run h c = rw (run-buffer run) (all-holds run h (λ edition buffer form tree _ _. FileWritten edition buffer form tree) file-written c)
+made-by (accepted n) run h c = rw (run-buffer run) (all-holds run h (λ edition buffer form tree _. FileWritten edition buffer form tree) file-written c)
 made-by (refused t) run h c = absurd (true≢false (sym c ∙ none-closed run t h))
 
 pub file-made : FileMade

@@ -35,9 +35,8 @@ use Rattle.aff_areas.specs.Writer.{writerEdition, dataPlace, dataSize}
 use Rattle.aff_areas.proofs.StoreLaws.{apply-length}
 use Rattle.aff_write.specs.Begin.{beginLengthsWrong, beginAnswer}
 use Rattle.aff_run.specs.TreeSizes.{withChild, addName, namesFrom, namesOf, entriesSize, nonVoidCount, sizeOf}
-use Rattle.aff_write.specs.Put.{putPlace}
 use Rattle.aff_run.specs.AnswersFromTree.{hasChild, tooLarge, closeNeeds, callAnswer, stops, AnswersFromTree}
-use Rattle.aff_run.specs.Run.{Call, make, put, close, State, step, afterCall, storesOf, beginStep, isAccepted, applyCall, callEnd, treeAfter, closedBy, Run, runBegin, runStart, runAnswers, runStores, runTree, runClosed}
+use Rattle.aff_run.specs.Run.{Call, make, put, close, State, step, afterCall, storesOf, beginStep, isAccepted, applyCall, DataLayout, noData, callEnd, layoutAfter, treeAfter, closedBy, Run, runBegin, runStart, runAnswers, runStores, runTree, runClosed}
 use Rattle.aff_read.specs.Shows.{Shows}
 use Rattle.aff_run.proofs.BeginInvariantLaws.{begin-invariant, begin-edition, begin-end, begin-form, begin-stores}
 use Rattle.aff_run.proofs.ClosedLaws.{contents, rest, closed, closed-is, closed-buffer}
@@ -156,7 +155,7 @@ file-is One w = absurd-bool w
 file-is Two w = rw (front-2, header-digest-2)
 file-is Three w = rw (front-3, header-digest-3)
 
-module _ (e : Edition) (w : isWritten e ≡ true) (s : State) {offsets : List ℕ} (g : Invariant s workedTree offsets) (is : writerEdition (s .writer) ≡ e) (f : s .writer .form ≡ workedForm e)
+module _ (e : Edition) (w : isWritten e ≡ true) (s : State) {layout : DataLayout} (g : Invariant s workedTree layout) (is : writerEdition (s .writer) ≡ e) (f : s .writer .form ≡ workedForm e)
     (d : s .writer .end ≡ 172) (n : length (s .buffer) ≡ 214) where
   -- Four bytes of data, from 168 on.
   worked-size : dataSize (s .writer) ≡ 4
@@ -257,7 +256,8 @@ module _ (e : Edition) (w : isWritten e ≡ true) (buffer text tree : List ℕ) 
   abbrev s₃ : State
   s₃ = afterCall s₂ (put 2 3 minusSeventy puts)
 
-  kept : Invariant s₃ workedTree (0 ∷ putPlace (s₂ .writer) ∷ [])
+  kept : Invariant s₃ workedTree (layoutAfter (noData (headerSize (editionBy (it .edition)))) (make 0 nameA ∷ make 1 nameN ∷ put 2 3 minusSeventy puts ∷ [])
+      (accepted 1 ∷ accepted 2 ∷ accepted 4 ∷ []))
   kept =
       let g₀ = begin-invariant it worked-begins in
       let g₁ = made-invariant s₀ [] g₀ 0 nameA (answer-at 0) in

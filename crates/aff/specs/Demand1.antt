@@ -33,7 +33,7 @@ use Rattle.aff_make.specs.Make.{makeAnswer}
 use Rattle.aff_write.specs.Put.{putAnswer}
 use Rattle.aff_run.specs.AnswersFromTree.{AnswersFromTree, AllWrongRecord, stops}
 use Rattle.aff_run.specs.AreasHold.{AreasHold}
-use Rattle.aff_run.specs.Run.{Call, make, put, close, State, step, Run, runBegin, runAnswers, runStores, runState, runTree, runEnd, runOffsets}
+use Rattle.aff_run.specs.Run.{Call, make, put, close, State, step, Run, runBegin, runAnswers, runStores, runState, runTree, runLayout}
 use Rattle.aff.specs.Leaves.{OpeningLeaves, ReadingLeaves, BeginLeaves, WritingLeaves}
 use Rattle.aff_format.specs.Rule.{By, Is}
 use Rattle.aff.specs.Rules.{decodeRules, ReadingByRules, beginRules, WritingByRules}
@@ -139,4 +139,4 @@ pub record Demand1 : Type 0 where
   pub reports : (s : State) (c : Call) → length (step s c .stores) ≡ callStores c (step s c .answer)
   -- The areas of a run: the text area holds the strings so far, each with its zero, the tree area each node's entry; zeros after them. Where the data end, and where
   -- those of each node begin, is what the calls describe.
-  pub areas : (run : Run) {n : ℕ} → runBegin run .answer ≡ accepted n → AreasHold (run .edition) (runTree run) (runEnd run) (runOffsets run) (runState run)
+  pub areas : (run : Run) {n : ℕ} → runBegin run .answer ≡ accepted n → AreasHold (run .edition) (runTree run) (runLayout run) (runState run)

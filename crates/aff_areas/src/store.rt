@@ -6,7 +6,7 @@ ghost use lib.ListN.{length, take};
 ghost use Rattle.aff_areas.specs.Stores.{applyStores, storesFrom};
 
 // Stores bytes ascending from a place on, at most as many as allowed. It answers how many it stored.
-pub fn store(buffer: &mut [u8], at: usize, bytes: &[u8], allowance: usize) -> usize
+fn store(buffer: &mut [u8], at: usize, bytes: &[u8], allowance: usize) -> usize
     requires { ⌜ at + length (now bytes) ≤ length (now buffer) ⌝ }
     ensures made { λ r. ⌜ r ≡ length (take allowance (now (bytes .entry))) ⌝ }
     ensures buffer { λ _. ⌜ now (buffer .exit) ≡ applyStores (now (buffer .entry)) (take allowance (storesFrom at (now (bytes .entry)))) ⌝ }

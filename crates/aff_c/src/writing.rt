@@ -1,6 +1,6 @@
 // Writing for programs in C and Rust: begin, make a child, put data, close, as include/aff.h declares them. The record is 8 numbers and the 12 bytes of
 // form. The numbers are what the last call returned (the bytes stored, the new node, or a refusal's place), the buffer's length, the edition, strings, bytes of
-// text, nodes, bytes of data, and 1 while the file is neither closed nor stopped. Each function returns 0 where the call is accepted, else the
+// text, nodes, end of data, and 1 while the file is neither closed nor stopped. Each function returns 0 where the call is accepted, else the
 // refusal's number.
 use crate::reading;
 use aff_format::NumberAnswer;

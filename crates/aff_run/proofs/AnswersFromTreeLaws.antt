@@ -38,7 +38,7 @@ use Rattle.aff_make.specs.Make.{addedText, tooMany, isChild, childExists, child
 use Rattle.aff_write.specs.Put.{takesNone, wrongData, dataKind, putPlace, putStores, dataChecks}
 use Rattle.aff_run.specs.TreeSizes.{withChild, withData, sizeOf}
 use Rattle.aff_run.specs.AnswersFromTree.{hasChild, tooLarge, closeNeeds, callChecks, callValue, callAnswer, stops, AnswersFromTree, AllWrongRecord}
-use Rattle.aff_run.specs.Run.{Call, make, put, close, State, Step, step, afterCall, answersOf, beginStep, isAccepted, applyCall, callEnd, Run, runBegin, runStart, runAnswers, runStores}
+use Rattle.aff_run.specs.Run.{Call, make, put, close, State, Step, step, afterCall, answersOf, beginStep, isAccepted, applyCall, DataLayout, noData, callEnd, Run, runBegin, runStart, runAnswers, runStores}
 use Rattle.aff_run.proofs.BeginRefusedLaws.{begin-spent, asleep, none-run}
 use Rattle.aff_run.proofs.InvariantLaws.{Invariant, used-text, names-in, entry-in, stored-in, name-in, entries-in, sizes-in-bytes, size-in, invariant-belongs}
 use Rattle.aff_run.proofs.NamesLaws.{names-snoc}
@@ -80,7 +80,7 @@ stores-length p q x e h l =
 
 -- ---- In a state with the invariant.
 
-module _ (s : State) (tree : Tree) {offsets : List ℕ} (g : Invariant s tree offsets) where
+module _ (s : State) (tree : Tree) {layout : DataLayout} (g : Invariant s tree layout) where
   it-belongs : belongsIn s ≡ true
   it-belongs = record-belongs (invariant-belongs s tree g)
 
@@ -232,15 +232,15 @@ sleeps-belong s t z b =
 
 -- What is shown of a list of calls, from any state with the invariant.
 abbrev AnswersFrom : List Call → Type 0
-AnswersFrom cs = (s : State) (tree : Tree) (offsets : List ℕ) → Invariant s tree offsets
+AnswersFrom cs = (s : State) (tree : Tree) (layout : DataLayout) → Invariant s tree layout
     → AnswersFromTree (writerEdition (s .writer)) (length (s .buffer)) false (s .writer .end) tree cs (answersOf s cs)
 
-module _ (s : State) (tree : Tree) (offsets : List ℕ) (g : Invariant s tree offsets) (c : Call) (cs : List Call) (later : AnswersFrom cs) where
+module _ (s : State) (tree : Tree) (layout : DataLayout) (g : Invariant s tree layout) (c : Call) (cs : List Call) (later : AnswersFrom cs) where
   -- The same, after call c.
   abbrev AnswersAfter : Bool → ℕ → ℕ → ℕ → Tree → Type 0
   AnswersAfter asleep edition size end after = AnswersFromTree (editionBy edition) size asleep end after cs (answersOf (afterCall s c) cs)
 
-  by-step : Outcome s tree offsets c
+  by-step : Outcome s tree layout c
       → AnswersAfter (stops c (step s c .answer)) (s .writer .edition) (length (s .buffer)) (callEnd (s .writer .end) c (isAccepted (step s c .answer)))
       (applyCall tree c (isAccepted (step s c .answer)))
   by-step (goesOn e kept rest) =
@@ -256,8 +256,8 @@ module _ (s : State) (tree : Tree) (offsets : List ℕ) (g : Invariant s tree of
       (sleeps-belong s (step s c) z (it-belongs s tree g)))
 
 answers-run : (cs : List Call) → AnswersFrom cs
-answers-run [] s tree offsets g = tt
-answers-run (c ∷ cs) s tree offsets g = (step-answer s tree g c, by-step s tree offsets g c cs (answers-run cs) (outcome s tree g c))
+answers-run [] s tree layout g = tt
+answers-run (c ∷ cs) s tree layout g = (step-answer s tree g c, by-step s tree layout g c cs (answers-run cs) (outcome s tree g c))
 
 -- ---- A whole run, by what its begin answers.
 
@@ -280,7 +280,7 @@ module _ (run : Run) where
       subst (AnswersIn false (run .edition) (length (run .buffer))) (begin-end run h)
       (subst (λ (n : ℕ). AnswersIn false n (length (run .buffer)) (begun .end)) (begin-edition run h)
       (subst (λ (r : ℕ). AnswersIn false (begun .edition) r (begun .end)) (apply-length (run .buffer) (runBegin run .stores))
-      (answers-run (run .calls) (runStart run) [] [] (begin-invariant run h))))
+      (answers-run (run .calls) (runStart run) [] (noData (headerSize (editionBy (run .edition)))) (begin-invariant run h))))
 
   module _ (t : RefusalCode) (h : runBegin run .answer ≡ refused t) where
     module _ (spent : eqb (t .number) 23 ≡ true) where

@@ -9,6 +9,7 @@ use lib.ListN.{length, getD, drop, replicate, length-append}
 use lib.Seq.{take-at, drop-at}
 use Rattle.aff_format.specs.Answer.{accepted}
 use Rattle.aff_format.specs.Bytes.{part}
+use Rattle.aff_format.specs.Edition.{headerSize, editionBy}
 use Rattle.aff_format.specs.Entry.{entryBytes, slotBytes, noEntry}
 use Rattle.aff_format.specs.Kind.{isVoid}
 use Rattle.aff_format.specs.Limits.{textArea, treeArea}
@@ -21,12 +22,12 @@ use Rattle.aff_areas.specs.Writer.{writerEdition}
 use Rattle.aff_areas.specs.Areas.{slotAt}
 use Rattle.aff_run.specs.TreeSizes.{namesOf}
 use Rattle.aff_run.specs.AreasHold.{SlotOf, AreasHold}
-use Rattle.aff_run.specs.Run.{Call, State, Step, next, step, afterCall, answersOf, stateAfter, isAccepted, applyCall, treeAfter, callEnd, endAfter, callOffsets, offsetsAfter, Run, runBegin, runStart, runAnswers, runState, runTree, runEnd, runOffsets}
+use Rattle.aff_run.specs.Run.{Call, State, Step, next, step, afterCall, answersOf, stateAfter, isAccepted, applyCall, treeAfter, DataLayout, noData, callLayout, layoutAfter, Run, runBegin, runStart, runState, runTree, runLayout}
 use Rattle.aff_run.proofs.InvariantLaws.{Invariant, offset-at, Blank, ZerosAfter, count-same, storables, stored-in, text-after, tree-after}
-use Rattle.aff_run.proofs.BeginInvariantLaws.{begin-edition, begin-end, begin-invariant, begin-after}
+use Rattle.aff_run.proofs.BeginInvariantLaws.{begin-edition, begin-invariant, begin-after}
 use Rattle.aff_run.proofs.SlotsLaws.{slotsOf, length-slotsOf, drop-slots, node-storable}
-use Rattle.aff_run.proofs.StepLaws.{asleep-tree, asleep-end, asleep-offsets, asleep-after}
-use Rattle.aff_run.proofs.RunLaws.{step-edition, step-end, end-slept, Sleeps, sleeps-asleep, Outcome, goesOn, ends, outcome}
+use Rattle.aff_run.proofs.StepLaws.{asleep-tree, asleep-layout, asleep-after}
+use Rattle.aff_run.proofs.RunLaws.{step-edition, Sleeps, sleeps-asleep, Outcome, goesOn, ends, outcome}
 
 -- ---- A live writer.
 
@@ -35,7 +36,7 @@ last-zero : (e : Entry) → isVoid (e .kind) ≡ true → drop 13 (slotBytes e) 
 unfolding slotBytes
 last-zero e v = rw v (drop-at (entryBytes e) (replicate 12 0) 13 (length-entryBytes e ∙ rw v))
 
-module _ (s : State) (tree : Tree) {offsets : List ℕ} (g : Invariant s tree offsets) where
+module _ (s : State) (tree : Tree) {layout : DataLayout} (g : Invariant s tree layout) where
   -- The 25 bytes of a node.
   slot-is : (n : ℕ) → 0 < n → n ≤ length tree → part (slotAt n) 25 (s .tree) ≡ slotBytes (nodeEntry (g .entries) n)
   slot-is zero lo hi = absurd (omega arith)
@@ -45,7 +46,7 @@ module _ (s : State) (tree : Tree) {offsets : List ℕ} (g : Invariant s tree of
       rw (z, g .tree-is, drop-slots (g .entries) (g .tree-rest) k (omega (arith, count-same s tree g)))
       (take-at (slotBytes e) (slotsOf (drop (suc k) (g .entries)) ++ g .tree-rest) 25 (length-slotBytes e))
 
-  slot-of : (n : ℕ) → 0 < n → n ≤ length tree → SlotOf (writerEdition (s .writer)) (namesOf tree) (s .writer .end) (getD offsets (n - 1) 0) (treeNode tree n) (part (slotAt n) 25 (s .tree))
+  slot-of : (n : ℕ) → 0 < n → n ≤ length tree → SlotOf (writerEdition (s .writer)) (namesOf tree) (layout .end) (getD (layout .offsets) (n - 1) 0) (treeNode tree n) (part (slotAt n) 25 (s .tree))
   slot-of n lo hi =
       let t = stored-in s tree g n lo hi in
       let b = slot-is n lo hi in
@@ -61,7 +62,7 @@ module _ (s : State) (tree : Tree) {offsets : List ℕ} (g : Invariant s tree of
         offset-is = offset-at (g .entries) n lo ∙ ap (λ (l : List ℕ). getD l (n - 1) 0) (g .offsets-are);
         offset-aligned = t .offset-aligned;
         begins = t .begins;
-        ends = t .ends;
+        ends = λ v. omega (arith, t .ends v, g .end-is);
         last = λ v. rw b (last-zero (nodeEntry (g .entries) n) (ap isVoid (t .kind-is) ∙ v));
       }
 
@@ -80,7 +81,7 @@ module _ (s : State) (tree : Tree) {offsets : List ℕ} (g : Invariant s tree of
         let z : Blank (g .tree-rest) = rw (tree-after s tree g) at (b .tree-blank) in
         z ∙ ap (λ (k : ℕ). replicate k 0) n
 
-    invariant-areas : AreasHold (s .writer .edition) tree (s .writer .end) offsets s
+    invariant-areas : AreasHold (s .writer .edition) tree layout s
     invariant-areas =
         record {
           text = g .text-is ∙ ap (λ (l : List ℕ). textOf (namesOf tree) ++ l) text-zeros;
@@ -92,14 +93,13 @@ module _ (s : State) (tree : Tree) {offsets : List ℕ} (g : Invariant s tree of
           strings-count = g .strings-count;
           text-count = g .text-count;
           nodes-count = g .nodes-count;
-          end-recorded = refl;
+          end-recorded = g .end-is;
         }
 
 -- ---- A call that closes or stops the writer.
 
-sleeps-held : (edition : ℕ) (tree : Tree) (end : ℕ) (offsets : List ℕ) (s : State) (t : Step) → Sleeps s t → AreasHold edition tree end offsets s
-    → AreasHold edition tree end offsets (next t (s .buffer))
-sleeps-held edition tree end offsets s t z h =
+sleeps-held : (edition : ℕ) (tree : Tree) (layout : DataLayout) (s : State) (t : Step) → Sleeps s t → AreasHold edition tree layout s → AreasHold edition tree layout (next t (s .buffer))
+sleeps-held edition tree layout s t z h =
     rw (z .0, z .1, z .2)
     (record {
       text = h .text;
@@ -117,45 +117,30 @@ sleeps-held edition tree end offsets s t z h =
 -- ---- The run.
 
 abbrev AreasFrom : List Call → Type 0
-AreasFrom cs = (s : State) (tree : Tree) (offsets : List ℕ) → Invariant s tree offsets → ZerosAfter s tree
-    → AreasHold (s .writer .edition) (treeAfter tree cs (answersOf s cs)) (endAfter (s .writer .end) cs (answersOf s cs))
-    (offsetsAfter (s .writer .end) offsets cs (answersOf s cs)) (stateAfter s cs)
+AreasFrom cs = (s : State) (tree : Tree) (layout : DataLayout) → Invariant s tree layout → ZerosAfter s tree
+    → AreasHold (s .writer .edition) (treeAfter tree cs (answersOf s cs)) (layoutAfter layout cs (answersOf s cs)) (stateAfter s cs)
 
-module _ (s : State) (tree : Tree) (offsets : List ℕ) (g : Invariant s tree offsets) (b : ZerosAfter s tree) (c : Call) (cs : List Call) (later : AreasFrom cs) where
+module _ (s : State) (tree : Tree) (layout : DataLayout) (g : Invariant s tree layout) (b : ZerosAfter s tree) (c : Call) (cs : List Call) (later : AreasFrom cs) where
   abbrev ok : Bool
   ok = isAccepted (step s c .answer)
 
-  -- The same, after call c: of an edition, and where the data end at `end` then.
-  abbrev AreasAfter : ℕ → ℕ → Type 0
-  AreasAfter edition end =
-      let answers = answersOf (afterCall s c) cs in
-      AreasHold edition (treeAfter (applyCall tree c ok) cs answers) (endAfter end cs answers)
-      (offsetsAfter end (callOffsets (s .writer .end) offsets c ok) cs answers) (stateAfter (afterCall s c) cs)
+  -- The same, after call c, of an edition.
+  abbrev AreasAfter : ℕ → Type 0
+  AreasAfter edition =
+      AreasHold edition (treeAfter (applyCall tree c ok) cs (answersOf (afterCall s c) cs)) (layoutAfter (callLayout layout c ok) cs (answersOf (afterCall s c) cs)) (stateAfter (afterCall s c) cs)
 
-  by-step : Outcome s tree offsets c → AreasAfter (s .writer .edition) (callEnd (s .writer .end) c ok)
-  by-step (goesOn e kept rest) =
-      subst (AreasAfter (s .writer .edition)) (step-end s c)
-      (subst (λ (n : ℕ). AreasAfter n (step s c .writer .end)) (step-edition s c) (later (afterCall s c) _ _ kept (rest b)))
+  by-step : Outcome s tree layout c → AreasAfter (s .writer .edition)
+  by-step (goesOn e kept rest) = subst AreasAfter (step-edition s c) (later (afterCall s c) _ _ kept (rest b))
   by-step (ends e t o z) =
       let asleep = sleeps-asleep s c z in
-      rw (
-        t,
-        o,
-        end-slept s c z,
-        asleep-tree (afterCall s c) asleep tree cs,
-        asleep-end (afterCall s c) asleep (s .writer .end) cs,
-        asleep-offsets (afterCall s c) asleep (s .writer .end) offsets cs,
-        asleep-after (afterCall s c) asleep cs,
-      )
-      (sleeps-held (s .writer .edition) tree (s .writer .end) offsets s (step s c) z (invariant-areas s tree g b))
+      rw (t, o, asleep-tree (afterCall s c) asleep tree cs, asleep-layout (afterCall s c) asleep layout cs, asleep-after (afterCall s c) asleep cs)
+      (sleeps-held (s .writer .edition) tree layout s (step s c) z (invariant-areas s tree g b))
 
 areas-from : (cs : List Call) → AreasFrom cs
-areas-from [] s tree offsets g b = invariant-areas s tree g b
-areas-from (c ∷ cs) s tree offsets g b = by-step s tree offsets g b c cs (areas-from cs) (outcome s tree g c)
+areas-from [] s tree layout g b = invariant-areas s tree g b
+areas-from (c ∷ cs) s tree layout g b = by-step s tree layout g b c cs (areas-from cs) (outcome s tree g c)
 
-pub run-areas : (run : Run) {n : ℕ} → runBegin run .answer ≡ accepted n → AreasHold (run .edition) (runTree run) (runEnd run) (runOffsets run) (runState run)
+pub run-areas : (run : Run) {n : ℕ} → runBegin run .answer ≡ accepted n → AreasHold (run .edition) (runTree run) (runLayout run) (runState run)
 run-areas run h =
-    let held : ℕ → ℕ → Type 0 = λ edition end. AreasHold edition (runTree run) (endAfter end (run .calls) (runAnswers run)) (offsetsAfter end [] (run .calls) (runAnswers run)) (runState run) in
-    subst (held (run .edition)) (begin-end run h)
-    (subst (λ (n : ℕ). held n (runBegin run .writer .end)) (begin-edition run h)
-    (areas-from (run .calls) (runStart run) [] [] (begin-invariant run h) (begin-after run h)))
+    subst (λ (n : ℕ). AreasHold n (runTree run) (runLayout run) (runState run)) (begin-edition run h)
+    (areas-from (run .calls) (runStart run) [] (noData (headerSize (editionBy (run .edition)))) (begin-invariant run h) (begin-after run h))

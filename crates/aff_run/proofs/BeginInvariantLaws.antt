@@ -3,7 +3,7 @@
 use mathlib.Core.Path.{_≡_, refl, sym, ap, _∙_}
 use mathlib.Core.Bool.{false, not, _||_}
 use mathlib.Core.List.{List, [], _∷_}
-use Prim.Native.Nat.{ℕ, _≤_}
+use Prim.Native.Nat.{ℕ, _-_, _≤_}
 use native.Mathlib.Omega.{arith}
 use lib.Dec.{eqb, ltb}
 use lib.ListN.{length, take, replicate, length-replicate}
@@ -21,7 +21,7 @@ use Rattle.aff_areas.specs.Writer.{freshWriter}
 use Rattle.aff_areas.proofs.StoreLaws.{apply-length}
 use Rattle.aff_write.specs.Begin.{beginLengthsWrong, beginStores, beginChecks, beginAnswer}
 use Rattle.aff_run.specs.TreeSizes.{namesFrom, entriesSize, sizeOf}
-use Rattle.aff_run.specs.Run.{beginStep, Run, runBegin, runStart}
+use Rattle.aff_run.specs.Run.{noData, beginStep, Run, runBegin, runStart}
 use Rattle.aff_run.proofs.InvariantLaws.{Invariant, Blank, ZerosAfter}
 use Rattle.aff_run.proofs.SlotsLaws.{slotsOf}
 
@@ -49,7 +49,7 @@ blank-zeros n = ap (λ (k : ℕ). replicate k 0) (sym (length-replicate n 0))
 
 -- The record of an accepted begin, over any areas of the right lengths.
 pub empty-invariant : (edition size : ℕ) (buffer form text tree : List ℕ) → length buffer ≡ size → length form ≡ 12 → length text ≡ textArea → length tree ≡ treeArea → size ≤ imageLimit
-    → NamesWritten edition → headerSize (editionBy edition) ≤ size → Invariant (record { writer = freshWriter edition size form; text = text; tree = tree; buffer = buffer }) [] []
+    → NamesWritten edition → headerSize (editionBy edition) ≤ size → Invariant (record { writer = freshWriter edition size form; text = text; tree = tree; buffer = buffer }) [] (noData (headerSize (editionBy edition)))
 unfolding namesFrom textOf slotsOf
 empty-invariant edition size buffer form text tree n f x t few named large =
     record {
@@ -75,7 +75,9 @@ empty-invariant edition size buffer form text tree n f x t few named large =
       subkeys = tt;
       distinct = λ i k l m e. omega arith;
       each = tt;
+      end-is = refl;
       offsets-are = refl;
+      stored-are = let z : headerSize (editionBy edition) - headerSize (editionBy edition) ≡ 0 = omega arith in rw z;
       siblings = λ j k lo l hi p q. omega arith;
     }
 
@@ -91,7 +93,7 @@ module _ (run : Run) {n : ℕ} (h : runBegin run .answer ≡ accepted n) where
   unfolding beginStep beginAnswer
   reported = passed-value checks 1 h
 
-  pub begin-invariant : Invariant (runStart run) [] []
+  pub begin-invariant : Invariant (runStart run) [] (noData (headerSize (editionBy (run .edition))))
   unfolding beginStep
   begin-invariant =
       let a = lengths-right (run .buffer) (run .form) (run .text) (run .tree) (clear .0) in

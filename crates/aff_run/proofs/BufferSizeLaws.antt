@@ -1,5 +1,5 @@
--- The end of data is at most 7 bytes for each put above the bytes put; and where a buffer holds the most that all calls can add, none of them is refused by 21. By
--- induction on the calls, from the answers by the tree. Assumes nothing.
+-- The data end at most 7 bytes for each put after the header and the bytes put; and where a buffer holds the header and the most that all calls can add, none of them
+-- is refused by 21. By induction on the calls, from the answers by the tree. Assumes nothing.
 use mathlib.Core.Path.{_≡_, refl, sym, ap, _∙_}
 use mathlib.Core.Bool.{Bool, true, false, cond, not, _||_, true≢false}
 use mathlib.Core.List.{List, [], _∷_, _++_}
@@ -22,41 +22,47 @@ use Rattle.aff_format.proofs.TestLaws.{or-false}
 use Rattle.aff_write.specs.Put.{wrongData, dataKind}
 use Rattle.aff_run.specs.TreeSizes.{withChild, withData, namesOf, sizeOf}
 use Rattle.aff_run.specs.AnswersFromTree.{hasChild, tooLarge, callChecks, callValue, callAnswer, stops, AnswersFromTree}
-use Rattle.aff_run.specs.BufferSize.{callMost, callsMost, NeverBy, putCount, putBytes, putsCount, putsBytes}
-use Rattle.aff_run.specs.Run.{Call, make, put, close, State, step, afterCall, answersOf, isAccepted, applyCall, callEnd, endAfter}
+use Rattle.aff_run.specs.BufferSize.{mostAdded, mostAddedBy, NoneBy, acceptedPut, acceptedSize, acceptedPuts, acceptedSizes}
+use Rattle.aff_run.specs.Run.{Call, make, put, close, State, step, afterCall, answersOf, isAccepted, applyCall, DataLayout, callEnd, callLayout, layoutAfter}
 use Rattle.aff_run.proofs.MakeInvariantLaws.{size-child}
 use Rattle.aff_run.proofs.PutInvariantLaws.{data-right, size-after}
 
 -- ---- The end of data.
 
 -- One call.
-call-least : (end : ℕ) (c : Call) (ok : Bool) → end + putBytes c ok ≤ callEnd end c ok
+call-least : (end : ℕ) (c : Call) (ok : Bool) → end + acceptedSize c ok ≤ callEnd end c ok
 call-least end c false = omega arith
 call-least end (make parent name) true = omega arith
 call-least end (put node type bytes allowance) true = omega arith
 call-least end (close allowance) true = omega arith
 
-call-most : (end : ℕ) (c : Call) (ok : Bool) → callEnd end c ok ≤ end + putBytes c ok + 7 * putCount c ok
+call-most : (end : ℕ) (c : Call) (ok : Bool) → callEnd end c ok ≤ end + acceptedSize c ok + 7 * acceptedPut c ok
 call-most end c false = omega arith
 call-most end (make parent name) true = omega arith
 call-most end (put node type bytes allowance) true = omega (arith, padding-few end)
 call-most end (close allowance) true = omega arith
 
-pub end-least : (end : ℕ) (cs : List Call) (answers : List (Answer ℕ)) → end + putsBytes cs answers ≤ endAfter end cs answers
-end-least end [] answers = omega arith
-end-least end (c ∷ cs) [] = omega arith
-end-least end (c ∷ cs) (a ∷ answers) = omega (arith, call-least end c (isAccepted a), end-least (callEnd end c (isAccepted a)) cs answers)
+pub end-least : (l : DataLayout) (cs : List Call) (answers : List (Answer ℕ)) → l .end + acceptedSizes cs answers ≤ layoutAfter l cs answers .end
+end-least l [] answers = omega arith
+end-least l (c ∷ cs) [] = omega arith
+end-least l (c ∷ cs) (a ∷ answers) = omega (arith, call-least (l .end) c (isAccepted a), end-least (callLayout l c (isAccepted a)) cs answers)
 
-pub end-most : (end : ℕ) (cs : List Call) (answers : List (Answer ℕ)) → endAfter end cs answers ≤ end + putsBytes cs answers + 7 * putsCount cs answers
-end-most end [] answers = omega arith
-end-most end (c ∷ cs) [] = omega arith
-end-most end (c ∷ cs) (a ∷ answers) = omega (arith, call-most end c (isAccepted a), end-most (callEnd end c (isAccepted a)) cs answers)
+pub end-most : (l : DataLayout) (cs : List Call) (answers : List (Answer ℕ)) → layoutAfter l cs answers .end ≤ l .end + acceptedSizes cs answers + 7 * acceptedPuts cs answers
+end-most l [] answers = omega arith
+end-most l (c ∷ cs) [] = omega arith
+end-most l (c ∷ cs) (a ∷ answers) = omega (arith, call-most (l .end) c (isAccepted a), end-most (callLayout l c (isAccepted a)) cs answers)
+
+-- ---- The order of the calls.
+
+pub most-swapped : (before : List Call) (c d : Call) (after : List Call) → mostAddedBy (before ++ (c ∷ d ∷ after)) ≡ mostAddedBy (before ++ (d ∷ c ∷ after))
+most-swapped [] c d after = omega arith
+most-swapped (b ∷ before) c d after = ap (λ (n : ℕ). mostAdded b + n) (most-swapped before c d after)
 
 -- ---- Where a call can be refused by 21, and what an accepted one adds.
 
 module _ (e : Edition) (size end : ℕ) (tree : Tree) where
   -- A child adds at most its entry and its name.
-  child-most : (parent : ℕ) (name : List ℕ) → sizeOf end (withChild tree parent name) ≤ sizeOf end tree + callMost (make parent name)
+  child-most : (parent : ℕ) (name : List ℕ) → sizeOf end (withChild tree parent name) ≤ sizeOf end tree + mostAdded (make parent name)
   child-most parent name = rw (size-child end tree parent name) (go (isIn name (namesOf tree)))
     where
       go : (b : Bool) → sizeOf end tree + 13 + cond b 0 (length name + 1) ≤ sizeOf end tree + (13 + length name + 1)
@@ -72,7 +78,7 @@ module _ (e : Edition) (size end : ℕ) (tree : Tree) where
       ∷ []
 
   data-most : (node type : ℕ) (bytes : List ℕ) (allowance : ℕ) → Clear (putBefore node type bytes)
-      → sizeOf (aligned end + length bytes) (withData tree node (dataKind (kindOf type)) bytes) ≤ sizeOf end tree + callMost (put node type bytes allowance)
+      → sizeOf (aligned end + length bytes) (withData tree node (dataKind (kindOf type)) bytes) ≤ sizeOf end tree + mostAdded (put node type bytes allowance)
   data-most node type bytes allowance clear =
       let a = or-false (eqb node 0) (not (isVoid (treeNode tree node .kind))) (clear .1 .0) in
       let f = eqb-false node 0 (a .0) in
@@ -81,7 +87,7 @@ module _ (e : Edition) (size end : ℕ) (tree : Tree) where
       (omega (arith, padding-few end))
 
   -- Where the most that the call can add fits the buffer, it is not refused by 21.
-  call-fits : (c : Call) → sizeOf end tree + callMost c ≤ size → (t : RefusalCode) → callAnswer e size end tree c ≡ refused t → t .number ≡ 21 → ⊥
+  call-fits : (c : Call) → sizeOf end tree + mostAdded c ≤ size → (t : RefusalCode) → callAnswer e size end tree c ≡ refused t → t .number ≡ 21 → ⊥
   call-fits (make parent name) f t h n =
       let q = last-reported 21
       (check (ltb (length tree) parent) (refusal 15)
@@ -100,7 +106,7 @@ module _ (e : Edition) (size end : ℕ) (tree : Tree) where
       eqb-false (t .number) 21 (others-reported 21 (callChecks e size end tree (close allowance)) refl (callValue e size end tree (close allowance)) h) n
 
   -- An accepted call adds at most that.
-  call-grows : (c : Call) {n : ℕ} → callAnswer e size end tree c ≡ accepted n → sizeOf (callEnd end c true) (applyCall tree c true) ≤ sizeOf end tree + callMost c
+  call-grows : (c : Call) {n : ℕ} → callAnswer e size end tree c ≡ accepted n → sizeOf (callEnd end c true) (applyCall tree c true) ≤ sizeOf end tree + mostAdded c
   call-grows (make parent name) h = child-most parent name
   call-grows (put node type bytes allowance) h =
       let clear = passed (callChecks e size end tree (put node type bytes allowance)) (padding end + length bytes) h in
@@ -111,18 +117,18 @@ module _ (e : Edition) (size end : ℕ) (tree : Tree) where
 
 -- What is shown of each call: its answer is not 21, and the size afterwards is at most this.
 call-after : (e : Edition) (size end : ℕ) (tree : Tree) (stopped : Bool) (c : Call) (a : Answer ℕ) → a ≡ cond stopped (refused (refusal 22)) (callAnswer e size end tree c)
-    → sizeOf (callEnd end c (isAccepted a)) (applyCall tree c (isAccepted a)) ≤ sizeOf end tree + callMost c
+    → sizeOf (callEnd end c (isAccepted a)) (applyCall tree c (isAccepted a)) ≤ sizeOf end tree + mostAdded c
 call-after e size end tree stopped c (refused t) h = omega arith
 call-after e size end tree true c (accepted n) h = not-both (sym h)
 call-after e size end tree false c (accepted n) h = call-grows e size end tree c (sym h)
 
 call-never : (e : Edition) (size end : ℕ) (tree : Tree) (stopped : Bool) (c : Call) (a : Answer ℕ) → a ≡ cond stopped (refused (refusal 22)) (callAnswer e size end tree c)
-    → sizeOf end tree + callMost c ≤ size → (t : RefusalCode) → a ≡ refused t → t .number ≡ 21 → ⊥
+    → sizeOf end tree + mostAdded c ≤ size → (t : RefusalCode) → a ≡ refused t → t .number ≡ 21 → ⊥
 call-never e size end tree true c a h f t g n = let q : refusal 22 ≡ t = cc in let z : _≡_ {A = ℕ} 22 21 = ap (λ (x : RefusalCode). x .number) q ∙ n in omega arith
 call-never e size end tree false c a h f t g n = call-fits e size end tree c f t (sym h ∙ g) n
 
-pub answers-fit : (cs : List Call) (s : State) (e : Edition) (size : ℕ) (stopped : Bool) (end : ℕ) (tree : Tree) → sizeOf end tree + callsMost cs ≤ size
-    → AnswersFromTree e size stopped end tree cs (answersOf s cs) → NeverBy 21 (answersOf s cs)
+pub answers-fit : (cs : List Call) (s : State) (e : Edition) (size : ℕ) (stopped : Bool) (end : ℕ) (tree : Tree) → sizeOf end tree + mostAddedBy cs ≤ size
+    → AnswersFromTree e size stopped end tree cs (answersOf s cs) → NoneBy 21 (answersOf s cs)
 answers-fit [] s e size stopped end tree f h = tt
 answers-fit (c ∷ cs) s e size stopped end tree f h =
     let a = step s c .answer in (

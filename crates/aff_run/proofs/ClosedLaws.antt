@@ -39,7 +39,7 @@ use Rattle.aff_areas.specs.Writer.{writerEdition, dataPlace, dataSize}
 use Rattle.aff_areas.proofs.StoreLaws.{apply-append, apply-spliced}
 use Rattle.aff_write.specs.Close.{symbolsPlace, treePlace, closeSection, closeHeader, closeStores}
 use Rattle.aff_run.specs.TreeSizes.{namesOf, nonVoidCount, sizeOf}
-use Rattle.aff_run.specs.Run.{State}
+use Rattle.aff_run.specs.Run.{State, DataLayout}
 use Rattle.aff_run.proofs.SlotsLaws.{node-storable}
 use Rattle.aff_run.proofs.InvariantLaws.{Stored, Invariant, is-void, used-text, entries-in, count-same, stored-in, storables, sizes-in-bytes, not-void-few, data-nodes-in}
 
@@ -107,7 +107,7 @@ void-none n k v = rw (is-void k v) (mul-zero n)
 header-same : (e : Edition) {p p′ n n′ : ℕ} {x x′ : List ℕ} → p ≡ p′ → n ≡ n′ → x ≡ x′ → sectionHeader e p n x ≡ sectionHeader e p′ n′ x′
 header-same e a b c = λ i. sectionHeader e (a i) (b i) (c i)
 
-module _ (s : State) (tree : Tree) {offsets : List ℕ} (g : Invariant s tree offsets) where
+module _ (s : State) (tree : Tree) {layout : DataLayout} (g : Invariant s tree layout) where
   abbrev ed : Edition
   ed = writerEdition (s .writer)
 

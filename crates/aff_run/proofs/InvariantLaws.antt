@@ -32,9 +32,9 @@ use Rattle.aff_format.proofs.PathLaws.{subkeys-no-zero}
 use Rattle.aff_tables.specs.Tables.{nodeEntry, treeBytes}
 use Rattle.aff_areas.specs.Areas.{usedText, namesIn, foundSlot, slotEntry, nameOf, entrySizes, entriesOut, dataNodes, finishedSize}
 use Rattle.aff_areas.specs.Belongs.{WriterBelongs}
-use Rattle.aff_areas.specs.Writer.{writerEdition, dataPlace}
+use Rattle.aff_areas.specs.Writer.{writerEdition, dataPlace, dataSize}
 use Rattle.aff_run.specs.TreeSizes.{namesOf, entriesSize, nonVoidCount, sizeOf}
-use Rattle.aff_run.specs.Run.{State}
+use Rattle.aff_run.specs.Run.{State, DataLayout}
 use Rattle.aff_run.proofs.SlotsLaws.{slotsOf, Storables, length-slotsOf, slot-found, slot-entry, entries-out, sizes-are}
 
 -- ---- A node and its entry.
@@ -69,8 +69,8 @@ Each ed names buffer end i (e ∷ es) (t ∷ ts) = Stored ed names buffer end i 
 abbrev pub offsetOf : Entry → ℕ
 offsetOf e = e .offset
 
--- With the tree described so far, and where the data of each of its nodes begin.
-pub record Invariant (s : State) (tree : Tree) (offsets : List ℕ) : Type 0 where
+-- With the tree described so far, and its data so laid out.
+pub record Invariant (s : State) (tree : Tree) (layout : DataLayout) : Type 0 where
   -- The two areas: the strings, the slots, and what comes after them.
   pub entries : List Entry
   pub text-rest : List ℕ
@@ -96,7 +96,10 @@ pub record Invariant (s : State) (tree : Tree) (offsets : List ℕ) : Type 0 whe
   pub subkeys : Subkeys (writerEdition (s .writer)) (namesOf tree)
   pub distinct : (i k : ℕ) → i < k → k < length (namesOf tree) → getD (namesOf tree) i [] ≡ getD (namesOf tree) k [] → ⊥
   pub each : Each (writerEdition (s .writer)) (namesOf tree) (s .buffer) (s .writer .end) 1 entries tree
-  pub offsets-are : map offsetOf entries ≡ offsets
+  -- The data: where they end, where those of each node begin, and their bytes.
+  pub end-is : s .writer .end ≡ layout .end
+  pub offsets-are : map offsetOf entries ≡ layout .offsets
+  pub stored-are : part (dataPlace (s .writer)) (dataSize (s .writer)) (s .buffer) ≡ layout .stored
   pub siblings : (j k : ℕ) → 0 < j → j < k → k ≤ length tree → treeNode tree j .parent ≡ treeNode tree k .parent → treeNode tree j .name ≡ treeNode tree k .name → ⊥
 
 -- The places of one entry more, and of one entry changed.
@@ -255,7 +258,7 @@ not-void-few (t ∷ ts) = one-more (isVoid (t .kind)) (nonVoidCount ts) (length 
 
 -- ---- What the writer reads in its areas.
 
-module _ (s : State) (tree : Tree) {offsets : List ℕ} (g : Invariant s tree offsets) where
+module _ (s : State) (tree : Tree) {layout : DataLayout} (g : Invariant s tree layout) where
   pub clean : EachWithout 0 (namesOf tree)
   clean = subkeys-no-zero (writerEdition (s .writer)) (namesOf tree) (g .subkeys)
 

@@ -13,4 +13,5 @@ pub mod BeginInvariantLaws
 pub mod BeginRefusedLaws
 pub mod AnswersFromTreeLaws
 pub mod AreasHoldLaws
+pub mod DescribedFileLaws
 pub mod BufferSizeLaws

@@ -33,7 +33,7 @@ use Rattle.aff_areas.specs.Stores.{applyStores}
 use Rattle.aff_areas.specs.Writer.{writerEdition}
 use Rattle.aff_make.specs.Make.{addedStrings, addedText, tooMany, isChild, childExists, childChecks, madeText, madeEntry, madeTree}
 use Rattle.aff_run.specs.TreeSizes.{withChild, addName, namesOf, entriesSize, sizeOf}
-use Rattle.aff_run.specs.Run.{make, State, completed, step, afterCall}
+use Rattle.aff_run.specs.Run.{make, State, DataLayout, callLayout, completed, step, afterCall}
 use Rattle.aff_run.proofs.InvariantLaws.{Stored, Each, Invariant, ZerosAfter, offsets-snoc, blank-drop, each-snoc, each-kept, names-in, count-same, entry-in, stored-in, name-in, size-in, text-after, tree-after}
 use Rattle.aff_run.proofs.NamesLaws.{index-in, index-name, length-add, text-add, add-longer, add-old, text-stored, subkeys-add, distinct-add, names-snoc}
 use Rattle.aff_run.proofs.SlotsLaws.{slotsOf, slot-added}
@@ -66,7 +66,7 @@ node-new : (tree : Tree) (t : Node) → treeNode (tree ++ (t ∷ [])) (suc (leng
 node-new tree t = getD-append-seam tree t [] root
 
 -- The counts with one name more.
-module _ (s : State) (tree : Tree) {offsets : List ℕ} (g : Invariant s tree offsets) (name : List ℕ) where
+module _ (s : State) (tree : Tree) {layout : DataLayout} (g : Invariant s tree layout) (name : List ℕ) where
   pub strings-now : s .writer .strings + addedStrings (s .writer) (s .text) name ≡ length (addName (namesOf tree) name)
   strings-now = rw (names-in s tree g, g .strings-count) (sym (length-add (namesOf tree) name))
 
@@ -75,7 +75,7 @@ module _ (s : State) (tree : Tree) {offsets : List ℕ} (g : Invariant s tree of
 
 -- ---- What an accepted make found.
 
-module _ (s : State) (tree : Tree) {offsets : List ℕ} (g : Invariant s tree offsets) (parent : ℕ) (name : List ℕ) {n : ℕ} (h : step s (make parent name) .answer ≡ accepted n) where
+module _ (s : State) (tree : Tree) {layout : DataLayout} (g : Invariant s tree layout) (parent : ℕ) (name : List ℕ) {n : ℕ} (h : step s (make parent name) .answer ≡ accepted n) where
   abbrev names : List (List ℕ)
   names = namesOf tree
 
@@ -194,7 +194,7 @@ module _ (s : State) (tree : Tree) {offsets : List ℕ} (g : Invariant s tree of
       (sym (ap (λ (x : Node). x .name) a) ∙ q ∙ ap (λ (x : Node). x .name) b))
       (eq-or-lt-of-le at-most)
 
-  made-left : Invariant left (withChild tree parent name) (offsets ++ (0 ∷ []))
+  made-left : Invariant left (withChild tree parent name) (callLayout layout (make parent name) true)
   unfolding madeText madeTree
   made-left =
       let t = child parent name in
@@ -222,6 +222,8 @@ module _ (s : State) (tree : Tree) {offsets : List ℕ} (g : Invariant s tree of
         subkeys = rw ns (subkeys-add names name (writerEdition (s .writer)) (g .subkeys) is-subkey);
         distinct = rw ns (distinct-add names name (g .distinct));
         each = rw ns (each-snoc (writerEdition (s .writer)) (addName names name) (s .buffer) (s .writer .end) 1 (g .entries) tree entry t each-left (rw one-add new-stored));
+        end-is = g .end-is;
+        stored-are = g .stored-are;
         offsets-are = offsets-snoc (g .entries) entry ∙ ap (λ (l : List ℕ). l ++ (0 ∷ [])) (g .offsets-are);
         siblings = siblings-left;
       }
@@ -230,7 +232,7 @@ module _ (s : State) (tree : Tree) {offsets : List ℕ} (g : Invariant s tree of
   unfolding step applyStores
   left-is = rw (h, take-nil n)
 
-  pub made-invariant : Invariant (afterCall s (make parent name)) (withChild tree parent name) (offsets ++ (0 ∷ []))
+  pub made-invariant : Invariant (afterCall s (make parent name)) (withChild tree parent name) (callLayout layout (make parent name) true)
   made-invariant = rw left-is made-left
 
   -- Zeros after stay zeros.

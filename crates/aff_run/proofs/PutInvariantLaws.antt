@@ -9,7 +9,7 @@ use native.Mathlib.Numerals.{one-add}
 use native.Mathlib.Omega.{arith}
 use lib.Dec.{eqb}
 use lib.ListN.{length, getD, set, take, drop, replicate, length-set, length-append, length-replicate}
-use lib.Seq.{getD-set-same, getD-set-other, take-length, drop-at}
+use lib.Seq.{getD-set-same, getD-set-other, take-length, take-at, take-append-add, drop-at, drop-append-le, length-take-le}
 use borrow.Author.Tests.{eqb-true, eqb-false, ltb-false, not-false}
 use Rattle.aff_format.specs.Align.{padding, aligned}
 use Rattle.aff_format.specs.Answer.{accepted, Clear}
@@ -23,17 +23,17 @@ use Rattle.aff_format.specs.declared.kind.Kind.{Kind}
 use Rattle.aff_format.specs.declared.kind.FoundKind.{FoundKind}
 use Rattle.aff_format.specs.declared.kind.FoundKind.the-variants.{Known, Unknown}
 use Rattle.aff_format.proofs.AlignLaws.{aligned-multiple}
-use Rattle.aff_format.proofs.BytesLaws.{length-spliced, take-spliced, part-spliced, part-part, drop-take}
+use Rattle.aff_format.proofs.BytesLaws.{length-part, length-spliced, take-spliced, part-spliced, part-part, drop-take}
 use Rattle.aff_format.proofs.EntryLaws.{length-slotBytes}
 use Rattle.aff_format.proofs.KindLaws.{countIn-div}
 use Rattle.aff_format.proofs.TestLaws.{or-false}
 use Rattle.aff_tables.specs.Tables.{nodeEntry}
 use Rattle.aff_areas.specs.Areas.{slotAt, slotEntry, finishedSize}
-use Rattle.aff_areas.specs.Writer.{writerEdition}
+use Rattle.aff_areas.specs.Writer.{writerEdition, dataPlace, dataSize}
 use Rattle.aff_areas.proofs.StoreLaws.{apply-spliced}
 use Rattle.aff_write.specs.Put.{takesNone, wrongData, dataKind, putPlace, putStores, dataChecks, putWriter, putEntry, putTree}
 use Rattle.aff_run.specs.TreeSizes.{withData, addName, namesFrom, namesOf, entriesSize, sizeOf}
-use Rattle.aff_run.specs.Run.{put, State, step, afterCall}
+use Rattle.aff_run.specs.Run.{put, State, DataLayout, callLayout, step, afterCall}
 use Rattle.aff_run.proofs.InvariantLaws.{Stored, Each, Invariant, ZerosAfter, offsets-set, each-set, each-kept, is-void, count-same, entry-in, stored-in, size-in, text-after, tree-after}
 use Rattle.aff_run.proofs.SlotsLaws.{slotsOf, slot-changed}
 use Rattle.aff_run.proofs.StepLaws.{accepted-clear}
@@ -68,6 +68,19 @@ second-spliced p n x y l e f =
     ∙ ap (part n (length y)) (part-spliced p (x ++ y) l f)
     ∙ rw (drop-at x y n e, take-length)
 
+-- A part that ends where a run is written, and that run.
+part-grown : (p q n : ℕ) (x l : List ℕ) → p ≤ q → n ≡ q - p + length x → q + length x ≤ length l → part p n (spliced q x l) ≡ part p (q - p) l ++ x
+unfolding spliced
+part-grown p q n x l h e f =
+    let r = drop (q + length x) l in
+    let t : length (take q l) ≡ q = length-take-le q l (omega arith) in
+    let k : n ≡ length (part p (q - p) l) + length x = omega (arith, length-part p (q - p) l (omega arith)) in
+    let a : drop p (take q l ++ (x ++ r)) ≡ part p (q - p) l ++ (x ++ r) = drop-append-le p (take q l) (x ++ r) (omega arith) ∙ rw (drop-take p q l) in
+    ap (take n) a
+    ∙ ap (λ (m : ℕ). take m (part p (q - p) l ++ (x ++ r))) k
+    ∙ take-append-add (part p (q - p) l) (x ++ r) (length x)
+    ∙ ap (λ (m : List ℕ). part p (q - p) l ++ m) (take-at x r (length x) refl)
+
 -- ---- What an accepted put found.
 
 -- A type that holds data, and a length that is a multiple of its element.
@@ -97,7 +110,7 @@ module _ (tree : Tree) (node : ℕ) (kind : Kind) (bytes : List ℕ)
   unfolding sizeOf
   size-after end = rw (entries-after, names-after) (omega arith)
 
-module _ (s : State) (tree : Tree) {offsets : List ℕ} (g : Invariant s tree offsets) (node type : ℕ) (bytes : List ℕ) (allowance : ℕ) {n : ℕ}
+module _ (s : State) (tree : Tree) {layout : DataLayout} (g : Invariant s tree layout) (node type : ℕ) (bytes : List ℕ) (allowance : ℕ) {n : ℕ}
     (h : step s (put node type bytes allowance) .answer ≡ accepted n) where
   abbrev kind : Kind
   kind = dataKind (kindOf type)
@@ -224,7 +237,14 @@ module _ (s : State) (tree : Tree) {offsets : List ℕ} (g : Invariant s tree of
       length-spliced (slotAt node) (slotBytes entry) (s .tree)
       (omega (arith, length-slotBytes entry, g .tree-area, there, g .nodes-few, takes .0)) ∙ g .tree-area
 
-  put-left : Invariant left after (set offsets (node - 1) (putPlace (s .writer)))
+  -- The data section has zeros and bytes more.
+  stored-left : part (dataPlace (s .writer)) (putPlace (s .writer) + length bytes - dataPlace (s .writer)) (left .buffer)
+      ≡ part (dataPlace (s .writer)) (dataSize (s .writer)) (s .buffer) ++ (zeros ++ bytes)
+  stored-left =
+      part-grown (dataPlace (s .writer)) (s .writer .end) (putPlace (s .writer) + length bytes - dataPlace (s .writer)) (zeros ++ bytes) (s .buffer) (g .after-header)
+      (omega (arith, g .after-header, length-append zeros bytes, length-zeros)) fits-buffer
+
+  put-left : Invariant left after (callLayout layout (put node type bytes allowance) true)
   put-left =
       record {
         entries = set (g .entries) (node - 1) entry;
@@ -252,7 +272,9 @@ module _ (s : State) (tree : Tree) {offsets : List ℕ} (g : Invariant s tree of
             rw names-left
             (each-set (writerEdition (s .writer)) (namesOf tree) (left .buffer) (putPlace (s .writer) + length bytes) 1 (g .entries) tree (node - 1) entry new each-left (index .0)
             (rw (one-add, index .1) new-stored));
-        offsets-are = offsets-set (g .entries) (node - 1) entry ∙ ap (λ (l : List ℕ). set l (node - 1) (putPlace (s .writer))) (g .offsets-are);
+        end-is = ap (λ (end : ℕ). aligned end + length bytes) (g .end-is);
+        offsets-are = rw (← g .end-is, ← g .offsets-are) (offsets-set (g .entries) (node - 1) entry);
+        stored-are = rw (← g .end-is, ← g .stored-are) stored-left;
         siblings = λ j k lo l hi p q.
             let a = site-left j in
             let b = site-left k in
@@ -266,7 +288,7 @@ module _ (s : State) (tree : Tree) {offsets : List ℕ} (g : Invariant s tree of
       let all : length (putStores (s .writer) bytes) ≡ n = accepted-clear s (put node type bytes allowance) h .1 in
       rw (h, ← all, take-length, apply-spliced (s .writer .end) (zeros ++ bytes) (s .buffer) fits-buffer)
 
-  pub put-invariant : Invariant (afterCall s (put node type bytes allowance)) after (set offsets (node - 1) (putPlace (s .writer)))
+  pub put-invariant : Invariant (afterCall s (put node type bytes allowance)) after (callLayout layout (put node type bytes allowance) true)
   put-invariant = rw left-is put-left
 
   -- Zeros after stay zeros.

@@ -18,12 +18,12 @@ use Rattle.aff_areas.proofs.StoreLaws.{apply-append}
 use Rattle.aff_write.specs.Close.{closeStores}
 use Rattle.aff_write.specs.Put.{putStores}
 use Rattle.aff_run.specs.AnswersFromTree.{isSpent, stops}
-use Rattle.aff_run.specs.Run.{Call, make, put, close, State, Step, answerTo, needed, completed, step, afterCall, answersOf, storesOf, isAccepted, applyCall, treeAfter, callEnd, endAfter, callOffsets, offsetsAfter, isClose, closedBy}
+use Rattle.aff_run.specs.Run.{Call, make, put, close, State, Step, answerTo, needed, completed, step, afterCall, answersOf, storesOf, isAccepted, applyCall, treeAfter, DataLayout, callEnd, callLayout, layoutAfter, isClose, closedBy}
 use Rattle.aff_run.proofs.InvariantLaws.{Invariant, ZerosAfter}
 use Rattle.aff_run.proofs.MakeInvariantLaws.{made-invariant, made-after}
 use Rattle.aff_run.proofs.PutInvariantLaws.{put-invariant, put-after}
 use Rattle.aff_run.proofs.ClosedLaws.{closed, closed-buffer}
-use Rattle.aff_run.proofs.StepLaws.{accepted-clear, step-refused, asleep-stores, asleep-closed, asleep-tree, asleep-end, asleep-offsets}
+use Rattle.aff_run.proofs.StepLaws.{accepted-clear, step-refused, asleep-stores, asleep-closed, asleep-tree, asleep-layout}
 
 -- ---- What a call leaves of the record.
 
@@ -87,9 +87,6 @@ close-sleeps s allowance h = rw h (refl, refl, refl)
 pub sleeps-asleep : (s : State) (c : Call) → Sleeps s (step s c) → step s c .writer .live ≡ false
 sleeps-asleep s c z = ap (λ (w : Writer). w .live) (z .0)
 
-pub end-slept : (s : State) (c : Call) → Sleeps s (step s c) → callEnd (s .writer .end) c (isAccepted (step s c .answer)) ≡ s .writer .end
-end-slept s c z = sym (step-end s c) ∙ ap (λ (w : Writer). w .end) (z .0)
-
 -- An accepted call makes all the stores that it needs.
 pub needed-made : (s : State) (c : Call) {n : ℕ} → step s c .answer ≡ accepted n → step s c .stores ≡ needed s c
 unfolding step
@@ -106,26 +103,26 @@ next-unchanged s c t e h = rw (step-refused s t e c h)
 -- ---- A call in a state with the invariant.
 
 -- The writer goes on, with the call applied to the tree; or the call closes or stops it, and the tree stays.
-pub data Outcome (s : State) (tree : Tree) (offsets : List ℕ) (c : Call) : Type 0 where
+pub data Outcome (s : State) (tree : Tree) (layout : DataLayout) (c : Call) : Type 0 where
   goesOn : stops c (step s c .answer) ≡ false
-      → Invariant (afterCall s c) (applyCall tree c (isAccepted (step s c .answer))) (callOffsets (s .writer .end) offsets c (isAccepted (step s c .answer)))
-      → (ZerosAfter s tree → ZerosAfter (afterCall s c) (applyCall tree c (isAccepted (step s c .answer)))) → Outcome s tree offsets c
+      → Invariant (afterCall s c) (applyCall tree c (isAccepted (step s c .answer))) (callLayout layout c (isAccepted (step s c .answer)))
+      → (ZerosAfter s tree → ZerosAfter (afterCall s c) (applyCall tree c (isAccepted (step s c .answer)))) → Outcome s tree layout c
   ends : stops c (step s c .answer) ≡ true → applyCall tree c (isAccepted (step s c .answer)) ≡ tree
-      → callOffsets (s .writer .end) offsets c (isAccepted (step s c .answer)) ≡ offsets → Sleeps s (step s c) → Outcome s tree offsets c
+      → callLayout layout c (isAccepted (step s c .answer)) ≡ layout → Sleeps s (step s c) → Outcome s tree layout c
 
-module _ (s : State) (tree : Tree) {offsets : List ℕ} (g : Invariant s tree offsets) where
-  by-number : (c : Call) (t : RefusalCode) (b : Bool) → eqb (t .number) 23 ≡ b → step s c .answer ≡ refused t → Outcome s tree offsets c
+module _ (s : State) (tree : Tree) {layout : DataLayout} (g : Invariant s tree layout) where
+  by-number : (c : Call) (t : RefusalCode) (b : Bool) → eqb (t .number) 23 ≡ b → step s c .answer ≡ refused t → Outcome s tree layout c
   by-number c t true e h = ends (rw (h, e)) (rw h) (rw h) (step-sleeps s c t h e)
   by-number c t false e h = goesOn (rw (h, e)) (rw (h, next-unchanged s c t e h) g) (rw (h, next-unchanged s c t e h) (λ b. b))
 
-  by-answer : (c : Call) (a : Answer ℕ) → step s c .answer ≡ a → Outcome s tree offsets c
+  by-answer : (c : Call) (a : Answer ℕ) → step s c .answer ≡ a → Outcome s tree layout c
   by-answer c (refused t) h = by-number c t (eqb (t .number) 23) refl h
   by-answer (make parent name) (accepted n) h = goesOn (rw h) (rw h (made-invariant s tree g parent name h)) (rw h (made-after s tree g parent name h))
   by-answer (put node type bytes allowance) (accepted n) h =
       goesOn (rw h) (rw h (put-invariant s tree g node type bytes allowance h)) (rw h (put-after s tree g node type bytes allowance h))
   by-answer (close allowance) (accepted n) h = ends (rw h) (rw h) (rw h) (close-sleeps s allowance h)
 
-  pub outcome : (c : Call) → Outcome s tree offsets c
+  pub outcome : (c : Call) → Outcome s tree layout c
   outcome c = by-answer c (step s c .answer) refl
 
 -- ---- The run.
@@ -142,62 +139,52 @@ close-made s (make parent name) (accepted n) h z = absurd (true≢false (sym z))
 close-made s (put node type bytes allowance) (accepted n) h z = absurd (true≢false (sym z))
 close-made s (close allowance) (accepted n) h z = needed-made s (close allowance) h
 
--- What holds of each closed buffer, with the writer's edition and form, the tree described, where its data begin and where they end, holds of the buffer that a
--- run with an accepted close leaves.
-module _ (P : ℕ → List ℕ → List ℕ → Tree → List ℕ → ℕ → Type 0)
-    (closes : (s : State) (tree : Tree) (offsets : List ℕ) (g : Invariant s tree offsets) → P (s .writer .edition) (closed s tree g) (s .writer .form) tree offsets (s .writer .end)) where
+-- What holds of each closed buffer, with the writer's edition and form, the tree described and the layout of its data, holds of the buffer that a run with an
+-- accepted close leaves.
+module _ (P : ℕ → List ℕ → List ℕ → Tree → DataLayout → Type 0)
+    (closes : (s : State) (tree : Tree) (layout : DataLayout) (g : Invariant s tree layout) → P (s .writer .edition) (closed s tree g) (s .writer .form) tree layout) where
   abbrev HoldsFrom : List Call → Type 0
-  HoldsFrom cs = (s : State) (tree : Tree) (offsets : List ℕ) → Invariant s tree offsets → closedBy cs (answersOf s cs) ≡ true
-      → P (s .writer .edition) (applyStores (s .buffer) (storesOf s cs)) (s .writer .form) (treeAfter tree cs (answersOf s cs))
-      (offsetsAfter (s .writer .end) offsets cs (answersOf s cs)) (endAfter (s .writer .end) cs (answersOf s cs))
+  HoldsFrom cs = (s : State) (tree : Tree) (layout : DataLayout) → Invariant s tree layout → closedBy cs (answersOf s cs) ≡ true
+      → P (s .writer .edition) (applyStores (s .buffer) (storesOf s cs)) (s .writer .form) (treeAfter tree cs (answersOf s cs)) (layoutAfter layout cs (answersOf s cs))
 
-  module _ (s : State) (tree : Tree) (offsets : List ℕ) (g : Invariant s tree offsets) (c : Call) (cs : List Call) (later : HoldsFrom cs) where
-    -- The data end there after call c.
-    abbrev nextEnd : ℕ
-    nextEnd = callEnd (s .writer .end) c (isAccepted (step s c .answer))
-
+  module _ (s : State) (tree : Tree) (layout : DataLayout) (g : Invariant s tree layout) (c : Call) (cs : List Call) (later : HoldsFrom cs) where
     -- The same, after call c.
-    abbrev HoldsAfter : Tree → List ℕ → Type 0
-    HoldsAfter after places =
+    abbrev HoldsAfter : Tree → DataLayout → Type 0
+    HoldsAfter after laid =
         P (s .writer .edition) (applyStores (s .buffer) (step s c .stores ++ storesOf (afterCall s c) cs)) (s .writer .form)
-        (treeAfter after cs (answersOf (afterCall s c) cs)) (offsetsAfter nextEnd places cs (answersOf (afterCall s c) cs)) (endAfter nextEnd cs (answersOf (afterCall s c) cs))
+        (treeAfter after cs (answersOf (afterCall s c) cs)) (layoutAfter laid cs (answersOf (afterCall s c) cs))
 
-    goes-on : (after : Tree) (places : List ℕ) → Invariant (afterCall s c) after places → closedBy cs (answersOf (afterCall s c) cs) ≡ true → HoldsAfter after places
-    goes-on after places kept z =
+    goes-on : (after : Tree) (laid : DataLayout) → Invariant (afterCall s c) after laid → closedBy cs (answersOf (afterCall s c) cs) ≡ true → HoldsAfter after laid
+    goes-on after laid kept z =
         let n = afterCall s c in
         let all = applyStores (s .buffer) (step s c .stores ++ storesOf n cs) in
-        let shown = treeAfter after cs (answersOf n cs) in
-        let holds : ℕ → List ℕ → List ℕ → ℕ → Type 0 = λ e r f end. P e r f shown (offsetsAfter end places cs (answersOf n cs)) (endAfter end cs (answersOf n cs)) in
-        subst (λ (end : ℕ). holds (s .writer .edition) all (s .writer .form) end) (step-end s c)
-        (subst (λ (e : ℕ). holds e all (s .writer .form) (n .writer .end)) (step-edition s c)
-        (subst (λ (f : List ℕ). holds (n .writer .edition) all f (n .writer .end)) (step-form s c)
-        (subst (λ (r : List ℕ). holds (n .writer .edition) r (n .writer .form) (n .writer .end)) (sym (apply-append (s .buffer) (step s c .stores) (storesOf n cs)))
-        (later n after places kept z))))
+        let holds : ℕ → List ℕ → List ℕ → Type 0 = λ e r f. P e r f (treeAfter after cs (answersOf n cs)) (layoutAfter laid cs (answersOf n cs)) in
+        subst (λ (e : ℕ). holds e all (s .writer .form)) (step-edition s c)
+        (subst (λ (f : List ℕ). holds (n .writer .edition) all f) (step-form s c)
+        (subst (λ (r : List ℕ). holds (n .writer .edition) r (n .writer .form)) (sym (apply-append (s .buffer) (step s c .stores) (storesOf n cs))) (later n after laid kept z)))
 
     -- What comes after an accepted close changes nothing.
-    closes-buffer : Sleeps s (step s c) → (isAccepted (step s c .answer) && isClose c) ≡ true → HoldsAfter tree offsets
+    closes-buffer : Sleeps s (step s c) → (isAccepted (step s c .answer) && isClose c) ≡ true → HoldsAfter tree layout
     closes-buffer z a =
         let asleep = sleeps-asleep s c z in
         rw (
           asleep-stores (afterCall s c) asleep cs,
           asleep-tree (afterCall s c) asleep tree cs,
-          asleep-offsets (afterCall s c) asleep nextEnd offsets cs,
-          asleep-end (afterCall s c) asleep nextEnd cs,
-          end-slept s c z,
+          asleep-layout (afterCall s c) asleep layout cs,
           append-nil,
           close-made s c (step s c .answer) refl a,
           ← closed-buffer s tree g,
         )
-        (closes s tree offsets g)
+        (closes s tree layout g)
 
-    by-step : Outcome s tree offsets c → ((isAccepted (step s c .answer) && isClose c) || closedBy cs (answersOf (afterCall s c) cs)) ≡ true
-        → HoldsAfter (applyCall tree c (isAccepted (step s c .answer))) (callOffsets (s .writer .end) offsets c (isAccepted (step s c .answer)))
+    by-step : Outcome s tree layout c → ((isAccepted (step s c .answer) && isClose c) || closedBy cs (answersOf (afterCall s c) cs)) ≡ true
+        → HoldsAfter (applyCall tree c (isAccepted (step s c .answer))) (callLayout layout c (isAccepted (step s c .answer)))
     by-step (goesOn e kept rest) z =
         let a = step s c .answer in
-        goes-on (applyCall tree c (isAccepted a)) (callOffsets (s .writer .end) offsets c (isAccepted a)) kept (rw (or-false (isAccepted a && isClose c) (isSpent a) e .0) at z)
+        goes-on (applyCall tree c (isAccepted a)) (callLayout layout c (isAccepted a)) kept (rw (or-false (isAccepted a && isClose c) (isSpent a) e .0) at z)
     by-step (ends e t o sleeps) z =
         rw (t, o) (closes-buffer sleeps (or-left _ _ (asleep-closed (afterCall s c) (sleeps-asleep s c sleeps) cs) z))
 
   pub run-holds : (cs : List Call) → HoldsFrom cs
-  run-holds [] s tree offsets g z = absurd (true≢false (sym z))
-  run-holds (c ∷ cs) s tree offsets g z = by-step s tree offsets g c cs (run-holds cs) (outcome s tree g c) z
+  run-holds [] s tree layout g z = absurd (true≢false (sym z))
+  run-holds (c ∷ cs) s tree layout g z = by-step s tree layout g c cs (run-holds cs) (outcome s tree g c) z

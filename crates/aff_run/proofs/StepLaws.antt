@@ -16,7 +16,7 @@ use Rattle.aff_areas.proofs.StoreLaws.{apply-append}
 use Rattle.aff_write.specs.Close.{storeChecks, closeAnswer}
 use Rattle.aff_make.specs.Make.{childChecks, makeAnswer}
 use Rattle.aff_write.specs.Put.{dataChecks, putAnswer}
-use Rattle.aff_run.specs.Run.{Call, make, put, close, State, Step, needed, step, afterCall, answersOf, storesOf, stateAfter, closedBy, treeAfter, endAfter, offsetsAfter, Run, runBegin, runStart, runStores, runState}
+use Rattle.aff_run.specs.Run.{Call, make, put, close, State, Step, needed, step, afterCall, answersOf, storesOf, stateAfter, closedBy, treeAfter, DataLayout, layoutAfter, Run, runBegin, runStart, runStores, runState}
 
 -- ---- The answer of a call: 24, then 22, then its own checks.
 
@@ -100,13 +100,9 @@ pub asleep-tree : (s : State) → s .writer .live ≡ false → (tree : Tree) (c
 asleep-tree s h tree [] = refl
 asleep-tree s h tree (c ∷ cs) = rw (asleep-next s h c, asleep-step s h c) (asleep-tree s h tree cs)
 
-pub asleep-end : (s : State) → s .writer .live ≡ false → (end : ℕ) (cs : List Call) → endAfter end cs (answersOf s cs) ≡ end
-asleep-end s h end [] = refl
-asleep-end s h end (c ∷ cs) = rw (asleep-next s h c, asleep-step s h c) (asleep-end s h end cs)
-
-pub asleep-offsets : (s : State) → s .writer .live ≡ false → (end : ℕ) (offsets : List ℕ) (cs : List Call) → offsetsAfter end offsets cs (answersOf s cs) ≡ offsets
-asleep-offsets s h end offsets [] = refl
-asleep-offsets s h end offsets (c ∷ cs) = rw (asleep-next s h c, asleep-step s h c) (asleep-offsets s h end offsets cs)
+pub asleep-layout : (s : State) → s .writer .live ≡ false → (layout : DataLayout) (cs : List Call) → layoutAfter layout cs (answersOf s cs) ≡ layout
+asleep-layout s h layout [] = refl
+asleep-layout s h layout (c ∷ cs) = rw (asleep-next s h c, asleep-step s h c) (asleep-layout s h layout cs)
 
 pub asleep-after : (s : State) → s .writer .live ≡ false → (cs : List Call) → stateAfter s cs ≡ s
 asleep-after s h [] = refl

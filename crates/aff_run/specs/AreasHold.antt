@@ -17,7 +17,7 @@ use Rattle.aff_format.specs.declared.edition.Edition.{Edition}
 use Rattle.aff_format.specs.declared.entry.Entry.{Entry}
 use Rattle.aff_areas.specs.Areas.{slotAt}
 use Rattle.aff_run.specs.TreeSizes.{namesOf}
-use Rattle.aff_run.specs.Run.{State}
+use Rattle.aff_run.specs.Run.{State, DataLayout}
 
 -- The 25 bytes of a node, over the strings so far, where the data so far end at `end` and those of the node begin at `offset`.
 pub record SlotOf (e : Edition) (names : List (List ℕ)) (end offset : ℕ) (t : Node) (slot : List ℕ) : Type 0 where
@@ -37,13 +37,13 @@ pub record SlotOf (e : Edition) (names : List (List ℕ)) (end offset : ℕ) (t 
   pub ends : isVoid (t .kind) ≡ false → entry .offset + length (t .bytes) ≤ end
   pub last : isVoid (t .kind) ≡ true → drop 13 slot ≡ replicate 12 0
 
--- Of a run with this tree, this end of data, and these places where the data of the nodes begin.
-pub record AreasHold (edition : ℕ) (tree : Tree) (end : ℕ) (offsets : List ℕ) (s : State) : Type 0 where
+-- Of a run that describes this tree, with its data so laid out.
+pub record AreasHold (edition : ℕ) (tree : Tree) (layout : DataLayout) (s : State) : Type 0 where
   -- The strings so far, each with its zero; zeros after them, 32,768 bytes in all.
   pub text : s .text ≡ textOf (namesOf tree) ++ replicate (textArea - length (textOf (namesOf tree))) 0
   pub text-long : length (s .text) ≡ textArea
   -- Node n's entry at place 25(n − 1); zeros after them, 51,200 bytes in all.
-  pub slots : (n : ℕ) → 0 < n → n ≤ length tree → SlotOf (editionBy edition) (namesOf tree) end (getD offsets (n - 1) 0) (treeNode tree n) (part (slotAt n) 25 (s .tree))
+  pub slots : (n : ℕ) → 0 < n → n ≤ length tree → SlotOf (editionBy edition) (namesOf tree) (layout .end) (getD (layout .offsets) (n - 1) 0) (treeNode tree n) (part (slotAt n) 25 (s .tree))
   pub rest : drop (25 * length tree) (s .tree) ≡ replicate (treeArea - 25 * length tree) 0
   pub tree-long : length (s .tree) ≡ treeArea
   -- The record's edition, counts and end of data.
@@ -51,4 +51,4 @@ pub record AreasHold (edition : ℕ) (tree : Tree) (end : ℕ) (offsets : List �
   pub strings-count : s .writer .strings ≡ length (namesOf tree)
   pub text-count : s .writer .text ≡ length (textOf (namesOf tree))
   pub nodes-count : s .writer .nodes ≡ length tree
-  pub end-recorded : s .writer .end ≡ end
+  pub end-recorded : s .writer .end ≡ layout .end

@@ -11,40 +11,40 @@ use Rattle.aff_run.specs.Run.{Call, make, put, close, isAccepted}
 
 -- The most that a call adds to the finished size: a make its Void entry of 13 bytes, and its name with a zero; a put up to 7 bytes of padding, its bytes, and the 12
 -- by which its entry grows.
-abbrev pub callMost : Call → ℕ
-callMost (make parent name) = 13 + length name + 1
-callMost (put node type bytes allowance) = 7 + length bytes + 12
-callMost (close allowance) = 0
+abbrev pub mostAdded : Call → ℕ
+mostAdded (make parent name) = 13 + length name + 1
+mostAdded (put node type bytes allowance) = 7 + length bytes + 12
+mostAdded (close allowance) = 0
 
--- Of some calls. It is a sum, so it is the same in every order.
-abbrev pub callsMost : List Call → ℕ
-callsMost [] = 0
-callsMost (c ∷ cs) = callMost c + callsMost cs
+-- Of some calls: a sum, which is the same in every order.
+abbrev pub mostAddedBy : List Call → ℕ
+mostAddedBy [] = 0
+mostAddedBy (c ∷ cs) = mostAdded c + mostAddedBy cs
 
 -- No answer is a refusal by a number.
-abbrev pub NeverBy : ℕ → List (Answer ℕ) → Type 0
-NeverBy number [] = Unit {0}
-NeverBy number (a ∷ answers) = ((t : RefusalCode) → a ≡ refused t → t .number ≡ number → ⊥) × NeverBy number answers
+abbrev pub NoneBy : ℕ → List (Answer ℕ) → Type 0
+NoneBy number [] = Unit {0}
+NoneBy number (a ∷ answers) = ((t : RefusalCode) → a ≡ refused t → t .number ≡ number → ⊥) × NoneBy number answers
 
 -- Of the accepted puts: how many they are, and how many bytes they put.
-abbrev pub putCount : Call → Bool → ℕ
-putCount call false = 0
-putCount (make parent name) true = 0
-putCount (put node type bytes allowance) true = 1
-putCount (close allowance) true = 0
+abbrev pub acceptedPut : Call → Bool → ℕ
+acceptedPut call false = 0
+acceptedPut (make parent name) true = 0
+acceptedPut (put node type bytes allowance) true = 1
+acceptedPut (close allowance) true = 0
 
-abbrev pub putBytes : Call → Bool → ℕ
-putBytes call false = 0
-putBytes (make parent name) true = 0
-putBytes (put node type bytes allowance) true = length bytes
-putBytes (close allowance) true = 0
+abbrev pub acceptedSize : Call → Bool → ℕ
+acceptedSize call false = 0
+acceptedSize (make parent name) true = 0
+acceptedSize (put node type bytes allowance) true = length bytes
+acceptedSize (close allowance) true = 0
 
-abbrev pub putsCount : List Call → List (Answer ℕ) → ℕ
-putsCount [] answers = 0
-putsCount (c ∷ cs) [] = 0
-putsCount (c ∷ cs) (a ∷ answers) = putCount c (isAccepted a) + putsCount cs answers
+abbrev pub acceptedPuts : List Call → List (Answer ℕ) → ℕ
+acceptedPuts [] answers = 0
+acceptedPuts (c ∷ cs) [] = 0
+acceptedPuts (c ∷ cs) (a ∷ answers) = acceptedPut c (isAccepted a) + acceptedPuts cs answers
 
-abbrev pub putsBytes : List Call → List (Answer ℕ) → ℕ
-putsBytes [] answers = 0
-putsBytes (c ∷ cs) [] = 0
-putsBytes (c ∷ cs) (a ∷ answers) = putBytes c (isAccepted a) + putsBytes cs answers
+abbrev pub acceptedSizes : List Call → List (Answer ℕ) → ℕ
+acceptedSizes [] answers = 0
+acceptedSizes (c ∷ cs) [] = 0
+acceptedSizes (c ∷ cs) (a ∷ answers) = acceptedSize c (isAccepted a) + acceptedSizes cs answers

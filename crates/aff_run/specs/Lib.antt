@@ -4,4 +4,5 @@ pub mod Run
 pub mod AnswersFromTree
 pub mod Cut
 pub mod AreasHold
+pub mod DescribedFile
 pub mod BufferSize

@@ -3,8 +3,8 @@
 use mathlib.Core.Bool.{Bool, true, false, _&&_, _||_}
 use mathlib.Core.List.{List, [], _∷_, _++_}
 use Prim.Native.Nat.{ℕ, _+_, _-_}
-use lib.ListN.{length, take, set}
-use Rattle.aff_format.specs.Align.{aligned}
+use lib.ListN.{length, take, set, replicate}
+use Rattle.aff_format.specs.Align.{padding, aligned}
 use Rattle.aff_format.specs.Answer.{Answer, accepted, refused}
 use Rattle.aff_format.specs.Edition.{headerSize, editionBy}
 use Rattle.aff_format.specs.Kind.{kindOf}
@@ -143,7 +143,7 @@ treeAfter tree [] answers = tree
 treeAfter tree (c ∷ cs) [] = tree
 treeAfter tree (c ∷ cs) (a ∷ answers) = treeAfter (applyCall tree c (isAccepted a)) cs answers
 
--- ---- Where the data stand: by the calls' arguments and which were accepted, too, in the order of the puts (request C-22).
+-- ---- Where the data are: by the calls' arguments and which were accepted, too, in the order of the puts (request C-22).
 
 -- The end of data: an accepted put begins at the next multiple of 8, and the data then end after its bytes. All else leaves it.
 abbrev pub callEnd : ℕ → Call → Bool → ℕ
@@ -152,11 +152,6 @@ callEnd end (make parent name) true = end
 callEnd end (put node type bytes allowance) true = aligned end + length bytes
 callEnd end (close allowance) true = end
 
-abbrev pub endAfter : ℕ → List Call → List (Answer ℕ) → ℕ
-endAfter end [] answers = end
-endAfter end (c ∷ cs) [] = end
-endAfter end (c ∷ cs) (a ∷ answers) = endAfter (callEnd end c (isAccepted a)) cs answers
-
 -- Of each node where its data begin, 0 while it has none; the first number is node 1's. The data end at `end` before the call.
 abbrev pub callOffsets : ℕ → List ℕ → Call → Bool → List ℕ
 callOffsets end offsets call false = offsets
@@ -164,10 +159,30 @@ callOffsets end offsets (make parent name) true = offsets ++ (0 ∷ [])
 callOffsets end offsets (put node type bytes allowance) true = set offsets (node - 1) (aligned end)
 callOffsets end offsets (close allowance) true = offsets
 
-abbrev pub offsetsAfter : ℕ → List ℕ → List Call → List (Answer ℕ) → List ℕ
-offsetsAfter end offsets [] answers = offsets
-offsetsAfter end offsets (c ∷ cs) [] = offsets
-offsetsAfter end offsets (c ∷ cs) (a ∷ answers) = offsetsAfter (callEnd end c (isAccepted a)) (callOffsets end offsets c (isAccepted a)) cs answers
+-- The bytes of the data section: zeros up to the multiple of 8, and then those of the put.
+abbrev pub callStored : ℕ → List ℕ → Call → Bool → List ℕ
+callStored end stored call false = stored
+callStored end stored (make parent name) true = stored
+callStored end stored (put node type bytes allowance) true = stored ++ (replicate (padding end) 0 ++ bytes)
+callStored end stored (close allowance) true = stored
+
+-- All three together.
+pub record DataLayout : Type 0 where
+  pub end : ℕ
+  pub offsets : List ℕ
+  pub stored : List ℕ
+
+-- No data yet: they end where they begin, after the header.
+abbrev pub noData : ℕ → DataLayout
+noData header = record { end = header; offsets = []; stored = [] }
+
+abbrev pub callLayout : DataLayout → Call → Bool → DataLayout
+callLayout l c ok = record { end = callEnd (l .end) c ok; offsets = callOffsets (l .end) (l .offsets) c ok; stored = callStored (l .end) (l .stored) c ok }
+
+abbrev pub layoutAfter : DataLayout → List Call → List (Answer ℕ) → DataLayout
+layoutAfter l [] answers = l
+layoutAfter l (c ∷ cs) [] = l
+layoutAfter l (c ∷ cs) (a ∷ answers) = layoutAfter (callLayout l c (isAccepted a)) cs answers
 
 -- ---- Whether they close it.
 
@@ -225,12 +240,9 @@ module _ (run : Run) where
   abbrev pub runTree : Tree
   runTree = treeAfter [] (run .calls) runAnswers
 
-  -- Where the data that they put end, and where those of each node begin.
-  abbrev pub runEnd : ℕ
-  runEnd = endAfter (headerSize (editionBy (run .edition))) (run .calls) runAnswers
-
-  abbrev pub runOffsets : List ℕ
-  runOffsets = offsetsAfter (headerSize (editionBy (run .edition))) [] (run .calls) runAnswers
+  -- Where the data that they put are.
+  abbrev pub runLayout : DataLayout
+  runLayout = layoutAfter (noData (headerSize (editionBy (run .edition)))) (run .calls) runAnswers
 
   -- Whether some close was accepted.
   abbrev pub runClosed : Bool
