@@ -20,8 +20,8 @@
 //
 // Programs written for an older header, in which AFF_NUMBERS is 7, must be changed and compiled again: aff_begin takes the edition as its first argument,
 // and numbers[2] of the writer's record is the edition, so that the numbers after it have moved by one. If AFF_RECORD is 12 in the older header, the record
-// of an opening has one number more, and aff_lookup has one more output, place. Where the older header calls numbers[6] the bytes of data, it is now the end of
-// data, 168 more before any padding: a program that computes the file's size from it must be changed (see aff_close).
+// of an opening has one number more, and aff_lookup has one more output, place. And a number that an older header calls the number of bytes of data,
+// numbers[6] or numbers[5], is now the end of data, a place: a program that computes the file's size from it must be changed (see aff_close).
 #ifndef AFF_H
 #define AFF_H
 
@@ -161,8 +161,8 @@ uint32_t aff_decode(uint64_t kind, const uint8_t *bytes, size_t bytes_length, ui
 // ---- Writing a file of edition 2 or 3 into a buffer
 
 // The writer's record is 8 numbers and 12 bytes of form, kept. numbers[0] is what the last call reported; [1] is the buffer's length, [2] the edition,
-// [3] the number of strings, [4] of bytes of text, [5] of nodes without the root; [6] is the end of data, the place in the buffer after the last byte put,
-// 168 while there is none; [7] is 1 while the file is open, and any other number means closed or stopped. Pass record, work areas and buffer to each call as
+// [3] the number of strings, [4] of bytes of text, [5] of nodes without the root; [6] is the end of data, the place in the buffer where the data put so far end,
+// 168 while there are none; [7] is 1 while the file is open, and any other number means closed or stopped. Pass record, work areas and buffer to each call as
 // the last one left them. aff_make, aff_put and aff_close first return 24 if they do not belong together, if the recorded edition is not 2 or 3, or if the
 // recorded end of data is below 168, and then 22 if the file is not open.
 //
@@ -201,13 +201,15 @@ uint32_t aff_make(const uint8_t *buffer, size_t buffer_length, AFF_WRITER, uint8
     uint64_t parent, const uint8_t *name, size_t name_length);
 
 // Gives a Void node its type and its data, once; the bytes are stored as they are, so pass them big-endian. 0 bytes are an empty array. Zeros are stored
-// before them up to the next multiple of 8, for 0 bytes too; numbers[0] is the number of bytes stored, zeros included. Returns 15 if there is no such node, 18 for the root or a node with data, 19 for a type other than 2 to 5 or for bytes
-// that are no whole number of elements, 21 if the finished file would not fit the buffer.
+// before them, up to the next multiple of 8 in the buffer, for 0 bytes too. numbers[0] is the number of bytes stored, with those zeros. Returns 15 if there
+// is no such node, 18 for the root or a node with data, 19 for a type other than 2 to 5 or for bytes that are no whole number of elements, 21 if the finished
+// file would not fit the buffer.
 uint32_t aff_put(uint8_t *buffer, size_t buffer_length, AFF_WRITER, const uint8_t *text, size_t text_length, uint8_t *tree, size_t tree_length,
     uint64_t node, uint64_t kind, const uint8_t *bytes, size_t bytes_length, uint64_t allowance);
 
 // Finishes the file: stores strings, entries, the header from byte 1 on, and last the first byte. numbers[0] is the number of bytes stored, numbers[7]
-// is 0. The file is then the first numbers[6] + numbers[0] - 168 bytes of the buffer (the end of data, the strings, the entries), and the whole buffer opens too. An open file always fits its buffer.
+// is 0. The file is then the first numbers[6] + numbers[0] - 168 bytes of the buffer: up to the end of data, then strings and entries; 168 is the header,
+// which is counted in both. The whole buffer opens too. An open file always fits its buffer.
 uint32_t aff_close(uint8_t *buffer, size_t buffer_length, AFF_WRITER, const uint8_t *text, size_t text_length, const uint8_t *tree,
     size_t tree_length, uint64_t allowance);
 
