@@ -6,7 +6,8 @@ use mathlib.Core.List.{List, [], _∷_, _++_, map}
 use Prim.Native.Nat.{ℕ, zero, suc, _+_, _-_, _%_, _≤_, _<_}
 use native.Mathlib.Omega.{arith}
 use lib.Dec.{eqb, ltb}
-use lib.ListN.{length, getD, length-map}
+use lib.ListN.{length, getD, drop, length-map}
+use lib.Seq.{drop-append-seam}
 use borrow.Author.Tests.{eqb-true, eqb-false, eq-eqb, le-ltb}
 use Rattle.aff_format.specs.Answer.{Answer, accepted, refused, check, refusal, refusalAt}
 use Rattle.aff_format.specs.Edition.{headerSize, editionBy, namesWritten}
@@ -16,6 +17,7 @@ use Rattle.aff_format.specs.declared.edition.Edition.{Edition}
 use Rattle.aff_format.specs.declared.refusal.RefusalCode.{RefusalCode}
 use Rattle.aff_format.proofs.AlignLaws.{next-multiple}
 use Rattle.aff_format.proofs.AnswerLaws.{check-reported}
+use Rattle.aff_format.proofs.EditionLaws.{header-least}
 use Rattle.aff_open.specs.Opening.{openAnswer, stringsAfter, entriesAfter}
 use Rattle.aff_open.specs.Rules.{EachNode}
 use Rattle.aff_reader.specs.declared.reader.Reader.{Reader}
@@ -29,17 +31,18 @@ use Rattle.aff_run.specs.AnswersFromTree.{closeNeeds, AllWrongRecord}
 use Rattle.aff_run.specs.BufferSize.{mostAddedBy, NoneBy}
 use Rattle.aff_run.specs.DescribedFile.{describedContents}
 use Rattle.aff_run.specs.TreeSizes.{namesFrom, entriesSize, sizeOf}
-use Rattle.aff_run.specs.Run.{State, DataLayout, noData, beginStep, Run, runBegin, runStart, runAnswers, runState, runTree, runLayout, runClosed}
+use Rattle.aff_run.specs.Run.{State, storesOf, DataLayout, noData, beginStep, Run, runBegin, runStart, runAnswers, runStores, runState, runTree, runLayout, runClosed}
 use Rattle.aff_run.proofs.AnswersFromTreeLaws.{run-from-tree, run-spent, run-refused}
-use Rattle.aff_run.proofs.BeginInvariantLaws.{no-size}
+use Rattle.aff_run.proofs.BeginInvariantLaws.{no-size, begin-stores, begin-invariant}
 use Rattle.aff_run.proofs.BeginRefusedLaws.{none-closed}
 use Rattle.aff_run.proofs.BufferSizeLaws.{end-least, end-most, most-swapped, answers-fit}
 use Rattle.aff_run.proofs.ClosedLaws.{contents, rest, closed, closed-is, lawful, length-closed}
 use Rattle.aff_run.proofs.DescribedFileLaws.{contents-described}
+use Rattle.aff_run.proofs.InsideLaws.{Below, below-append, below-drop, run-inside}
 use Rattle.aff_run.proofs.InvariantLaws.{Invariant, offsetOf, offset-at, stored-in, count-same}
 use Rattle.aff_run.proofs.StepLaws.{run-buffer}
 use Rattle.aff.specs.Demand1.{NotBy}
-use Rattle.aff.specs.DataPlaces.{ViewPlaced, ViewsAligned, FilesDescribed, BufferSuffices, DataPlaces}
+use Rattle.aff.specs.DataPlaces.{ViewPlaced, ViewsAligned, describedFile, FilesDescribed, BufferSuffices, DataPlaces}
 use Rattle.aff.proofs.Demand3Laws.{all-holds}
 
 -- ---- The file of a run.
@@ -107,18 +110,39 @@ by-stores : (e : Edition) (end : ℕ) (tree : Tree) {n : ℕ} → n ≡ sizeOf e
 unfolding sizeOf closeNeeds
 by-stores e end tree h = omega arith
 
+-- The bytes after the file are those before begin.
+after-by : (a : Answer ℕ) (run : Run) → runBegin run .answer ≡ a → runClosed run ≡ true
+    → drop (sizeOf (runLayout run .end) (runTree run)) (runState run .buffer) ≡ drop (sizeOf (runLayout run .end) (runTree run)) (run .buffer)
+unfolding sizeOf
+after-by (accepted n) run h c =
+    let size = sizeOf (runLayout run .end) (runTree run) in
+    let none = noData (headerSize (editionBy (run .edition))) in
+    let later = storesOf (runStart run) (run .calls) in
+    let first : Below size (runBegin run .stores) =
+    subst (Below size) (sym (begin-stores run h)) (omega (arith, end-least none (run .calls) (runAnswers run), header-least (editionBy (run .edition))), tt) in
+    ap (drop size) (run-buffer run)
+    ∙ below-drop size (run .buffer) (runStores run)
+    (below-append size (runBegin run .stores) later first (run-inside (run .calls) (runStart run) [] none (begin-invariant run h) c))
+after-by (refused t) run h c = absurd (true≢false (sym c ∙ none-closed run t h))
+
+after-kept : (run : Run) → runClosed run ≡ true
+    → drop (sizeOf (runLayout run .end) (runTree run)) (runState run .buffer) ≡ drop (sizeOf (runLayout run .end) (runTree run)) (run .buffer)
+after-kept run c = after-by (runBegin run .answer) run refl c
+
 files-described : FilesDescribed
 files-described run c =
     let p = placed run c in
     let e = editionBy (run .edition) in
-    record {
-      file = fileOf e (p .held) (run .form);
-      rest = p .after;
-      is = ap (λ (x : FileContents). fileOf e x (run .form)) (p .described);
-      buffer = p .file;
-      size = p .size;
-      by-close = by-stores e (runLayout run .end) (runTree run) (p .size);
-    }
+    let is : fileOf e (p .held) (run .form) ≡ describedFile run = ap (λ (x : FileContents). fileOf e x (run .form)) (p .described) in
+    let size = sym (ap length is) ∙ p .size in
+    let buffer : runState run .buffer ≡ describedFile run ++ p .after = p .file ∙ ap (λ (l : List ℕ). l ++ p .after) is in
+    let rest : p .after ≡ drop (length (describedFile run)) (run .buffer) =
+    sym (drop-append-seam (describedFile run) (p .after))
+    ∙ ap (drop (length (describedFile run))) (sym buffer)
+    ∙ ap (λ (n : ℕ). drop n (runState run .buffer)) size
+    ∙ after-kept run c
+    ∙ ap (λ (n : ℕ). drop n (run .buffer)) (sym size) in
+    record { buffer = buffer ∙ ap (λ (l : List ℕ). describedFile run ++ l) rest; size = size; by-close = by-stores e (runLayout run .end) (runTree run) size }
 
 -- ---- The buffer.
 

@@ -5,7 +5,7 @@ use mathlib.Core.Path.{_≡_}
 use mathlib.Core.Bool.{true}
 use mathlib.Core.List.{List, _∷_, _++_}
 use Prim.Native.Nat.{ℕ, _+_, _-_, _*_, _%_, _≤_, _<_}
-use lib.ListN.{length, getD}
+use lib.ListN.{length, getD, drop}
 use Rattle.aff_format.specs.Align.{NextMultiple}
 use Rattle.aff_format.specs.Answer.{accepted}
 use Rattle.aff_format.specs.Edition.{headerSize, editionBy}
@@ -43,16 +43,17 @@ ViewsAligned = (run : Run) → runClosed run ≡ true → (r : Reader) → openA
 
 -- ---- The file.
 
--- The buffer that a run leaves is the file that it describes, and then the bytes after it.
+-- The file that a run describes, byte for byte: of the edition and with the form that begin was given, the tree and the layout of its data.
+abbrev pub describedFile : Run → List ℕ
+describedFile run = fileOf (editionBy (run .edition)) (describedContents (runTree run) (runLayout run)) (run .form)
+
+-- The buffer that a run leaves.
 pub record FileDescribed (run : Run) : Type 0 where
-  -- The file, byte for byte: of the edition and with the form that begin was given, the tree and the layout of its data. Nothing that the buffer held before is in it.
-  pub file : List ℕ
-  pub rest : List ℕ
-  pub is : file ≡ fileOf (editionBy (run .edition)) (describedContents (runTree run) (runLayout run)) (run .form)
-  pub buffer : runState run .buffer ≡ file ++ rest
-  -- Its size is the finished size; and so the end of data and the stores that a close needs, which an accepted one reports, less the header: include/aff.h gives it so.
-  pub size : length file ≡ sizeOf (runLayout run .end) (runTree run)
-  pub by-close : length file + headerSize (editionBy (run .edition)) ≡ runLayout run .end + closeNeeds (editionBy (run .edition)) (runTree run)
+  -- It is the file described, and then the bytes that it held there before begin. So nothing that it held before is in the file, and nothing after the file changes.
+  pub buffer : runState run .buffer ≡ describedFile run ++ drop (length (describedFile run)) (run .buffer)
+  -- The file's size is the finished size; it is the end of data and the stores that a close needs, which an accepted one reports, less the header: include/aff.h gives it so.
+  pub size : length (describedFile run) ≡ sizeOf (runLayout run .end) (runTree run)
+  pub by-close : length (describedFile run) + headerSize (editionBy (run .edition)) ≡ runLayout run .end + closeNeeds (editionBy (run .edition)) (runTree run)
 
 abbrev pub FilesDescribed : Type 0
 FilesDescribed = (run : Run) → runClosed run ≡ true → FileDescribed run

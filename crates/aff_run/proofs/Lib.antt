@@ -14,4 +14,5 @@ pub mod BeginRefusedLaws
 pub mod AnswersFromTreeLaws
 pub mod AreasHoldLaws
 pub mod DescribedFileLaws
+pub mod InsideLaws
 pub mod BufferSizeLaws

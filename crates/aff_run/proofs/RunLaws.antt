@@ -127,12 +127,12 @@ module _ (s : State) (tree : Tree) {layout : DataLayout} (g : Invariant s tree l
 
 -- ---- The run.
 
-or-left : (a b : Bool) → b ≡ false → (a || b) ≡ true → a ≡ true
+pub or-left : (a b : Bool) → b ≡ false → (a || b) ≡ true → a ≡ true
 or-left true b e h = refl
 or-left false b e h = sym e ∙ h
 
 -- The stores of an accepted close.
-close-made : (s : State) (c : Call) (a : Answer ℕ) → step s c .answer ≡ a → (isAccepted a && isClose c) ≡ true
+pub close-made : (s : State) (c : Call) (a : Answer ℕ) → step s c .answer ≡ a → (isAccepted a && isClose c) ≡ true
     → step s c .stores ≡ closeStores (s .buffer) (s .writer) (s .text) (s .tree)
 close-made s c (refused t) h z = absurd (true≢false (sym z))
 close-made s (make parent name) (accepted n) h z = absurd (true≢false (sym z))
