@@ -125,10 +125,7 @@ take-zeros (suc k) (suc n) h = ap (λ (l : List ℕ). 0 ∷ l) (take-zeros k n (
 
 -- How many stores a put needs.
 pub length-putStores : (writer : Writer) (bytes : List ℕ) → length (putStores writer bytes) ≡ padding (writer .end) + length bytes
-length-putStores writer bytes =
-    length-storesFrom (writer .end) (replicate (padding (writer .end)) 0 ++ bytes)
-    ∙ length-append (replicate (padding (writer .end)) 0) bytes
-    ∙ rw length-replicate
+length-putStores writer bytes = rw (length-storesFrom, length-append, length-replicate) (omega arith)
 
 -- As the code makes them: the first of eight zeros, as many as there are from the end of data to the place, and the bytes after them.
 module _ (writer : Writer) (place : ℕ) (p : place ≡ putPlace writer) where
