@@ -161,16 +161,17 @@ uint32_t aff_decode(uint64_t kind, const uint8_t *bytes, size_t bytes_length, ui
 // ---- Writing a file of edition 2 or 3 into a buffer
 
 // The writer's record is 8 numbers and 12 bytes of form, kept. numbers[0] is what the last call reported; [1] is the buffer's length, [2] the edition,
-// [3] the number of strings, [4] of bytes of text, [5] of nodes without the root; [6] is the end of data, the place in the buffer where the data put so far end,
-// 168 while there are none; [7] is 1 while the file is open, and any other number means closed or stopped. Pass record, work areas and buffer to each call as
-// the last one left them. aff_make, aff_put and aff_close first return 24 if they do not belong together, if the recorded edition is not 2 or 3, or if the
-// recorded end of data is below 168, and then 22 if the file is not open.
+// [3] the number of strings, [4] of bytes of text, [5] of nodes without the root; [6] is the end of data, the place after the last byte that an accepted
+// aff_put stored, zeros included, and 168 while there is none; [7] is 1 while the file is open, and any other number means closed or stopped. Pass record, work
+// areas and buffer to each call as the last one left them. aff_make, aff_put and aff_close first return 24 if they do not belong together, if the recorded edition is not 2 or 3, or if the
+// recorded end of data is below 168 or past the buffer, and then 22 if the file is not open.
 //
-// The data of each node begin at a multiple of 8 from the start of the file: aff_put stores zeros up to the next one first. So in a file mapped at a page, or
-// in a buffer at a multiple of 8, the Doubles that this library wrote are aligned (their bytes are big-endian; files of other writers need not be aligned).
+// The data of each node begin at a multiple of 8 from the start of the file: aff_put stores zeros up to the next one first, none if the data end at one. So in
+// a file mapped at a page, or in a buffer at a multiple of 8, the Doubles are aligned. Their bytes are big-endian. Files of other writers, and those of this
+// library before it aligned data, need not be aligned.
 //
 // A buffer that is never too small, in whatever order the calls come: 168 bytes, 14 and the name's bytes for each aff_make, and 19 and the data's bytes for
-// each aff_put. (A name used again, and data that need fewer zeros than 7, take less.)
+// each aff_put, if this is at most 2,147,483,647. (A name used again, and data that need fewer zeros than 7, take less.)
 //
 // An allowance is the largest number of bytes that a call may store in the buffer; UINT64_MAX is no limit. After a refusal with 23 exactly that many
 // are stored, numbers[0] is their number, numbers[7] is 0, and the work areas are unchanged; the file cannot be continued. After any other refusal only

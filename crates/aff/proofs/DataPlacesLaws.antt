@@ -10,12 +10,13 @@ use lib.ListN.{length, getD, drop, length-map}
 use lib.Seq.{drop-append-seam}
 use borrow.Author.Tests.{eqb-true, eqb-false, eq-eqb, le-ltb}
 use Rattle.aff_format.specs.Answer.{Answer, accepted, refused, check, refusal, refusalAt}
+use Rattle.aff_format.specs.Bytes.{part}
 use Rattle.aff_format.specs.Edition.{headerSize, editionBy, namesWritten}
 use Rattle.aff_format.specs.Limits.{stringLimit, nodeLimit}
 use Rattle.aff_format.specs.Tree.{Tree}
 use Rattle.aff_format.specs.declared.edition.Edition.{Edition}
 use Rattle.aff_format.specs.declared.refusal.RefusalCode.{RefusalCode}
-use Rattle.aff_format.proofs.AlignLaws.{next-multiple}
+use Rattle.aff_format.proofs.AlignLaws.{aligned-multiple, aligned-above, aligned-lowest}
 use Rattle.aff_format.proofs.AnswerLaws.{check-reported}
 use Rattle.aff_format.proofs.EditionLaws.{header-least}
 use Rattle.aff_open.specs.Opening.{openAnswer, stringsAfter, entriesAfter}
@@ -25,7 +26,7 @@ use Rattle.aff_reader.specs.declared.reader.Span.{Span}
 use Rattle.aff_nodes.specs.Answers.{viewAnswer}
 use Rattle.aff_tables.specs.Tables.{nodeEntry}
 use Rattle.aff_file.specs.File.{FileContents, fileOf, Lawful}
-use Rattle.aff_file.proofs.FileShowsLaws.{file-view, file-view-root}
+use Rattle.aff_file.proofs.FileShowsLaws.{file-stored, file-view, file-view-root}
 use Rattle.aff_write.specs.Begin.{beginLengthsWrong, beginAnswer}
 use Rattle.aff_run.specs.AnswersFromTree.{closeNeeds, AllWrongRecord}
 use Rattle.aff_run.specs.BufferSize.{mostAddedBy, NoneBy}
@@ -92,11 +93,12 @@ module _ (run : Run) (p : Placed (run .edition) (runState run .buffer) (run .for
   file-views : ViewsOf run (fileOf (editionBy (run .edition)) (p .held) (run .form) ++ p .after)
   file-views r h strings entries a b zero view v =
       let z = file-view-root (editionBy (run .edition)) (p .held) (run .form) (p .after) (p .held-lawful) h strings entries a b v in
-      record { multiple = rw z; described = λ lo. absurd (omega arith); place = λ lo. absurd (omega arith) }
+      record { multiple = rw z; root = λ _. z; described = λ lo. absurd (omega arith); place = λ lo. absurd (omega arith) }
   file-views r h strings entries a b (suc k) view v =
       let (hi, is) = file-view (editionBy (run .edition)) (p .held) (run .form) (p .after) (p .held-lawful) h strings entries a b (suc k) v (omega arith) in
       record {
         multiple = rw is (p .multiples (suc k) (omega arith) hi);
+        root = λ q. absurd (omega arith);
         described = λ lo. omega (arith, hi, ap length (p .places), length-map (p .held .entries) offsetOf);
         place = λ lo. is ∙ offset-at (p .held .entries) (suc k) lo ∙ ap (λ (l : List ℕ). getD l (suc k - 1) 0) (p .places);
       }
@@ -142,7 +144,9 @@ files-described run c =
     ∙ ap (λ (n : ℕ). drop n (runState run .buffer)) size
     ∙ after-kept run c
     ∙ ap (λ (n : ℕ). drop n (run .buffer)) (sym size) in
-    record { buffer = buffer ∙ ap (λ (l : List ℕ). describedFile run ++ l) rest; size = size; by-close = by-stores e (runLayout run .end) (runTree run) size }
+    let stored : part (headerSize e) (length (runLayout run .stored)) (runState run .buffer) ≡ runLayout run .stored =
+    rw (p .file, ← ap (λ (x : FileContents). x .stored) (p .described)) (file-stored e (p .held) (run .form) (p .after) (p .held-lawful)) in
+    record { stored = stored; buffer = buffer ∙ ap (λ (l : List ℕ). describedFile run ++ l) rest; size = size; by-close = by-stores e (runLayout run .end) (runTree run) size }
 
 -- ---- The buffer.
 
@@ -181,7 +185,7 @@ buffer-suffices run f = (begin-never run f, never-by run f (runBegin run .answer
 pub data-places : DataPlaces
 data-places =
     record {
-      next-multiple = next-multiple;
+      next-multiple = λ n. record { multiple = aligned-multiple n; above = aligned-above n; lowest = aligned-lowest n };
       views-aligned = views-aligned;
       files-described = files-described;
       end-bounds = λ run.

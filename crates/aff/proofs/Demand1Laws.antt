@@ -4,12 +4,13 @@
 use mathlib.Core.Path.{_≡_, refl, sym, ap, _∙_}
 use mathlib.Core.Bool.{Bool, true, false, cond, not, _||_, true≢false}
 use mathlib.Core.List.{List, [], _∷_}
-use mathlib.Core.Logic.{_⊎_, _↔_}
-use Prim.Native.Nat.{ℕ}
+use mathlib.Core.Logic.{_⊎_, _↔_, ⊎-elim}
+use Prim.Native.Nat.{ℕ, _<_}
 use native.Mathlib.Omega.{arith}
 use lib.Dec.{ltb, leb}
 use lib.ListN.{length}
 use borrow.Author.Tests.{eq-eqb, ne-eqb, eqb-false}
+use Rattle.aff_format.specs.Edition.{headerSize, editionBy}
 use Rattle.aff_format.specs.Answer.{Answer, refused, Check, check, refusal, firstWrong}
 use Rattle.aff_format.specs.Tree.{Tree}
 use Rattle.aff_format.specs.declared.edition.Edition.{Edition}
@@ -28,7 +29,7 @@ use Rattle.aff_nodes.specs.Recall.{countAt, pathAt}
 use Rattle.aff_areas.specs.Belongs.{writerBelongs as belongsHere, WriterBelongs}
 use Rattle.aff_areas.specs.Writer.{noWriter}
 use Rattle.aff_areas.specs.declared.writer.Writer.{Writer}
-use Rattle.aff_areas.proofs.BelongsLaws.{belongs-record as writer-clauses, record-belongs as writer-belongs, none-belongs as none-belongs-here}
+use Rattle.aff_areas.proofs.BelongsLaws.{belongs-record as writer-clauses, record-belongs as writer-belongs, none-belongs as none-belongs-here, end-inside}
 use Rattle.aff_write.specs.Close.{storeChecks, closeAnswer}
 use Rattle.aff_make.specs.Make.{childChecks, makeAnswer}
 use Rattle.aff_write.specs.Put.{dataChecks, putAnswer}
@@ -143,6 +144,17 @@ module _ (buffer : List ℕ) (w : Writer) (text tree : List ℕ) where
       go true h = absurd (other (written-numbers (w .edition) .0 (writer-clauses h .edition-written)))
       go false h = wrong-writes h
 
+  end-writes : (w .end < headerSize (editionBy (w .edition))) ⊎ (length buffer < w .end) → EachWriting Is24 buffer w text tree
+  end-writes other = go (belongsHere (length buffer) w text tree) refl
+    where
+      go : (b : Bool) → belongsHere (length buffer) w text tree ≡ b → EachWriting Is24 buffer w text tree
+      go true h =
+          let b = writer-clauses h in
+          absurd
+          (⊎-elim (λ (l : w .end < headerSize (editionBy (w .edition))). omega (arith, b .end-after-header))
+          (λ (l : length buffer < w .end). omega (arith, end-inside w tree, b .size-fits, b .length-recorded)) other)
+      go false h = wrong-writes h
+
 -- ---- What a run's answers say of 24 and 22.
 
 -- The checks of a call of a run report neither.
@@ -203,6 +215,7 @@ demand1 =
       reading-24 = reads-24;
       writing-24 = writes-24;
       unwritten-24 = unwritten-writes;
+      end-24 = end-writes;
       opened-reads = λ image form strings entries h.
           reads image _ (stringsAfter image form strings entries) (entriesAfter image form strings entries) (opened-belongs image form strings entries h);
       refused-reads = λ image form strings entries h other ss es. rw h (wrong-reads other noReader ss es (none-belongs other ss es));

@@ -26,7 +26,8 @@ use Rattle.aff_areas.specs.Writer.{stopped}
 use Rattle.aff_run.specs.Run.{Call, make, put, close, State, next, beginStep, needed, completed, step, afterCall, Run, runBegin, runStart}
 use Rattle.aff_run.proofs.BeginInvariantLaws.{begin-stores}
 use Rattle.aff_run.proofs.BeginRefusedLaws.{none-stored}
-use Rattle.aff_run.proofs.RunLaws.{needed-made, next-unchanged}
+use Rattle.aff_run.proofs.PutBufferLaws.{put-buffer}
+use Rattle.aff_run.proofs.RunLaws.{needed-made, next-unchanged, step-end}
 use Rattle.aff.specs.Leaves.{OpeningLeaves, ReadingLeaves, BeginLeaves, WritingLeaves}
 use Rattle.aff_listing.specs.ListingOrder.{listingOrder, listedCount, listingAnswer}
 use Rattle.aff_listing.specs.declared.choice.Choice.{Choice}
@@ -133,4 +134,6 @@ writing-leaves s c =
       by-acceptance = done s c;
       by-23 = λ t h e. spent s c t h (eq-eqb (t .number) 23 e);
       by-others = λ t h e. next-unchanged s c t (ne-eqb (t .number) 23 e) h;
+      end-moved = step-end s c;
+      put-buffer = λ node type bytes allowance e. rw e (put-buffer s node type bytes allowance);
     }

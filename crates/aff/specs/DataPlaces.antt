@@ -6,8 +6,9 @@ use mathlib.Core.Bool.{true}
 use mathlib.Core.List.{List, _∷_, _++_}
 use Prim.Native.Nat.{ℕ, _+_, _-_, _*_, _%_, _≤_, _<_}
 use lib.ListN.{length, getD, drop}
-use Rattle.aff_format.specs.Align.{NextMultiple}
+use Rattle.aff_format.specs.Align.{aligned}
 use Rattle.aff_format.specs.Answer.{accepted}
+use Rattle.aff_format.specs.Bytes.{part}
 use Rattle.aff_format.specs.Edition.{headerSize, editionBy}
 use Rattle.aff_format.specs.Limits.{stringLimit, nodeLimit}
 use Rattle.aff_open.specs.Opening.{openAnswer, stringsAfter, entriesAfter}
@@ -22,13 +23,20 @@ use Rattle.aff_run.specs.TreeSizes.{sizeOf}
 use Rattle.aff_run.specs.Run.{Call, Run, runBegin, runAnswers, runState, runTree, runLayout, runClosed}
 use Rattle.aff.specs.Demand1.{NotBy}
 
+-- 'The next multiple of 8': the lowest one at or above a place.
+pub record NextMultiple (n : ℕ) : Type 0 where
+  pub multiple : aligned n % 8 ≡ 0
+  pub above : n ≤ aligned n
+  pub lowest : (m : ℕ) → n ≤ m → m % 8 ≡ 0 → aligned n ≤ m
+
 -- ---- Views.
 
 -- The view of node n of the file of a run.
 pub record ViewPlaced (run : Run) (n : ℕ) (view : Span) : Type 0 where
-  -- It begins at a multiple of 8, counted from the start of the file. (That of the root and of a Void node, which have no byte, begins at 0.)
+  -- It begins at a multiple of 8, counted from the start of the file.
   pub multiple : view .offset % 8 ≡ 0
-  -- Where n is not the root, it begins where the calls describe it.
+  -- The root's begins at 0; that of another node where the calls describe it, which is 0 for a Void node.
+  pub root : n ≡ 0 → view .offset ≡ 0
   pub described : 0 < n → n ≤ length (runLayout run .offsets)
   pub place : 0 < n → view .offset ≡ getD (runLayout run .offsets) (n - 1) 0
 
@@ -51,7 +59,10 @@ describedFile run = fileOf (editionBy (run .edition)) (describedContents (runTre
 pub record FileDescribed (run : Run) : Type 0 where
   -- It is the file described, and then the bytes that it held there before begin. So nothing that it held before is in the file, and nothing after the file changes.
   pub buffer : runState run .buffer ≡ describedFile run ++ drop (length (describedFile run)) (run .buffer)
-  -- The file's size is the finished size; it is the end of data and the stores that a close needs, which an accepted one reports, less the header: include/aff.h gives it so.
+  -- From the header on it has the bytes of the data section, padding included.
+  pub stored : part (headerSize (editionBy (run .edition))) (length (runLayout run .stored)) (runState run .buffer) ≡ runLayout run .stored
+  -- The file's size is the finished size. It is the end of data and the stores that a close needs (which the accepted one reports, by `AnswersFromTree`), less the header:
+  -- include/aff.h gives it so.
   pub size : length (describedFile run) ≡ sizeOf (runLayout run .end) (runTree run)
   pub by-close : length (describedFile run) + headerSize (editionBy (run .edition)) ≡ runLayout run .end + closeNeeds (editionBy (run .edition)) (runTree run)
 
@@ -75,7 +86,6 @@ abbrev pub InAnyOrder : Type 0
 InAnyOrder = (before : List Call) (c d : Call) (after : List Call) → mostAddedBy (before ++ (c ∷ d ∷ after)) ≡ mostAddedBy (before ++ (d ∷ c ∷ after))
 
 pub record DataPlaces : Type 0 where
-  -- 'The next multiple of 8' is the lowest one at or above a place.
   pub next-multiple : (n : ℕ) → NextMultiple n
   pub views-aligned : ViewsAligned
   pub files-described : FilesDescribed

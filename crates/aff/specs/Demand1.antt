@@ -8,7 +8,7 @@ use mathlib.Core.Path.{_≡_}
 use mathlib.Core.Bool.{Bool, true, false, _||_}
 use mathlib.Core.List.{List, [], _∷_}
 use mathlib.Core.Logic.{_⊎_, _↔_}
-use Prim.Native.Nat.{ℕ, _≤_}
+use Prim.Native.Nat.{ℕ, _≤_, _<_}
 use lib.ListN.{length}
 use Rattle.aff_format.specs.Answer.{Answer, accepted, refused, refusal}
 use Rattle.aff_format.specs.Edition.{headerSize, editionNumber, editionBy, NamesWritten}
@@ -109,6 +109,8 @@ pub record Demand1 : Type 0 where
   pub writing-24 : (buffer : List ℕ) (w : Writer) (text tree : List ℕ) → EachWriting (Is24Unless (WriterBelongs (length buffer) w text tree)) buffer w text tree
   -- So each writing call with a record of another edition than 2 and 3 answers 24 (request C-15).
   pub unwritten-24 : (buffer : List ℕ) (w : Writer) (text tree : List ℕ) → ((w .edition ≡ 2) ⊎ (w .edition ≡ 3) → ⊥) → EachWriting Is24 buffer w text tree
+  -- And so does one whose end of data is inside the header of its edition, or past the buffer (request C-22).
+  pub end-24 : (buffer : List ℕ) (w : Writer) (text tree : List ℕ) → (w .end < headerSize (editionBy (w .edition))) ⊎ (length buffer < w .end) → EachWriting Is24 buffer w text tree
   -- Reading. After an accepted opening no reading call on its record, the image and the areas as it left them answers 24.
   pub opened-reads : (image form strings entries : List ℕ) {r : Reader} → openAnswer image form (length strings) (length entries) ≡ accepted r
       → EachReading Not24 image r (stringsAfter image form strings entries) (entriesAfter image form strings entries)

@@ -3,22 +3,23 @@
 -- statements are about the definitions that the contracts cite for what record, areas, buffer and output hold at the return, whatever the caller
 -- passed; for the writer, about the steps of a run (crates/aff_run/specs/Run.antt), which are composed of them.
 use mathlib.Core.Path.{_≡_}
-use mathlib.Core.List.{List, []}
+use mathlib.Core.List.{List, [], _++_}
 use Prim.Native.Nat.{ℕ}
 use lib.ListN.{length, take, replicate, set}
+use Rattle.aff_format.specs.Align.{padding}
 use Rattle.aff_format.specs.Answer.{Answer, accepted, refused}
 use Rattle.aff_format.specs.declared.refusal.RefusalCode.{RefusalCode}
 use Rattle.aff_open.specs.Opening.{openAnswer, readerAfter, stringPlaces, nodePlaces, stringsAfter, entriesAfter}
 use Rattle.aff_reader.specs.Reader.{noReader}
 use Rattle.aff_open.specs.Sections.{editionIn}
-use Rattle.aff_format.specs.Bytes.{laidOver}
+use Rattle.aff_format.specs.Bytes.{laidOver, spliced}
 use Rattle.aff_reader.specs.declared.reader.Reader.{Reader}
 use Rattle.aff_nodes.specs.Answers.{partOf, nameAnswer, viewAnswer}
 use Rattle.aff_read.specs.Paths.{frontWritten, pathAnswer, Output}
 use Rattle.aff_nodes.specs.Recall.{pathAt}
-use Rattle.aff_areas.specs.Stores.{applyStores}
+use Rattle.aff_areas.specs.Stores.{applyStores, storesReported}
 use Rattle.aff_areas.specs.Writer.{noWriter, freshWriter, stopped}
-use Rattle.aff_run.specs.Run.{Call, State, needed, completed, step, afterCall, Run, runBegin, runStart}
+use Rattle.aff_run.specs.Run.{Call, put, State, needed, completed, step, afterCall, isAccepted, callEnd, Run, runBegin, runStart}
 use Rattle.aff_listing.specs.ListingOrder.{listingOrder, listingAnswer}
 use Rattle.aff_listing.specs.declared.choice.Choice.{Choice}
 
@@ -89,7 +90,6 @@ pub record BeginLeaves (run : Run) : Type 0 where
 -- ---- Make, put and close.
 
 pub record WritingLeaves (s : State) (c : Call) : Type 0 where
-  -- Accepted: what the call is to leave, with all its stores made.
   -- Accepted: `completed`. Of record and areas this is the definition of `step`, made of what the contracts of make, put and close cite; of the buffer it
   -- says that all stores needed were made.
   pub by-acceptance : (n : ℕ) → step s c .answer ≡ accepted n → afterCall s c ≡ completed s c
@@ -99,3 +99,9 @@ pub record WritingLeaves (s : State) (c : Call) : Type 0 where
       → afterCall s c ≡ record { writer = stopped (s .writer); text = s .text; tree = s .tree; buffer = applyStores (s .buffer) (take (t .place) (needed s c)) }
   -- Refused by another number: record, areas and buffer as they were.
   pub by-others : (t : RefusalCode) → step s c .answer ≡ refused t → (t .number ≡ 23 → ⊥) → afterCall s c ≡ s
+  -- The end of data in the record: an accepted put moves it to the next multiple of 8 and past its bytes; nothing else moves it (request C-22).
+  pub end-moved : step s c .writer .end ≡ callEnd (s .writer .end) c (isAccepted (step s c .answer))
+  -- A put, whatever it answers: from the end of data on the buffer has zeros up to the next multiple of 8 and then the bytes, of these as many as the answer reports as
+  -- stores, the first ones; all else of it is as it was (request C-22).
+  pub put-buffer : (node type : ℕ) (bytes : List ℕ) (allowance : ℕ) → c ≡ put node type bytes allowance
+      → afterCall s c .buffer ≡ spliced (s .writer .end) (take (storesReported (step s c .answer)) (replicate (padding (s .writer .end)) 0 ++ bytes)) (s .buffer)

@@ -5,7 +5,7 @@ use mathlib.Core.List.{List}
 use Prim.Native.Nat.{ℕ, _≤_, _<_}
 use native.Mathlib.Omega.{arith}
 use lib.Dec.{eqb}
-use lib.ListN.{length, getD, take}
+use lib.ListN.{length, getD, take, replicate}
 use borrow.Author.Tests.{le-leb, lt-ltb, le-ltb}
 use Rattle.aff_format.specs.Answer.{accepted}
 use Rattle.aff_format.specs.Edition.{editionNumber}
@@ -16,6 +16,7 @@ use Rattle.aff_open.specs.Sections.{editionIn}
 use Rattle.aff_reader.specs.Belongs.{ReaderBelongs}
 use Rattle.aff_reader.specs.declared.reader.Reader.{Reader}
 use Rattle.aff_areas.specs.Belongs.{WriterBelongs}
+use Rattle.aff_areas.specs.Writer.{noWriter}
 use Rattle.aff_areas.specs.declared.writer.Writer.{Writer}
 use Rattle.aff_c.specs.Opening.{numbersOf, recordLeft}
 use Rattle.aff_c.specs.Reading.{editionNumberIn, readerIn}
@@ -43,6 +44,10 @@ kept n w h = rw (narrow (w .edition) h, flag-kept (w .live))
 placed : (n : ℕ) (w : Writer) → getD (numbersBy n w) 2 0 ≡ w .edition
 unfolding numbersBy
 placed n w = refl
+
+all-zero : (numbersBy 0 noWriter ≡ replicate 8 0) × (noWriter .form ≡ replicate 12 0)
+unfolding numbersBy
+all-zero = (refl, refl)
 
 end-placed : (n : ℕ) (w : Writer) → getD (numbersBy n w) 6 0 ≡ w .end
 unfolding numbersBy
@@ -85,6 +90,7 @@ records-in-c =
       writer-kept = kept;
       reader-kept = opened-kept;
       edition-at = placed;
+      none-zero = all-zero;
       end-at = end-placed;
       opened-edition-at = opened-placed;
       edition-wide = no-writer;

@@ -2,12 +2,13 @@
 use mathlib.Core.Path.{_≡_}
 use mathlib.Core.List.{List}
 use Prim.Native.Nat.{ℕ, _≤_, _<_}
-use lib.ListN.{length, getD, take}
+use lib.ListN.{length, getD, take, replicate}
 use Rattle.aff_format.specs.Answer.{accepted}
 use Rattle.aff_open.specs.Opening.{openAnswer}
 use Rattle.aff_reader.specs.Belongs.{ReaderBelongs}
 use Rattle.aff_reader.specs.declared.reader.Reader.{Reader}
 use Rattle.aff_areas.specs.Belongs.{WriterBelongs}
+use Rattle.aff_areas.specs.Writer.{noWriter}
 use Rattle.aff_areas.specs.declared.writer.Writer.{Writer}
 use Rattle.aff_c.specs.Opening.{recordLeft}
 use Rattle.aff_c.specs.Reading.{readerIn}
@@ -21,6 +22,8 @@ pub record RecordsInC : Type 0 where
       → openAnswer image form (length strings) (length entries) ≡ accepted r → readerIn (take 12 (recordLeft image form strings entries output)) ≡ r
   -- include/aff.h: the edition is numbers[2] of a writer, and record[2] of an accepted opening.
   pub edition-at : (n : ℕ) (w : Writer) → getD (numbersBy n w) 2 0 ≡ w .edition
+  -- The record that a begin refused by 1, 3 or 21 leaves is all zero: numbers and kept.
+  pub none-zero : (numbersBy 0 noWriter ≡ replicate 8 0) × (noWriter .form ≡ replicate 12 0)
   -- The end of data is numbers[6] of a writer (request C-22).
   pub end-at : (n : ℕ) (w : Writer) → getD (numbersBy n w) 6 0 ≡ w .end
   pub opened-edition-at : (image form strings entries output : List ℕ) {r : Reader} → 13 ≤ length output

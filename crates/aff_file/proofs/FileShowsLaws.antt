@@ -6,6 +6,7 @@ use mathlib.Core.List.{List, [], _∷_, _++_, map}
 use Prim.Native.Nat.{ℕ, zero, suc, _+_, _-_, _*_, _≤_, _<_}
 use native.Mathlib.Omega.{arith}
 use lib.ListN.{length, length-map}
+use lib.Seq.{take-length}
 use Rattle.aff_format.specs.Answer.{Answer, accepted}
 use Rattle.aff_format.specs.Bytes.{part}
 use Rattle.aff_format.specs.Edition.{hasCounts, headerSize}
@@ -62,6 +63,11 @@ module _ (e : Edition) (c : FileContents) (form rest : List ℕ) (g : Lawful e c
       ap (part at n) (file-laid e c form rest)
       ∙ part-middle (fileHeader e c form) (c .stored) (textOf (c .names) ++ (treeBytes (c .entries) ++ rest)) at n (omega arith) (omega arith)
       ∙ rw l
+
+  pub file-stored : part (headerSize e) (length (c .stored)) file ≡ c .stored
+  file-stored =
+      let z : headerSize e - headerSize e ≡ 0 = omega arith in
+      data-there (headerSize e) (length (c .stored)) (omega arith) (omega arith) ∙ rw (z, take-length)
 
   -- An entry makes the same node by the file as by the contents.
   bytes-alike : (n : Entry)

@@ -2,15 +2,18 @@
 use mathlib.Core.Path.{_≡_}
 use Prim.Native.Nat.{ℕ, _+_, _-_, _%_, _≤_, _<_}
 use native.Mathlib.Omega.{arith}
-use Rattle.aff_format.specs.Align.{padding, aligned, NextMultiple}
+use Rattle.aff_format.specs.Align.{padding, aligned}
 
 pub aligned-multiple : (n : ℕ) → aligned n % 8 ≡ 0
 unfolding padding
 aligned-multiple n = omega arith
 
-pub next-multiple : (n : ℕ) → NextMultiple n
+pub aligned-above : (n : ℕ) → n ≤ aligned n
+aligned-above n = omega arith
+
+pub aligned-lowest : (n m : ℕ) → n ≤ m → m % 8 ≡ 0 → aligned n ≤ m
 unfolding padding
-next-multiple n = record { multiple = aligned-multiple n; above = omega arith; lowest = λ m h e. omega arith }
+aligned-lowest n m h e = omega arith
 
 pub padding-few : (n : ℕ) → padding n < 8
 unfolding padding

@@ -124,7 +124,7 @@ gave-out (givesOut e h reported asleep) k = reported
 -- ---- The calls.
 
 module _ (s : State) where
-  abbrev putBefore : ℕ → ℕ → List ℕ → List Check
+  abbrev pub putBefore : ℕ → ℕ → List ℕ → List Check
   putBefore node type bytes =
       writerChecks (length (s .buffer)) (s .writer) (s .text) (s .tree)
       ++ (check (ltb (s .writer .nodes) node) (refusal 15)

@@ -9,6 +9,7 @@ pub mod StepLaws
 pub mod RunLaws
 pub mod PlaceLaws
 pub mod CutLaws
+pub mod PutBufferLaws
 pub mod BeginInvariantLaws
 pub mod BeginRefusedLaws
 pub mod AnswersFromTreeLaws

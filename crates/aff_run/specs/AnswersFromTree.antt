@@ -1,5 +1,5 @@
--- What each call of a run answers, decided by the edition, the tree described so far, its sizes, the end of data and the allowance alone: document 01's table,
--- for a run.
+-- What each call of a run answers, decided by the edition, the buffer's length, the tree described so far, its sizes, the end of data and the allowance alone:
+-- document 01's table, for a run.
 use mathlib.Core.Path.{_≡_}
 use mathlib.Core.Bool.{Bool, false, cond, not, _&&_, _||_}
 use mathlib.Core.List.{List, [], _∷_}
