@@ -3,12 +3,12 @@
 use mathlib.Core.Path.{_≡_, refl, sym, ap, _∙_, subst}
 use mathlib.Core.Bool.{Bool, true, false, not, true≢false}
 use mathlib.Core.List.{List, [], _∷_, _++_, map}
-use Prim.Native.Nat.{ℕ, zero, suc, _+_, _-_, _%_, _≤_, _<_}
+use Prim.Native.Nat.{ℕ, zero, suc, _+_, _-_, _%_, _≤_}
 use native.Mathlib.Omega.{arith}
 use lib.Dec.{eqb, ltb}
 use lib.ListN.{length, getD, drop, length-map}
 use lib.Seq.{drop-append-seam}
-use borrow.Author.Tests.{eqb-true, eqb-false, eq-eqb, le-ltb}
+use borrow.Author.Tests.{eq-eqb, le-ltb}
 use Rattle.aff_format.specs.Answer.{Answer, accepted, refused, check, refusal, refusalAt}
 use Rattle.aff_format.specs.Bytes.{part}
 use Rattle.aff_format.specs.Edition.{headerSize, editionBy, namesWritten}
@@ -31,7 +31,7 @@ use Rattle.aff_write.specs.Begin.{beginLengthsWrong, beginAnswer}
 use Rattle.aff_run.specs.AnswersFromTree.{closeNeeds, AllWrongRecord}
 use Rattle.aff_run.specs.BufferSize.{mostAddedBy, NoneBy}
 use Rattle.aff_run.specs.DescribedFile.{describedContents}
-use Rattle.aff_run.specs.TreeSizes.{namesFrom, entriesSize, sizeOf}
+use Rattle.aff_run.specs.TreeSizes.{sizeOf}
 use Rattle.aff_run.specs.Run.{State, storesOf, DataLayout, noData, beginStep, Run, runBegin, runStart, runAnswers, runStores, runState, runTree, runLayout, runClosed}
 use Rattle.aff_run.proofs.AnswersFromTreeLaws.{run-from-tree, run-spent, run-refused}
 use Rattle.aff_run.proofs.BeginInvariantLaws.{no-size, begin-stores, begin-invariant}

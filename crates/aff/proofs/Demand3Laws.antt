@@ -15,7 +15,6 @@ use Rattle.aff_format.specs.declared.edition.FoundEdition.{FoundEdition}
 use Rattle.aff_format.specs.declared.edition.FoundEdition.the-variants.{Known, Unknown}
 use Rattle.aff_format.proofs.EditionLaws.{first-byte, header-least}
 use Rattle.aff_open.proofs.SectionLaws.{text-known}
-use Rattle.aff_format.specs.Bytes.{sameBytes}
 use Rattle.aff_format.specs.Limits.{imageLimit, stringLimit, nodeLimit}
 use Rattle.aff_format.specs.Tree.{Tree}
 use Rattle.aff_open.specs.Opening.{upToTables, openChecks, openAnswer}

@@ -27,7 +27,6 @@ use Rattle.aff_format.proofs.ClimbLaws.{absurd-bool}
 use Rattle.aff_format.proofs.EditionLaws.{edition-by-number, written-named, length-numberForm}
 use Rattle.aff_format.specs.declared.kind.Kind.the-variants.{Void, Int}
 use Rattle.aff_tables.specs.Tables.{treeBytes}
-use Rattle.aff_areas.specs.Areas.{dataNodes}
 use Rattle.aff_header.specs.Header.{sectionNumbers, sectionHeader, headerFront, withSum}
 use Rattle.aff_file.specs.File.{FileContents, headerOf, fileHeader, fileOf}
 use Rattle.aff_areas.specs.Stores.{Store, applyStores, storesReported}
@@ -42,7 +41,7 @@ use Rattle.aff_run.proofs.BeginInvariantLaws.{begin-invariant, begin-edition, b
 use Rattle.aff_run.proofs.ClosedLaws.{contents, rest, closed, closed-is, closed-buffer}
 use Rattle.aff_run.proofs.CutLaws.{make-stores, put-reports, close-reports}
 use Rattle.aff_run.proofs.AnswersFromTreeLaws.{run-from-tree}
-use Rattle.aff_run.proofs.InvariantLaws.{Each, Invariant, entry-in}
+use Rattle.aff_run.proofs.InvariantLaws.{Each, Invariant}
 use Rattle.aff_run.proofs.MakeInvariantLaws.{made-invariant}
 use Rattle.aff_run.proofs.PutInvariantLaws.{put-invariant}
 use Rattle.aff_run.proofs.RunLaws.{step-form, step-edition, step-end, needed-made}

@@ -1,5 +1,5 @@
 -- What one call writes, the next one reads: by the places of the numbers, and since the number of an edition has few bits. Assumes nothing.
-use mathlib.Core.Path.{_≡_, refl, sym, ap, _∙_}
+use mathlib.Core.Path.{_≡_, refl, ap, _∙_}
 use mathlib.Core.Bool.{Bool, true, false, cond}
 use mathlib.Core.List.{List}
 use Prim.Native.Nat.{ℕ, _≤_, _<_}
@@ -8,7 +8,6 @@ use lib.Dec.{eqb}
 use lib.ListN.{length, getD, take, replicate}
 use borrow.Author.Tests.{le-leb, lt-ltb, le-ltb}
 use Rattle.aff_format.specs.Answer.{accepted}
-use Rattle.aff_format.specs.Edition.{editionNumber}
 use Rattle.aff_format.proofs.AnswerLaws.{passed-value}
 use Rattle.aff_format.proofs.EditionLaws.{edition-numbers, number-of-edition}
 use Rattle.aff_open.specs.Opening.{openAnswer, openChecks, readerFor}

@@ -3,7 +3,7 @@
 -- proofs/EditionLaws.antt.
 use mathlib.Core.Path.{_≡_}
 use mathlib.Core.Bool.{Bool, true, false}
-use mathlib.Core.List.{List, [], _∷_}
+use mathlib.Core.List.{[], _∷_}
 use Prim.Native.Nat.{ℕ, _+_}
 use Rattle.aff_format.specs.Edition.{editionNumber, signatureText, hasCounts, sectionHeaderAt, headerSumAt, headerSize, leastHeader, mostHeader}
 use Rattle.aff_format.specs.declared.section.Section.the-variants.{Symbol, Tree, Data}

@@ -1,10 +1,10 @@
 -- A header is written part after part over an area, and each part has its length: laws for the code that writes it. Assumes nothing.
-use mathlib.Core.Path.{_≡_, refl, sym, ap, _∙_}
+use mathlib.Core.Path.{_≡_, ap, _∙_}
 use mathlib.Core.Bool.{Bool, true, false, cond}
-use mathlib.Core.List.{List, [], _∷_, _++_, map, append-assoc, append-nil}
-use Prim.Native.Nat.{ℕ, _+_, _-_, _*_, _≤_}
+use mathlib.Core.List.{List, [], _++_, map, append-assoc, append-nil}
+use Prim.Native.Nat.{ℕ, _+_, _-_, _≤_}
 use native.Mathlib.Omega.{arith}
-use lib.ListN.{length, take, drop, length-append, drop-of-length-le}
+use lib.ListN.{length, take, drop, length-append}
 use lib.Seq.{take-at, length-take-le}
 use Rattle.md5.specs.Md5.{md5}
 use Rattle.md5.proofs.DigestLaws.{length-md5}
@@ -13,7 +13,7 @@ use Rattle.aff_format.specs.Edition.{signatureText, hasCounts, headerOrder, sec
 use Rattle.aff_format.specs.Number.{beBytes}
 use Rattle.aff_format.specs.declared.edition.Edition.{Edition}
 use Rattle.aff_format.specs.declared.section.Section.{Section}
-use Rattle.aff_format.proofs.BytesLaws.{spliced-next, spliced-nil}
+use Rattle.aff_format.proofs.BytesLaws.{spliced-next}
 use Rattle.aff_format.proofs.EditionLaws.{length-signatureText, section-header-parts, order-is}
 use Rattle.aff_format.proofs.NumberLaws.{length-beBytes}
 use Rattle.aff_header.specs.Header.{sectionNumbers, sectionHeader, headerFront, withSum}

@@ -25,7 +25,7 @@ use Rattle.aff_format.proofs.LowestLaws.{lowest-same}
 use Rattle.aff_format.proofs.StringsLaws.{isIn-indexIn, indexIn-within}
 use Rattle.aff_format.proofs.TestLaws.{or-false, left-short}
 use Rattle.aff_format.proofs.LaidLaws.{laid-at}
-use Rattle.aff_areas.specs.Areas.{namesIn, slotAt, slotEntry, finishedSize}
+use Rattle.aff_areas.specs.Areas.{namesIn, slotAt, slotEntry}
 use Rattle.aff_areas.specs.Belongs.{WriterBelongs, writerChecks}
 use Rattle.aff_areas.specs.Writer.{writerAfter, areaAfter}
 use Rattle.aff_areas.specs.passes.Marks.{marksOf, isMarked}

@@ -1,6 +1,6 @@
 -- A run after an accepted begin: record and areas hold the tree described, zeros after. While the writer is live, from what holds between the calls; an
 -- accepted close and a 23 leave areas and counts, and after them nothing changes. By induction on the calls. Assumes nothing.
-use mathlib.Core.Path.{_≡_, sym, ap, _∙_, refl, subst}
+use mathlib.Core.Path.{_≡_, ap, _∙_, refl, subst}
 use mathlib.Core.Bool.{Bool, true}
 use mathlib.Core.List.{List, [], _∷_, _++_}
 use Prim.Native.Nat.{ℕ, zero, suc, _-_, _*_, _≤_, _<_}

@@ -13,7 +13,6 @@ use Rattle.aff_format.specs.Edition.{headerSize, editionBy, namesWritten, Names
 use Rattle.aff_format.specs.Limits.{imageLimit, textArea, treeArea}
 use Rattle.aff_format.specs.Strings.{textOf}
 use Rattle.aff_format.proofs.AnswerLaws.{passed, passed-value}
-use Rattle.aff_format.specs.declared.edition.Edition.{Edition}
 use Rattle.aff_format.proofs.EditionLaws.{names-written}
 use Rattle.aff_format.proofs.TestLaws.{or-false}
 use Rattle.aff_areas.specs.Stores.{applyStores, storesFrom}

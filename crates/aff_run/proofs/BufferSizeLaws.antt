@@ -3,13 +3,13 @@
 use mathlib.Core.Path.{_≡_, refl, sym, ap, _∙_}
 use mathlib.Core.Bool.{Bool, true, false, cond, not, _||_, true≢false}
 use mathlib.Core.List.{List, [], _∷_, _++_}
-use Prim.Native.Nat.{ℕ, _+_, _*_, _≤_, _<_}
+use Prim.Native.Nat.{ℕ, _+_, _*_, _≤_}
 use native.Mathlib.Omega.{arith}
 use lib.Dec.{eqb, ltb}
 use lib.ListN.{length}
 use borrow.Author.Tests.{eq-eqb, eqb-false, le-ltb, ltb-false, not-false}
 use Rattle.aff_format.specs.Align.{padding, aligned}
-use Rattle.aff_format.specs.Answer.{Answer, accepted, refused, Check, check, refusal, refusalAt, firstWrong, Clear}
+use Rattle.aff_format.specs.Answer.{Answer, accepted, refused, Check, check, refusal, refusalAt, Clear}
 use Rattle.aff_format.specs.Kind.{kindOf, isVoid}
 use Rattle.aff_format.specs.Strings.{isIn}
 use Rattle.aff_format.specs.Subkey.{subkeyFrom, checkGrammar}

@@ -3,20 +3,18 @@
 use mathlib.Core.Path.{_≡_, refl, sym, ap, _∙_}
 use mathlib.Core.Bool.{Bool, true, false, _&&_, _||_, true≢false}
 use mathlib.Core.List.{List, [], _∷_, _++_, append-nil}
-use Prim.Native.Nat.{ℕ, zero, suc, _+_, _≤_, _<_}
+use Prim.Native.Nat.{ℕ, _+_, _≤_, _<_}
 use native.Mathlib.Omega.{arith}
-use lib.Dec.{eqb}
 use lib.ListN.{length, set, take, drop, replicate, length-append, length-drop, length-replicate}
 use lib.Seq.{length-take-le, drop-set-lt}
 use Rattle.aff_format.specs.Align.{padding, aligned}
 use Rattle.aff_format.specs.Answer.{Answer, accepted, refused}
 use Rattle.aff_format.specs.Tree.{Tree}
-use Rattle.aff_format.specs.declared.refusal.RefusalCode.{RefusalCode}
 use Rattle.aff_format.proofs.EditionLaws.{header-least}
 use Rattle.aff_format.proofs.TestLaws.{or-false}
 use Rattle.aff_areas.specs.Areas.{usedText, entriesOut}
 use Rattle.aff_areas.specs.Stores.{Store, applyStores, storesFrom}
-use Rattle.aff_areas.specs.Writer.{writerEdition, dataPlace}
+use Rattle.aff_areas.specs.Writer.{writerEdition}
 use Rattle.aff_write.specs.Close.{symbolsPlace, treePlace, closeHeader, closeStores}
 use Rattle.aff_write.specs.Put.{putStores}
 use Rattle.aff_run.specs.AnswersFromTree.{isSpent, stops}
@@ -26,7 +24,7 @@ use Rattle.aff_run.proofs.BufferSizeLaws.{end-least}
 use Rattle.aff_run.proofs.ClosedLaws.{length-header}
 use Rattle.aff_run.proofs.CutLaws.{make-stores}
 use Rattle.aff_run.proofs.InvariantLaws.{Invariant, used-text, entries-in, sizes-in-bytes}
-use Rattle.aff_run.proofs.RunLaws.{needed-made, close-made, or-left, Sleeps, sleeps-asleep, Outcome, goesOn, ends, outcome}
+use Rattle.aff_run.proofs.RunLaws.{needed-made, close-made, or-left, sleeps-asleep, Outcome, goesOn, ends, outcome}
 use Rattle.aff_run.proofs.StepLaws.{step-refused, asleep-stores, asleep-closed, asleep-tree, asleep-layout}
 
 -- ---- Stores below a place.

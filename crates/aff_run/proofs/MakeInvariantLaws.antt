@@ -20,7 +20,6 @@ use Rattle.aff_format.specs.Lowest.{lowestFrom}
 use Rattle.aff_format.specs.Strings.{isIn, textOf}
 use Rattle.aff_format.specs.Subkey.{isSubkey}
 use Rattle.aff_format.specs.Tree.{Node, Tree, root, treeNode}
-use Rattle.aff_format.specs.declared.edition.Edition.{Edition}
 use Rattle.aff_format.specs.declared.entry.Entry.{Entry}
 use Rattle.aff_format.specs.declared.kind.Kind.the-variants.{Void}
 use Rattle.aff_format.proofs.BytesLaws.{length-spliced}

@@ -3,11 +3,11 @@
 use mathlib.Core.Path.{_≡_, refl, sym, ap, _∙_}
 use mathlib.Core.Bool.{Bool, true, false}
 use mathlib.Core.List.{List, [], _∷_, _++_}
-use Prim.Native.Nat.{ℕ, _+_, _≤_, min}
+use Prim.Native.Nat.{ℕ, _+_, _≤_}
 use native.Mathlib.Nat.{add-zero}
 use native.Mathlib.Omega.{arith}
 use lib.Dec.{eqb, ltb}
-use lib.ListN.{length, take, drop, replicate, length-append, length-replicate, length-take, take-append-drop}
+use lib.ListN.{length, take, replicate, length-append, length-replicate, length-take, take-append-drop}
 use borrow.Author.Tests.{ltb-false, not-false}
 use Rattle.aff_format.specs.Align.{padding}
 use Rattle.aff_format.specs.Answer.{Answer, accepted, refused, check, refusalAt, Clear}

@@ -1,5 +1,5 @@
 -- Put data: document 01, 'Writing keys', and 'Order': 24, 22, 15, 18, 19, 21, 23.
-use mathlib.Core.Bool.{Bool, true, false, not, _||_}
+use mathlib.Core.Bool.{Bool, true, not, _||_}
 use mathlib.Core.List.{List, [], _∷_, _++_}
 use Prim.Native.Nat.{ℕ, _+_, _%_}
 use lib.Dec.{eqb, ltb}

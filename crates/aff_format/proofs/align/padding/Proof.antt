@@ -2,7 +2,6 @@
 use mathlib.Core.Path.{refl}
 use native.Mathlib.Omega.{arith}
 use Rattle.aff_format.specs.Align.{padding}
-use Rattle.aff_format.proofs.AlignLaws.{padding-few}
 use borrow.Author.Needs.{needs}
 use Rattle.aff_format.proofs.align.padding.Statement.{statement}
 use Rattle.aff_format.proofs.align.padding.Tie as tie
