@@ -4,17 +4,18 @@
 A script is a run of steps: the writer's calls, and between them what is printed, or changed without the writer. What must be printed is worked
 out here from document 01, requests C-15, C-18 and C-22 and source document 000, with no code of the library: `Writer` answers the calls by its tables, and
 a finished file is laid out a second time by make_images. The refusal that a case is about is said by hand besides. Everything is run in both written
-editions.
+editions. Of runs in which two puts have changed places, what request C-23 claims is asserted here too, over the answers and the finished files.
 It writes crates/test_write/stdin (each step after its length in 4 bytes) and stdout.
 
     tests/make_writes.py [FOLDER]      FOLDER: where these are written, the repository where none is given
 """
+import collections
 import itertools
 import struct
 
 from make_images import (
-    ALIGNED, CHAR, COMPLEX, DOUBLE, DOUBLE_FIRST, HEADER, INT, NAMES, VOID, WIDE, WRITTEN, Image, aligned, aligned_data, destination, double_first, entry,
-    fault, form, md5,
+    ALIGNED, CHAR, COMPLEX, DOUBLE, DOUBLE_FIRST, HEADER, HEADERS, INT, NAMES, VOID, WIDE, WRITTEN, Image, aligned, aligned_data, destination, double_first,
+    entry, fault, form, md5, strings_of,
 )
 from make_listings import SIZE, brief, lines, write
 
@@ -164,10 +165,11 @@ class Writer:
 
 class Script:
     """Steps, with what they print. `edition` is the one that begin is passed where a case names no other. `tree` has the nodes that the accepted calls
-    describe: parent, name, type, bytes; `order` has those with data, in the order of the puts."""
+    describe: parent, name, type, bytes; `order` has those with data, in the order of the puts. `answered` has the calls of a case, each by name, with their
+    answers."""
 
     def __init__(self):
-        self.w, self.stdin, self.out, self.tree, self.order, self.cases, self.edition = Writer(), [], [], [], [], 0, 2
+        self.w, self.stdin, self.out, self.tree, self.order, self.answered, self.cases, self.edition = Writer(), [], [], [], [], [], 0, 2
 
     def step(self, letter, numbers=(), data=b""):
         block = letter.encode() + struct.pack(">3Q", *(list(numbers) + [0, 0, 0])[:3]) + data
@@ -175,6 +177,7 @@ class Script:
 
     def reported(self, name, answer, expect):
         assert expect is None or answer == expect, (self.out[-3:], name, answer, expect)
+        self.answered.append((name, answer))
         r = self.w.rec
         numbers = " ".join(str(r[f]) for f in FIELDS[:6])
         self.out.append("%s %s, record %s %s %s\n" % (name, " ".join(map(str, answer)), numbers, "open" if r["open"] else "shut", self.w.form.hex()))
@@ -183,6 +186,7 @@ class Script:
     def case(self, title, buffer=None, fill=0xEE):
         """Begins a case: its title, the lengths passed, and a buffer full of one byte."""
         self.cases += 1
+        self.answered = []
         title = f"edition {self.edition}: {title}"
         self.step("#", data=title.encode())
         self.out.append(title + "\n")
@@ -1047,6 +1051,217 @@ def offsets(s):
     assert s.out[-11] == "1 path /a name a type 2 count accepted 3 bytes 626300\n" and s.out[-8] == "  elements 0000003ff0000000 refused 16 0\n"
 
 
+# Request C-23: two puts that follow each other may change places. A call is the name of a step and its arguments. A run has its calls and their answers, the
+# stores made, and the end of data after begin and after each call. Where a close was accepted, it has the file, what is in it (`tree_in`), and what is
+# printed of it.
+Run = collections.namedtuple("Run", "calls answers stores ends file nodes offsets printed", defaults=[None] * 4)
+PAIR = [("make", 0, b"a"), ("make", 0, b"b"), ("put", 1, CHAR, ABC), ("put", 2, DOUBLE, ONE)]
+
+
+def tree_in(edition, file):
+    """The nodes of a finished file, read from its own sections: path, type, count and bytes of each; and the offsets in their entries, 0 for Void."""
+    part = {}
+    for k, section in enumerate(HEADERS[edition]):
+        offset, size = struct.unpack_from(">QQ", file, 32 + 40 * k)
+        part[section] = file[offset:offset + size]
+    strings, entries = strings_of(part["symbol"]), part["tree"]
+    paths, nodes, offsets = [b""], [], []
+    while entries:
+        kind, parent, string = struct.unpack_from(">BQI", entries)
+        count, offset = (0, 0) if kind == VOID else struct.unpack_from(">IQ", entries, 13)
+        paths.append(paths[parent] + b"/" + strings[string])
+        nodes.append((paths[-1], kind, count, file[offset:offset + count * SIZE.get(kind, 0)]))
+        offsets.append(offset)
+        entries = entries[13 if kind == VOID else 25:]
+    return nodes, offsets
+
+
+def stores_made(s):
+    """The stores that the calls of the case have made. Of the refusals only 23 reports a number of stores; the other ones of begin, put and close report 0."""
+    return sum(answer[-1] for name, answer in s.answered if name != "make")
+
+
+def run(s, title, buffer, calls, total=None):
+    """Begin and the calls; then the file is opened and read, or refused by 3 where no close was accepted. Where a total allowance is given, each call that
+    stores gets what is left of it."""
+    s.case(title, buffer)
+    s.begin(MOST if total is None else total, expect=yes(1))
+    ends = [s.w.rec["end"]]
+    for call in calls:
+        left = () if total is None or call[0] == "make" else (total - stores_made(s),)
+        getattr(s, call[0])(*call[1:], *left)
+        ends.append(s.w.rec["end"])
+    s.sums()
+    made = (calls, [answer for _, answer in s.answered[1:]], stores_made(s), ends)
+    if any(name == "close" and answer[0] == "accepted" for name, answer in s.answered):
+        return Run(*made, *read_back(s))
+    s.refused(3)
+    return Run(*made)
+
+
+def read_back(s):
+    """The file, what is in it, and what the program prints of it: as `listall`, and by every reading call."""
+    file, before = bytes(s.w.buffer[:s.w.size()]), len(s.out)
+    s.listed()
+    s.opened()
+    return file, *tree_in(s.edition, file), s.out[before:]
+
+
+def exchanged(items, k):
+    """The items with k and k + 1 exchanged."""
+    return [*items[:k], items[k + 1], items[k], *items[k + 2:]]
+
+
+def both_orders(s, title, buffer, calls, k, total=None):
+    """A run, and the same with its calls k and k + 1 exchanged."""
+    return run(s, title, buffer, calls, total), run(s, title + ", exchanged", buffer, exchanged(calls, k), total)
+
+
+def without_allowance(call):
+    return call[:{"make": 3, "put": 4, "close": 1}[call[0]]]
+
+
+def accepted(answers):
+    return [answer[0] == "accepted" for answer in answers]
+
+
+def one_tree(one, other, k):
+    """What request C-23 claims of two runs with the same calls but for allowances, where the puts k and k + 1 of the one are exchanged in the other: if the
+    same calls are accepted, both puts and a close among them, both files show one tree, and all answers but the stores of accepted puts are the same."""
+    assert [without_allowance(call) for call in one.calls] == exchanged([without_allowance(call) for call in other.calls], k)
+    answers, same = exchanged(other.answers, k), accepted(one.answers)
+    assert same == accepted(answers) and same[k] and same[k + 1] and one.file and other.file
+    assert one.nodes == other.nodes and one.printed == other.printed
+    for call, first, second in zip(one.calls, one.answers, answers):
+        assert first == second or call[0] == "put" and first[0] == "accepted", (call, first, second)
+    data_places(one, other, k)
+
+
+def data_places(one, other, k):
+    """Where the data of these two runs are. Those of every node but the two begin at the same place. After the two puts the data end at the same place exactly
+    where the lengths agree modulo 8, else at most 7 apart with the same next multiple of 8. From the next accepted put on all ends and answers are the same."""
+    moved = [call[1] for call in one.calls[k:k + 2]]
+    assert all(first == second for n, (first, second) in enumerate(zip(one.offsets, other.offsets), 1) if n not in moved)
+    assert one.answers[:k] == other.answers[:k] and one.ends[:k + 1] == other.ends[:k + 1]
+    agree = len(one.calls[k][3]) % 8 == len(one.calls[k + 1][3]) % 8
+    first, second = one.ends[k + 2], other.ends[k + 2]
+    assert (first == second) == agree and abs(first - second) <= 7 and -first // 8 == -second // 8, (first, second)
+    later = [i for i in range(k + 2, len(one.calls)) if one.calls[i][0] == "put" and one.answers[i][0] == "accepted"]
+    same = k + 2 if agree else min(later, default=len(one.calls)) + 1
+    assert one.ends[same:] == other.ends[same:] and one.answers[same:] == other.answers[same:]
+    assert len(one.file) - len(other.file) == (0 if agree or later else first - second)
+
+
+def put_orders(s):
+    one_pair(s)
+    total_allowances(s)
+    three_puts(s)
+    made_before(s)
+    later_puts(s)
+    refused_calls(s)
+    same_remainder(s)
+    pairs_of_lengths(s)
+
+
+def one_pair(s):
+    calls = [*PAIR, ("close",)]
+    one, other = both_orders(s, "order: abc, then a Double, in a buffer of 238", 238, calls, 2)
+    one_tree(one, other, 2)
+    assert [md5(r.file).hex() for r in (one, other)] == [ALIGNED[s.edition], DOUBLE_FIRST[s.edition]]
+    assert (one.offsets, other.offsets) == ([168, 176], [176, 168]) and (len(one.file), len(other.file)) == (238, 233)
+    assert (one.stores, other.stores) == (239, 234)
+    one, other = both_orders(s, "order: abc, then a Double, in a buffer of 237", 237, calls, 2)
+    assert one.answers[3] == no(21) and all(accepted(other.answers)) and one.nodes != other.nodes
+
+
+def total_allowances(s):
+    """One total allowance for all calls: abc first takes 239 stores in all, the Double first 234."""
+    for total, first, second in ((233, no(23, 216), no(23, 221)), (234, no(23, 217), yes(222)), (238, no(23, 221), yes(222)), (239, yes(222), yes(222))):
+        one, other = both_orders(s, "order: abc, then a Double, with %d stores in all" % total, 238, [*PAIR, ("close",)], 2, total)
+        assert (one.answers[-1], other.answers[-1]) == (first, second) and all(accepted(one.answers[:-1] + other.answers[:-1]))
+    one_tree(one, other, 2)
+
+
+def three_puts(s):
+    """Puts of 3, 8 and 5 bytes in every order. The last one begins at 184."""
+    puts = [*PAIR[2:], ("put", 3, CHAR, b"12345")]
+    makes = [*PAIR[:2], ("make", 0, b"c")]
+    runs = {}
+    for order in itertools.permutations(range(3)):
+        calls = [*makes, *(puts[i] for i in order), ("close",)]
+        runs[order] = run(s, "order: 3, 8 and 5 bytes, node %d first, then %d, then %d" % tuple(i + 1 for i in order), 300, calls)
+        assert runs[order].ends[-1] == 184 + len(calls[-2][3])
+    for order, k in itertools.product(runs, range(2)):
+        one_tree(runs[order], runs[tuple(exchanged(order, k))], len(makes) + k)
+
+
+def made_before(s):
+    """The last make before the two puts makes one of the nodes, below the other."""
+    calls = [("make", 0, b"c"), ("put", 1, CHAR, b"12345"), ("make", 0, b"a"), ("make", 2, b"b"), ("put", 2, CHAR, ABC), ("put", 3, DOUBLE, ONE), ("close",)]
+    one, other = both_orders(s, "order: abc in a node, then a Double in its child made just before", 300, calls, 4)
+    one_tree(one, other, 4)
+    assert (one.offsets, other.offsets) == ([168, 176, 184], [168, 184, 176]) and (one.ends[-1], other.ends[-1]) == (192, 187)
+
+
+def later_puts(s):
+    """A later put begins and ends at the same place in both orders. It needs 4 stores or, where the Double was put first, 5 zeros more: if its allowance is
+    between, it is refused in that order only, and request C-23 claims nothing."""
+    for allowance in (9, 8, 4):
+        calls = [*PAIR, ("make", 0, b"c"), ("put", 3, INT, INT70, allowance), ("close",)]
+        one, other = both_orders(s, "order: abc, then a Double, then an Int with an allowance of %d" % allowance, 300, calls, 2)
+        assert one.answers[5] == yes(4) and one.offsets == [168, 176, 184] and one.ends[-1] == 188
+        if allowance == 9:
+            one_tree(one, other, 2)
+            assert other.answers[5] == yes(9) and other.offsets == [176, 168, 184] and other.ends[-1] == 188 and len(one.file) == len(other.file)
+        else:
+            assert other.answers[5:] == [no(23, allowance), no(22)] and not other.file
+
+
+def refused_calls(s):
+    """Calls before and after the two puts that are refused in both orders, and calls after close."""
+    before = [
+        ("make", 0, b"a"), ("make", 0, b"a"), ("make", 0, b"b"), ("make", 1, b"bad/"), ("put", 0, CHAR, ABC), ("put", 3, CHAR, ABC), ("put", 2, DOUBLE, ABC),
+    ]
+    later = [
+        ("make", 2, b"a"), ("make", 2, b"a"), ("make", 9, b"a"), ("make", 0, b"/"), ("put", 1, CHAR, ABC), ("put", 2, DOUBLE, ONE), ("put", 3, 6, ABC),
+        ("put", 3, CHAR, bytes(300)), ("put", 3, COMPLEX, ONE * 2), ("close",), ("make", 0, b"d"), ("put", 3, CHAR, ABC), ("close",),
+    ]
+    one, other = both_orders(s, "order: abc, then a Double, among refused calls", 300, [*before, *PAIR[2:], *later], len(before))
+    one_tree(one, other, len(before))
+    assert one.answers[:7] == [yes(1), no(17), yes(2), no(14, 3), no(18), no(15), no(19)]
+    assert one.answers[9:17] == [yes(3), no(17), no(15), no(14, 0), no(18), no(18), no(19), no(21)]
+    assert one.answers[17:] == [yes(16), yes(168 + 4 + 75), no(22), no(22), no(22)] and other.answers[17] == yes(5 + 16)
+
+
+def same_remainder(s):
+    """Lengths of 3 and 11, which agree modulo 8: every later answer is the same in both orders, accepted or not."""
+    pair = [*PAIR[:3], ("put", 2, CHAR, b"hello world")]
+    # The data end at 187. With four nodes, two of them with data, and four strings the file has 271 bytes; 12 for the entry, 5 zeros and 12 bytes fill the 300.
+    later = [("make", 0, b"c"), ("make", 1, b"d"), ("make", 1, b"d"), ("put", 3, CHAR, bytes(13))]
+    answers = [yes(3), yes(4), no(17), no(21)]
+    for allowance, more in ((17, [yes(17), no(21), yes(168 + 8 + 88), no(22)]), (16, [no(23, 16), no(22), no(22), no(22)])):
+        calls = [*pair, *later, ("put", 3, CHAR, bytes(range(12)), allowance), ("make", 0, b"e"), ("close",), ("make", 0, b"e")]
+        one, other = both_orders(s, "order: 3 and 11 bytes, then 12 with an allowance of %d" % allowance, 300, calls, 2)
+        assert one.answers[4:] == other.answers[4:] == answers + more and one.ends[4:] == other.ends[4:] and one.ends[4] == 187
+        if allowance == 17:
+            one_tree(one, other, 2)
+            assert len(one.file) == len(other.file) == 300
+
+
+def pairs_of_lengths(s):
+    """Puts of so many bytes: one before the pair, and the pair; where the data end in both orders."""
+    kind = {8: DOUBLE, 16: COMPLEX}
+    makes = [("make", 0, name) for name in (b"a", b"b", b"c")]
+    for before, left, right, first, second in (
+        (0, 8, 16, 192, 192), (0, 0, 8, 176, 176), (1, 9, 1, 193, 193), (3, 0, 5, 181, 184), (4, 4, 7, 191, 188), (7, 1, 8, 192, 185), (8, 0, 7, 183, 184),
+    ):
+        lengths = (before, left, right)
+        puts = [("put", k, kind.get(n, CHAR), bytes(range(k, k + n))) for k, n in enumerate(lengths, 1)]
+        one, other = both_orders(s, "order: %d bytes, then the pair of %d and %d" % lengths, 300, [*makes, *puts, ("close",)], 4)
+        one_tree(one, other, 4)
+        assert (one.ends[-1], other.ends[-1]) == (first, second)
+
+
 def main():
     top = destination(__doc__)
     s = Script()
@@ -1054,6 +1269,8 @@ def main():
         for part in (whole_files, every_kind, no_bytes, limits, begin_refusals, make_refusals, put_refusals, close_refusals, altered, padding, ends, offsets):
             part(s)
     unwritten_editions(s)
+    for s.edition in WRITTEN:
+        put_orders(s)
     write(top, "crates/test_write/stdin", b"".join(s.stdin))
     write(top, "crates/test_write/stdout", "".join(s.out).encode("latin-1"))
     print(s.cases, "cases,", len(s.stdin), "steps")
