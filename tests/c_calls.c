@@ -1,15 +1,16 @@
 // Calls the library through include/aff.h and compares what it returns and leaves with what the header says:
 // `c_calls samples/worked.aff samples/worked3.aff samples/unterminated.aff samples/wide_names.aff samples/aligned.aff`. In both written editions it makes
-// document 01's worked file with every total allowance from 0 to 216, makes a file with padding and records other ends of its data, tries each refusal of the
-// writer with every other value of the record unchanged, passes null pointers with length 0 and records of every length, reads a file whose last string has no
-// zero, and asks for the places in malformed names and paths. It tries editions that are not written or do not exist, makes and reads names that only edition
-// 3 allows, and reads special numbers. It prints counts; the exit status is 1 where anything differs.
+// document 01's worked file with every total allowance from 0 to 216, makes a file with padding and records other ends of its data, makes that file with its
+// two puts in both orders and compares all nodes, tries each refusal of the writer with every other value of the record unchanged, passes null pointers with
+// length 0 and records of every length, reads a file whose last string has no zero, and asks for the places in malformed names and paths. It tries editions
+// that are not written or do not exist, makes and reads names that only edition 3 allows, and reads special numbers. It prints counts; the exit status is 1
+// where anything differs.
 #include "aff.h"
 #include <stdio.h>
 #include <stdlib.h>
 #include <string.h>
 
-enum { WORKED = 214, UNTERMINATED = 213, WIDE = 253, ALIGNED = 238, STORES = 215, HEADER = 168, BUFFER = 400 };
+enum { WORKED = 214, UNTERMINATED = 213, WIDE = 253, ALIGNED = 238, DOUBLE_FIRST = 233, STORES = 215, HEADER = 168, BUFFER = 400 };
 
 // The edition of what is written, and the 12 signature bytes of editions 2 and 3.
 static uint32_t edition;
@@ -323,6 +324,73 @@ static void recorded_ends(void) {
     REFUSED(&w, AFF_ERR_MISMATCH, put(&w, 1, AFF_INT, 4, 4));
     w.numbers[6] = HEADER;
     CHECK(put(&w, 1, AFF_INT, 0, 0) == AFF_OK && w.numbers[0] == 0 && w.numbers[6] == HEADER && w.tree[24] == 168);
+}
+
+// ---- Two puts in both orders
+
+// What the reading calls return of a node, but not where its name and data are.
+struct node {
+    uint64_t kind, count, name_size, path_size, data_size;
+    uint8_t name[8], path[8], data[8];
+};
+
+static void copy_part(uint8_t output[8], const uint8_t *image, uint64_t offset, uint64_t size) {
+    CHECK(size <= 8);
+    memcpy(output, image + offset, size <= 8 ? size : 0);
+}
+
+// Node n of the opened image. Returns the place of its data.
+static uint64_t read_node(const uint8_t *image, size_t length, uint64_t n, struct node *node) {
+    uint64_t name = 0, data = 0;
+    memset(node, 0, sizeof *node);
+    CHECK(aff_kind(OPENED(image, length), n, &node->kind) == AFF_OK && aff_count(OPENED(image, length), n, &node->count) == AFF_OK);
+    CHECK(aff_path(OPENED(image, length), n, node->path, sizeof node->path, &node->path_size) == AFF_OK);
+    CHECK(aff_name(OPENED(image, length), n, &name, &node->name_size) == AFF_OK && aff_view(OPENED(image, length), n, &data, &node->data_size) == AFF_OK);
+    copy_part(node->name, image, name, node->name_size);
+    copy_part(node->data, image, data, node->data_size);
+    return data;
+}
+
+// The nodes /a and /b, then `abc` in /a and the Double in /b, one of the two first. Returns the size of the finished file.
+static uint64_t file_in_order(struct writer *w, size_t length, size_t first) {
+    static const struct {
+        uint64_t node, kind;
+        size_t length;
+        uint8_t data[8];
+    } puts[2] = {{1, AFF_CHAR, 3, {'a', 'b', 'c'}}, {2, AFF_DOUBLE, 8, {0x3f, 0xf0}}};
+    reset(w, length, 0x55);
+    CHECK(begin(w, 1) == AFF_OK && make(w, 0, "a") == AFF_OK && make(w, 0, "b") == AFF_OK);
+    for (size_t k = 0; k < 2; k++) {
+        size_t next = (first + k) % 2;
+        CHECK(aff_put(WRITER(w), puts[next].node, puts[next].kind, puts[next].data, puts[next].length, UINT64_MAX) == AFF_OK);
+    }
+    CHECK(finish(w, UINT64_MAX) == AFF_OK && w->numbers[0] == 222);
+    return finished(w);
+}
+
+// Both files show the same nodes, though sizes and places differ. The file with `abc` first is samples/aligned.aff, which a buffer of 237 does not hold; it
+// holds the other one.
+static void put_orders(const uint8_t *aligned) {
+    static struct writer w[2];
+    static const size_t sizes[2] = {ALIGNED, DOUBLE_FIRST};
+    static const uint64_t places[2][3] = {{0, 168, 176}, {0, 176, 168}};
+    static const struct node expected[3] = {{AFF_VOID, 0, 0, 1, 0, "", "/", ""}, {AFF_CHAR, 3, 1, 2, 3, "a", "/a", "abc"},
+        {AFF_DOUBLE, 1, 1, 2, 8, "b", "/b", {0x3f, 0xf0}}};
+    struct node nodes[2][3];
+    uint64_t kind = 77;
+    for (size_t first = 0; first < 2; first++) {
+        CHECK(file_in_order(&w[first], ALIGNED, first) == sizes[first]);
+        CHECK(open_image(w[first].buffer, sizes[first]) == AFF_OK && record[2] == edition && record[10] == 2);
+        for (uint64_t n = 0; n < 3; n++) {
+            CHECK(read_node(w[first].buffer, sizes[first], n, &nodes[first][n]) == places[first][n]);
+        }
+        CHECK(aff_kind(OPENED(w[first].buffer, sizes[first]), 3, &kind) == AFF_ERR_NOT_FOUND && kind == 77);
+    }
+    for (size_t n = 0; n < 3; n++) {
+        CHECK(memcmp(&nodes[0][n], &nodes[1][n], sizeof nodes[0][n]) == 0 && memcmp(&nodes[0][n], &expected[n], sizeof expected[n]) == 0);
+    }
+    CHECK(edition == 3 || memcmp(w[0].buffer, aligned, ALIGNED) == 0);
+    CHECK(w[1].buffer[DOUBLE_FIRST] == 0x55 && file_in_order(&w[1], ALIGNED - 1, 1) == DOUBLE_FIRST);
 }
 
 // ---- Editions
@@ -722,6 +790,7 @@ int main(int argc, char **argv) {
         finished_size(worked);
         padded_file(aligned);
         recorded_ends();
+        put_orders(aligned);
         unwritten_editions();
         recorded_editions();
         forms(worked);
