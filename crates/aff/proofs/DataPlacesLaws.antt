@@ -179,7 +179,7 @@ module _ (run : Run) (f : headerSize (editionBy (run .edition)) + mostAddedBy (r
           answers-fit (run .calls) (runStart run) (editionBy (run .edition)) (length (run .buffer)) true (headerSize (editionBy (run .edition))) [] size-now (run-spent run t h e)
       go false e = wrong-never (runAnswers run) (run-refused run t h e .0)
 
-buffer-suffices : BufferSuffices
+pub buffer-suffices : BufferSuffices
 buffer-suffices run f = (begin-never run f, never-by run f (runBegin run .answer) refl)
 
 pub data-places : DataPlaces

@@ -7,6 +7,7 @@ pub mod Demand2Laws
 pub mod BreakPlacesLaws
 pub mod Demand3Laws
 pub mod DataPlacesLaws
+pub mod PutOrderLaws
 pub mod WithdrawnLaws
 pub mod WorkedSums
 pub mod WorkedLaws

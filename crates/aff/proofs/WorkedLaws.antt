@@ -40,7 +40,7 @@ use Rattle.aff_read.specs.Shows.{Shows}
 use Rattle.aff_run.proofs.BeginInvariantLaws.{begin-invariant, begin-edition, begin-end, begin-form, begin-stores}
 use Rattle.aff_run.proofs.ClosedLaws.{contents, rest, closed, closed-is, closed-buffer}
 use Rattle.aff_run.proofs.CutLaws.{make-stores, put-reports, close-reports}
-use Rattle.aff_run.proofs.AnswersFromTreeLaws.{run-from-tree}
+use Rattle.aff_run.proofs.AnswersFromTreeLaws.{run-from-tree, expected, answers-expected}
 use Rattle.aff_run.proofs.InvariantLaws.{Each, Invariant}
 use Rattle.aff_run.proofs.MakeInvariantLaws.{made-invariant}
 use Rattle.aff_run.proofs.PutInvariantLaws.{put-invariant}
@@ -52,22 +52,6 @@ use Rattle.aff.proofs.Demand3Laws.{demand3}
 use Rattle.aff.proofs.WorkedSums.{symbols-digest, entries-digest, data-digest, workedFront, header-digest-2, header-digest-3}
 
 -- ---- The answers of calls, from the tree alone.
-
-abbrev expected : Edition → ℕ → Bool → ℕ → Tree → List Call → List (Answer ℕ)
-expected e size asleep end tree [] = []
-expected e size asleep end tree (c ∷ cs) =
-    let a = cond asleep (refused (refusal 22)) (callAnswer e size end tree c) in
-    a ∷ expected e size (asleep || stops c a) (callEnd end c (isAccepted a)) (applyCall tree c (isAccepted a)) cs
-
-answers-expected : (cs : List Call) (e : Edition) (size : ℕ) (asleep : Bool) (end : ℕ) (tree : Tree) (answers : List (Answer ℕ)) → length answers ≡ length cs
-    → AnswersFromTree e size asleep end tree cs answers → answers ≡ expected e size asleep end tree cs
-answers-expected [] e size asleep end tree [] n h = refl
-answers-expected [] e size asleep end tree (a ∷ answers) n h = absurd (omega arith)
-answers-expected (c ∷ cs) e size asleep end tree [] n h = absurd h
-answers-expected (c ∷ cs) e size asleep end tree (a ∷ answers) n h =
-    ap₂ (λ (x : Answer ℕ) (xs : List (Answer ℕ)). x ∷ xs) (h .0)
-    (answers-expected cs e size (asleep || stops c a) (callEnd end c (isAccepted a)) (applyCall tree c (isAccepted a)) answers (omega arith) (h .1)
-    ∙ ap (λ (x : Answer ℕ). expected e size (asleep || stops c x) (callEnd end c (isAccepted x)) (applyCall tree c (isAccepted x)) cs) (h .0))
 
 expected-214 : (e : Edition) → isWritten e ≡ true → (puts closes : ℕ) → 4 ≤ puts → 210 ≤ closes
     → expected e 214 false (headerSize e) [] (workedCalls puts closes) ≡ accepted 1 ∷ accepted 2 ∷ accepted 4 ∷ accepted 210 ∷ []

@@ -7,5 +7,6 @@ pub mod Demand2
 pub mod BreakPlaces
 pub mod Demand3
 pub mod DataPlaces
+pub mod PutOrder
 pub mod Withdrawn
 pub mod Worked

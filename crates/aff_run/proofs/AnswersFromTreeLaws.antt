@@ -13,7 +13,7 @@ use Rattle.aff_format.specs.Align.{padding}
 use Rattle.aff_format.specs.Edition.{headerSize, editionBy, namesWritten, NamesWritten}
 use Rattle.aff_format.specs.declared.edition.Edition.{Edition}
 use Rattle.aff_format.proofs.EditionLaws.{names-written}
-use Rattle.aff_format.specs.Answer.{accepted, refused, Check, check, refusal, unless, firstWrong}
+use Rattle.aff_format.specs.Answer.{Answer, accepted, refused, Check, check, refusal, unless, firstWrong}
 use Rattle.aff_format.specs.Bytes.{sameBytes}
 use Rattle.aff_format.specs.Kind.{kindOf, isVoid}
 use Rattle.aff_format.specs.Limits.{imageLimit, stringLimit, nodeLimit, textArea, treeArea}
@@ -306,3 +306,21 @@ module _ (run : Run) where
 
       pub run-refused : AllWrongRecord (runAnswers run) × (runStores run ≡ [])
       run-refused = (wrong-asleep (run .calls) (runStart run) (asleep run t h) none-here, none-run run t h)
+
+-- ---- The answers by computation.
+
+abbrev pub expected : Edition → ℕ → Bool → ℕ → Tree → List Call → List (Answer ℕ)
+expected e size asleep end tree [] = []
+expected e size asleep end tree (c ∷ cs) =
+    let a = cond asleep (refused (refusal 22)) (callAnswer e size end tree c) in
+    a ∷ expected e size (asleep || stops c a) (callEnd end c (isAccepted a)) (applyCall tree c (isAccepted a)) cs
+
+pub answers-expected : (cs : List Call) (e : Edition) (size : ℕ) (asleep : Bool) (end : ℕ) (tree : Tree) (answers : List (Answer ℕ)) → length answers ≡ length cs
+    → AnswersFromTree e size asleep end tree cs answers → answers ≡ expected e size asleep end tree cs
+answers-expected [] e size asleep end tree [] n h = refl
+answers-expected [] e size asleep end tree (a ∷ answers) n h = absurd (omega arith)
+answers-expected (c ∷ cs) e size asleep end tree [] n h = absurd h
+answers-expected (c ∷ cs) e size asleep end tree (a ∷ answers) n h =
+    ap₂ (λ (x : Answer ℕ) (xs : List (Answer ℕ)). x ∷ xs) (h .0)
+    (answers-expected cs e size (asleep || stops c a) (callEnd end c (isAccepted a)) (applyCall tree c (isAccepted a)) answers (omega arith) (h .1)
+    ∙ ap (λ (x : Answer ℕ). expected e size (asleep || stops c x) (callEnd end c (isAccepted x)) (applyCall tree c (isAccepted x)) cs) (h .0))

@@ -17,3 +17,7 @@ pub mod AreasHoldLaws
 pub mod DescribedFileLaws
 pub mod InsideLaws
 pub mod BufferSizeLaws
+pub mod CallsAlikeLaws
+pub mod AnswersAlikeLaws
+pub mod ReorderedLaws
+pub mod OrdersLaws

@@ -6,3 +6,5 @@ pub mod Cut
 pub mod AreasHold
 pub mod DescribedFile
 pub mod BufferSize
+pub mod CallsAlike
+pub mod Reordered
