@@ -1,6 +1,8 @@
-//! Kinds of malformed names and paths (request C-18) and of puts (request C-22), for the counts of what was met. No comparison depends on them.
+//! Kinds of malformed names and paths (request C-18), of puts (request C-22) and of pairs of orders (request C-23), for the counts of what was met. No
+//! comparison depends on them.
 
 use crate::open::Node;
+use crate::writer::Reported;
 
 /// Two parts of a line: what was met, and more of it.
 pub type Kind = (&'static str, &'static str);
@@ -90,6 +92,86 @@ pub fn of_end(end: u64, header: u64, length: u64) -> Kind {
 
 /// An offset in the tree area, altered.
 pub const UNALIGNED: Kind = ("an altered offset", "no multiple of 8");
+
+/// A call that is refused in one order of a pair only: why request C-23's claim does not apply.
+pub fn of_one_order(of_pair: bool) -> Kind {
+    let call = match of_pair {
+        true => "one of the two puts",
+        false => "a later call",
+    };
+    ("the claim does not apply: refused in one order only", call)
+}
+
+/// One of the two puts is refused in both orders; or the same calls are accepted in both, but no close is among them.
+pub const PUT_REFUSED: Kind = (
+    "the claim does not apply: refused in both orders",
+    "one of the two puts",
+);
+pub const NOT_CLOSED: Kind = ("the claim does not apply", "no close is accepted");
+
+const APPLIES: &str = "the claim applies";
+pub const ALL: Kind = (APPLIES, "all such pairs");
+
+/// Whether the lengths of the two puts agree modulo 8.
+pub fn of_lengths(agree: bool) -> Kind {
+    match agree {
+        true => (APPLIES, "lengths equal modulo 8"),
+        false => (APPLIES, "lengths different modulo 8"),
+    }
+}
+
+/// Whether a put after the two is accepted.
+pub fn of_later_put(accepted: bool) -> Kind {
+    match accepted {
+        true => (APPLIES, "a later put is accepted"),
+        false => (APPLIES, "no later put is accepted"),
+    }
+}
+
+/// Calls after the accepted close.
+pub fn of_calls_after_close(calls: usize) -> Kind {
+    match calls {
+        0 => (APPLIES, "no call after the close"),
+        _ => (APPLIES, "calls after the close"),
+    }
+}
+
+/// How the files of the two orders differ.
+pub fn of_files(files: [&[u8]; 2]) -> Kind {
+    let [one, other] = files;
+    match one.len() == other.len() {
+        _ if one == other => (APPLIES, "files the same"),
+        true => (APPLIES, "files differ in bytes, not in size"),
+        false => (APPLIES, "files differ in size"),
+    }
+}
+
+/// What the calls of the two orders were allowed; the two puts are the calls from `first` on.
+pub fn of_allowances(one: &[u64], other: &[u64], first: usize) -> Kind {
+    let later = one[first + 2..] == other[first + 2..];
+    let puts = one[first] == other[first + 1] && one[first + 1] == other[first];
+    match (puts, later) {
+        (true, true) => (APPLIES, "allowances the same"),
+        (false, true) => (APPLIES, "allowances differ for the two puts"),
+        (_, false) => (APPLIES, "allowances differ for later calls"),
+    }
+}
+
+/// The answers of later calls of which nothing is assumed.
+pub fn of_later(answers: &[Reported]) -> Kind {
+    let is_refused = |number: u32| {
+        let refusals = answers.iter().filter_map(|reported| reported.err());
+        refusals.map(|refusal| refusal.0).any(|it| it == number)
+    };
+    let calls = match answers {
+        [] => "no later call",
+        _ if answers.iter().all(Result::is_ok) => "all later calls accepted",
+        _ if is_refused(23) => "a later call refused by 23",
+        _ if is_refused(21) => "a later call refused by 21",
+        _ => "a later call refused by another number",
+    };
+    ("nothing assumed", calls)
+}
 
 /// A path that lookup refuses: the fault, and in which subkey it is.
 #[cfg(any(test, feature = "library"))]

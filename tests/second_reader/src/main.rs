@@ -19,6 +19,8 @@ mod lists;
 mod mapped;
 mod md5;
 mod open;
+mod orders;
+mod pairs;
 #[cfg(any(test, feature = "library"))]
 mod paths;
 #[cfg(feature = "library")]
@@ -31,6 +33,7 @@ mod steps;
 #[cfg(test)]
 mod tests;
 mod times;
+mod trees;
 mod writer;
 
 use answers::Choice;
@@ -48,6 +51,7 @@ second_reader cases SEED COUNT FOLDER
 second_reader agree SEED COUNT
 second_reader lists SEED COUNT LIST LISTALL
 second_reader writes SEED COUNT
+second_reader orders SEED COUNT
 second_reader kills SEED COUNT FOLDER
 second_reader steps SEED COUNT FOLDER
 second_reader time CALL ARGUMENTS SAMPLES BATCH";
@@ -76,6 +80,7 @@ fn run(words: &[&str]) -> Outcome {
         ["cases", seed, count, folder] => cases(seed.parse()?, count.parse()?, Path::new(folder)),
         ["lists", seed, count, programs @ ..] => lists(seed.parse()?, count.parse()?, programs),
         ["writes", seed, count] => writes(seed.parse()?, count.parse()?),
+        ["orders", seed, count] => orders(seed.parse()?, count.parse()?),
         ["time", rest @ ..] => times::run(rest),
         _ => linked_run(words),
     }
@@ -154,6 +159,16 @@ const DESK: Option<runs::NewDesk> = Some(library::desk);
 #[cfg(not(feature = "library"))]
 const DESK: Option<runs::NewDesk> = None;
 
+#[cfg(feature = "library")]
+const READERS: &[trees::Reading] = &[trees::read_here, trees::read_by_library];
+#[cfg(not(feature = "library"))]
+const READERS: &[trees::Reading] = &[trees::read_here];
+
+const OTHERS: orders::Others = orders::Others {
+    desk: DESK,
+    readers: READERS,
+};
+
 /// Compares the writer's model with this reader, and with the library's writer where it is linked.
 fn writes(seed: u64, count: u64) -> Outcome {
     let beside = DESK.map_or("the reader", |_| "the reader and the library's writer");
@@ -161,6 +176,17 @@ fn writes(seed: u64, count: u64) -> Outcome {
     let mut report = Report::default();
     for number in 0..count {
         runs::compare(seed, number, DESK, &mut report);
+    }
+    Ok(report.finish())
+}
+
+/// Compares the two orders of neighbouring puts: on the model, and on the library's writer and reader where it is linked.
+fn orders(seed: u64, count: u64) -> Outcome {
+    let of = DESK.map_or("the model", |_| "the model and the library's writer");
+    println!("seed {seed}, {count} pairs: two orders of {of}");
+    let mut report = Report::default();
+    for number in 0..count {
+        orders::compare(seed, number, OTHERS, &mut report);
     }
     Ok(report.finish())
 }

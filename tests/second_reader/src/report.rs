@@ -73,6 +73,12 @@ impl Report {
         self.faults = 0;
     }
 
+    pub fn begin_pair(&mut self, seed: u64, number: u64) {
+        self.case = format!("seed {seed}, pair {number}");
+        self.file.clear();
+        self.faults = 0;
+    }
+
     /// Two answers to one question, this reader's first.
     pub fn same<T: PartialEq + Debug + ?Sized>(&mut self, what: &str, ours: &T, theirs: &T) {
         self.questions += 1;
@@ -112,7 +118,8 @@ impl Report {
         self.by_number.entry(number).or_default().add(edition);
     }
 
-    /// A kind of malformed name or path, which 10 or 14 is about; of a put, or of altered memory, with the number of the refusal that it got, or 0.
+    /// A kind of malformed name or path, which 10 or 14 is about; of a put, of altered memory, or of a pair of orders, with the number of the refusal that it
+    /// got, or 0.
     pub fn met(&mut self, number: u32, kind: Kind, edition: Option<Edition>) {
         self.kinds.entry((number, kind)).or_default().add(edition);
     }

@@ -120,7 +120,7 @@ impl Run {
 }
 
 /// Stores that a call made: an accepted make reports a node, and stores nothing.
-fn stores(call: &Call, reported: &Reported) -> u64 {
+pub fn stores(call: &Call, reported: &Reported) -> u64 {
     match (call, reported) {
         (Call::Make(..), _) => 0,
         (_, Ok(made)) => *made,
@@ -329,7 +329,7 @@ fn shows_data(reader: &Reader, n: u64, node: &Described, buffer: &[u8], report: 
 
 /// What a run is like.
 #[derive(Clone, Copy, PartialEq, Eq)]
-enum Style {
+pub enum Style {
     Usual,
     /// Up to 2,049 nodes.
     Many,
@@ -406,13 +406,13 @@ pub fn random_run(random: &Random) -> Run {
 }
 
 /// Adds a call, and plays it on the model, so that the next one can be drawn to suit. True where the model accepts it.
-fn add(run: &mut Run, model: &mut Writer, call: Call) -> bool {
+pub fn add(run: &mut Run, model: &mut Writer, call: Call) -> bool {
     let accepted = model.call(&call, u64::MAX).is_ok();
     run.calls.push(call);
     accepted
 }
 
-/// A buffer: of zeros, of anything, or one that holds a finished file; of any length about the least, or long enough.
+/// A buffer of any length about the least, or long enough.
 fn buffer(random: &Random, style: Style) -> Vec<u8> {
     let length = match (style, random.below(7)) {
         (Style::Many | Style::Long, _) => 140_000,
@@ -421,6 +421,11 @@ fn buffer(random: &Random, style: Style) -> Vec<u8> {
         (_, 1..=3) => 168 + random.below(400),
         _ => 4000,
     };
+    filled(random, length)
+}
+
+/// A buffer of some length: of zeros, of anything, or one that holds a finished file.
+pub fn filled(random: &Random, length: usize) -> Vec<u8> {
     match random.below(3) {
         0 => vec![0; length],
         1 => random.bytes(length),
@@ -462,7 +467,7 @@ fn begin(random: &Random, style: Style) -> Call {
 }
 
 /// A make or a put, most of them lawful.
-fn middle(random: &Random, now: &Writer, style: Style) -> Call {
+pub fn middle(random: &Random, now: &Writer, style: Style) -> Call {
     let nodes = now.record.nodes.min(MOST as u64) as usize;
     match (style, random.below(12)) {
         (Style::Many, 1) => put(random, now),
@@ -473,7 +478,7 @@ fn middle(random: &Random, now: &Writer, style: Style) -> Call {
     }
 }
 
-fn make(random: &Random, now: &Writer, style: Style) -> Call {
+pub fn make(random: &Random, now: &Writer, style: Style) -> Call {
     let nodes = now.record.nodes.min(MOST as u64) as usize;
     let left = TEXT_AREA.saturating_sub(now.record.text as usize);
     let parent = match random.below(30) {
@@ -550,14 +555,20 @@ fn long_name(random: &Random) -> Vec<u8> {
     name
 }
 
+/// The nodes without data, but for the root.
+pub fn void_nodes(now: &Writer) -> Vec<u64> {
+    let nodes = now.record.nodes.min(MOST as u64) as usize;
+    let slots = (1..).zip(now.tree.chunks(25).take(nodes));
+    slots
+        .filter(|(_, slot)| slot[0] == 1)
+        .map(|(number, _)| number)
+        .collect()
+}
+
 /// A put to any node, mostly to one that is Void.
 fn put(random: &Random, now: &Writer) -> Call {
     let nodes = now.record.nodes.min(MOST as u64) as usize;
-    let slots = (1..).zip(now.tree.chunks(25).take(nodes));
-    let void: Vec<u64> = slots
-        .filter(|(_, slot)| slot[0] == 1)
-        .map(|(number, _)| number)
-        .collect();
+    let void = void_nodes(now);
     let node = match random.below(4) {
         1..=3 if !void.is_empty() => random.pick(&void),
         _ => random.below(nodes + 2) as u64,
@@ -893,16 +904,29 @@ fn check_cut(run: &Run, cut: u64, total: u64, report: &mut Report) {
     }
 }
 
-/// The same calls on the model and on another desk: answers, record and memory after each call.
+/// One call on the model and on another desk: answer, record and memory after it. Both answers, the model's first.
+pub fn call_both(
+    number: usize,
+    call: &Call,
+    allowance: u64,
+    model: &mut Writer,
+    other: &mut dyn Desk,
+    report: &mut Report,
+) -> [Reported; 2] {
+    let reported = model.call(call, allowance);
+    let theirs = other.call(call, allowance);
+    report.same(&format!("call {number}"), &reported, &theirs);
+    report.same("record", &model.numbers(), &other.numbers());
+    report.same("memory", &true, &(model.memory() == other.memory()));
+    [reported, theirs]
+}
+
+/// The same calls on the model and on another desk, with one total allowance.
 fn beside(run: &Run, model: &mut Writer, other: &mut dyn Desk, total: u64, report: &mut Report) {
     let mut left = total;
     let mut altered = false;
     for (number, call) in run.calls.iter().enumerate() {
-        let reported = model.call(call, left);
-        let theirs = other.call(call, left);
-        report.same(&format!("call {number}"), &reported, &theirs);
-        report.same("record", &model.numbers(), &other.numbers());
-        report.same("memory", &true, &(model.memory() == other.memory()));
+        let [reported, _] = call_both(number, call, left, model, other, report);
         left -= stores(call, &reported);
         match call {
             Call::Alter(_) => altered = true,

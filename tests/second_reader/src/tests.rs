@@ -1,5 +1,5 @@
 //! Document 01's worked file and cases, the symbol tables of requests C-11 and C-13, request C-12's listings, request C-18's places, request C-15's
-//! edition 3, request C-22's padding, and the generator's images beside what their maker knows.
+//! edition 3, request C-22's padding, request C-23's two orders, and the generator's images beside what their maker knows.
 
 use crate::answers::{decoded, judged, listing, shown, Choice, Element, Passed, LISTED};
 use crate::cases;
@@ -8,14 +8,18 @@ use crate::format::{big, form_for, Edition, Kind, Refusal, DATA, SIGNATURE, SYMB
 use crate::images::{image, sum_header, Draft, Image, Node, WIDE_NAMES};
 use crate::md5::md5;
 use crate::open::{bad_nodes, open, Opened, Refused, Span};
+use crate::orders::{self, compare_plays, played, Claim, Played};
+use crate::pairs::{random_pair, Allowances, Pair, ORDERS};
 use crate::random::Random;
 use crate::report::Report;
 use crate::runs::{
-    bad_name, met, padded_calls, play, random_run, worked_calls, Alteration, Call, Desk,
+    bad_name, met, padded_calls, play, random_run, stores, worked_calls, Alteration, Call, Desk,
+    Run,
 };
+use crate::trees::{read_here, File};
 use crate::writer::{Record, Writer, TEXT_AREA, TREE_AREA};
-use crate::{kinds, paths};
-use std::collections::BTreeMap;
+use crate::{kinds, paths, DESK, READERS};
+use std::collections::{BTreeMap, BTreeSet};
 
 /// The editions with 01's narrow names, and those with record counts.
 const NARROW: [Edition; 2] = [Edition::One, Edition::Two];
@@ -472,6 +476,196 @@ fn kinds_of_puts() {
     };
     let counts = counted((0..250).flat_map(made));
     assert_eq!(counts.len(), 4 + 3 + 4 + 2, "{counts:?}");
+}
+
+/// Request C-23's example in a buffer of some length: `abc` in `a`, then the Double in `b`, and the other order. Allowances are not short.
+fn two_orders(edition: Edition, buffer: usize) -> Pair {
+    let calls = padded_calls(edition);
+    let ample = Allowances::Each(vec![u64::MAX; calls.len()]);
+    Pair {
+        run: Run {
+            buffer: vec![0x55; buffer],
+            text: vec![0; TEXT_AREA],
+            tree: vec![0; TREE_AREA],
+            calls,
+        },
+        first: 3,
+        allowances: [ample.clone(), ample],
+    }
+}
+
+/// Both orders, on the model and on the library where it is linked, which must agree.
+fn both_played(pair: &Pair) -> [Played; 2] {
+    let mut report = Report::default();
+    let plays = ORDERS.map(|order| played(pair, order, DESK, &mut report));
+    report.end(&[]);
+    assert!(report.finish());
+    plays
+}
+
+/// What C-23 is for two orders, and whether nothing differs.
+fn compared(pair: &Pair, plays: &[Played; 2]) -> (Claim, bool) {
+    let mut report = Report::default();
+    let claim = compare_plays(pair, plays, READERS, &mut report);
+    report.end(&[]);
+    (claim, report.finish())
+}
+
+/// All stores of a run.
+fn all_stores(played: &Played) -> u64 {
+    let calls = played.calls.iter().zip(&played.answers);
+    calls.map(|(call, reported)| stores(call, reported)).sum()
+}
+
+/// In 238 bytes both orders are accepted: other stores, offsets and sizes, and the same tree by every reader.
+#[test]
+fn example_of_two_orders() {
+    for edition in Edition::WRITTEN {
+        let pair = two_orders(edition, 238);
+        let plays = both_played(&pair);
+        assert_eq!(compared(&pair, &plays), (Claim::Applies, true));
+        let [one, other] = &plays;
+        assert_eq!([one, other].map(all_stores), [239, 234]);
+        assert_eq!([one.end(4), other.end(4)], [184, 179]);
+        let sizes = [one, other].map(|played| played.size(edition));
+        assert_eq!(sizes, [Some(238), Some(233)]);
+        assert_ne!(one.buffer, other.buffer);
+        for read in READERS {
+            let file = |played: &Played| read(&played.buffer, &edition.form()).unwrap();
+            let (one, other) = (file(one), file(other));
+            assert_eq!(one.offsets, [None, Some(168), Some(176)]);
+            assert_eq!(other.offsets, [None, Some(176), Some(168)]);
+            assert_eq!(one.tree, other.tree);
+            let data = |n: usize| {
+                (
+                    one.tree.nodes[n].path.clone(),
+                    one.tree.nodes[n].bytes.clone(),
+                )
+            };
+            assert_eq!(data(1), (b"/a".to_vec(), b"abc".to_vec()));
+            assert_eq!(data(2), (b"/b".to_vec(), 1_f64.to_be_bytes().to_vec()));
+        }
+        let lines = b"/ void 0\n/a char 3\n/b double 1\n";
+        for played in &plays {
+            assert_eq!(listing(&played.buffer, Choice::All), lines);
+        }
+    }
+}
+
+/// In 237 bytes the Double is refused by 21 after the Chars, and not before them: why acceptance in both orders is asked.
+#[test]
+fn example_refused_in_one_order() {
+    for edition in Edition::WRITTEN {
+        let pair = two_orders(edition, 237);
+        let plays = both_played(&pair);
+        let reason = Claim::DoesNotApply(21, kinds::of_one_order(true));
+        assert_eq!(compared(&pair, &plays), (reason, true));
+        let [one, other] = &plays;
+        assert_eq!((one.answers[4], one.answers[5]), (Err((21, 0)), Ok(210)));
+        assert!(other.answers.iter().all(Result::is_ok));
+        let trees = plays.map(|played| read_here(&played.buffer, &edition.form()).unwrap().tree);
+        assert_ne!(trees[0], trees[1]);
+    }
+}
+
+/// Each of these differences between two orders is seen: a node number, the stores of close, an end of data after the two puts, the size, a byte of data, a
+/// file that does not open.
+#[test]
+fn differences_between_orders() {
+    let changes: [fn(&mut Played); 7] = [
+        |played| played.answers[2] = Ok(3),
+        |played| played.answers[5] = Ok(223),
+        |played| played.numbers[4][6] = 184,
+        |played| played.numbers[4][6] = 176,
+        |played| played.numbers[5][6] += 1,
+        |played| played.buffer[168] ^= 1,
+        |played| played.buffer[0] = 0,
+    ];
+    for edition in Edition::WRITTEN {
+        let pair = two_orders(edition, 238);
+        for (number, change) in changes.iter().enumerate() {
+            let mut plays = both_played(&pair);
+            change(&mut plays[1]);
+            let differs = (Claim::Applies, false);
+            assert_eq!(compared(&pair, &plays), differs, "change {number}");
+        }
+    }
+}
+
+/// The file that the calls leave in a buffer of some length, by the library's writer where it is linked; all calls are accepted.
+fn file_of(edition: Edition, calls: Vec<Call>, buffer: usize) -> (Vec<u8>, File) {
+    let run = Run {
+        buffer: vec![0x55; buffer],
+        text: vec![0; TEXT_AREA],
+        tree: vec![0; TREE_AREA],
+        calls,
+    };
+    let mut desk = DESK.map_or_else(|| Box::new(run.desk()) as Box<dyn Desk>, |new| new(&run));
+    let answers = play(desk.as_mut(), &run.calls, u64::MAX);
+    assert!(answers.iter().all(Result::is_ok), "{answers:?}");
+    let buffer = desk.memory()[0].to_vec();
+    let files = READERS.iter().map(|read| read(&buffer, &edition.form()));
+    let mut files: Vec<File> = files.map(Result::unwrap).collect();
+    assert!(files.iter().all(|file| *file == files[0]));
+    (buffer, files.remove(0))
+}
+
+/// Three Chars, an Int and a Double in all six orders: three sizes, six files, one tree. The ends of data are by hand.
+#[test]
+fn three_puts_in_six_orders() {
+    let ends = [
+        ([0, 1, 2], 192),
+        ([0, 2, 1], 188),
+        ([1, 0, 2], 192),
+        ([1, 2, 0], 187),
+        ([2, 0, 1], 188),
+        ([2, 1, 0], 187),
+    ];
+    for edition in Edition::WRITTEN {
+        let puts = [
+            Call::Put(1, 2, b"abc".to_vec()),
+            Call::Put(2, 3, vec![0xff, 0xff, 0xff, 0xba]),
+            Call::Put(3, 4, 1_f64.to_be_bytes().to_vec()),
+        ];
+        let mut files = Vec::new();
+        for (order, end) in ends {
+            let mut calls = vec![Call::begin(edition)];
+            calls.extend([b"a", b"b", b"c"].map(|name| Call::Make(0, name.to_vec())));
+            calls.extend(order.map(|put| puts[put].clone()));
+            calls.push(Call::Close);
+            let (buffer, file) = file_of(edition, calls, 300);
+            // Three strings of 2 bytes and three entries of 25.
+            assert_eq!(file.size, end + 6 + 75, "{order:?}");
+            files.push((buffer[..file.size as usize].to_vec(), file));
+        }
+        let distinct: BTreeSet<&Vec<u8>> = files.iter().map(|(bytes, _)| bytes).collect();
+        assert_eq!(distinct.len(), 6);
+        assert!(files.iter().all(|(_, file)| file.tree == files[0].1.tree));
+        let data = |node: usize| files[0].1.tree.nodes[node].bytes.as_slice();
+        assert_eq!(data(1), b"abc");
+        assert_eq!(data(2), b"\xff\xff\xff\xba");
+        assert_eq!(data(3), b"\x3f\xf0\0\0\0\0\0\0");
+    }
+}
+
+/// Random pairs are two lawful orders, and meet every kind: 6 that C-23's claim does not apply to, 13 that it applies to, and 5 of later calls of which
+/// nothing is assumed.
+#[test]
+fn kinds_of_pairs() {
+    let mut report = Report::default();
+    let made = |number: u64| {
+        let pair = random_pair(&Random::of(35, number));
+        let [one, other] = pair.nodes();
+        assert_ne!(one, other);
+        let plays = ORDERS.map(|order| played(&pair, order, None, &mut report));
+        assert_eq!(
+            plays[0].answers[..pair.first],
+            plays[1].answers[..pair.first]
+        );
+        orders::met(&pair, &plays)
+    };
+    let counts = counted((0..600).flat_map(made));
+    assert_eq!(counts.len(), 6 + 13 + 5, "{counts:?}");
 }
 
 /// P1 to P10. P3 and P4 are in edition 3, too; P5 is not.
