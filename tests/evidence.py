@@ -1,11 +1,11 @@
 #!/usr/bin/env python3
 """All the evidence from outside the proofs in one run: the library in C and C++, its stack, the library beside the second reader, the programs
-`list` and `listall`, runs of the writer, real kills.
+`list` and `listall`, runs of the writer, two orders of puts, real kills.
 
     tests/evidence.py [SEED [PART]]
 
 SEED is 6000 where none is given; every image and run of a seed is the same each time, only the moments of the kills are not. PART divides the
-numbers of images, runs and kills, for a short try. The last line is 'nothing differs', or names the parts that differ, and the exit status is then
+numbers of images, runs, pairs of runs and kills, for a short try. The last line is 'nothing differs', or names the parts that differ, and the exit status is then
 1. docs/EVIDENCE.md says what is compared.
 
 It needs rt, cargo, a C compiler as cc, a C++ compiler as c++, and Linux on x86-64, and works below target/. The listers and the library are proved
@@ -35,6 +35,7 @@ COMPARED = [
     ("images in memory: opening, every reading call, altered memory", "agree", 20_000, []),
     ("images through the programs `list` and `listall`", "lists", 500, [os.path.join(TARGET, "bin", name) for name in ("list", "listall")]),
     ("runs of the writer, whole and cut, altered memory", "writes", 5_000, []),
+    ("runs of the writer in which two neighbouring puts change places", "orders", 100_000, []),
     ("processes killed while they write into a mapped file", "kills", 2_000, [FOLDER]),
     ("runs stopped after each instruction", "steps", 20, [FOLDER]),
 ]
