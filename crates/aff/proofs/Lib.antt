@@ -9,5 +9,7 @@ pub mod Demand3Laws
 pub mod DataPlacesLaws
 pub mod PutOrderLaws
 pub mod WithdrawnLaws
+pub mod ExampleLaws
 pub mod WorkedSums
 pub mod WorkedLaws
+pub mod WorkedOrdersLaws

@@ -390,9 +390,9 @@ module _ (run : Run) (o : TwoOrders) where
         let asleep = stoppedBefore run (o .before) (o .puts-one) (o .allowance-one) (o .later-one) in
         let length-both : (ds : List PutData) (f : ℕ → ℕ) (later : List Call) → length (puts run (o .before) ds f later ++ last run (o .before) ds f later) ≡ length (putsWith ds f ++ later) =
         λ ds f later.
-            length-append (puts run (o .before) ds f later) (last run (o .before) ds f later)
-            ∙ ap₂ (λ (x y : ℕ). x + y) (length-answers _ (putsWith ds f)) (length-answers _ later)
-            ∙ sym (length-append (putsWith ds f) later) in
+        length-append (puts run (o .before) ds f later) (last run (o .before) ds f later)
+        ∙ ap₂ (λ (x y : ℕ). x + y) (length-answers _ (putsWith ds f)) (length-answers _ later)
+        ∙ sym (length-append (putsWith ds f) later) in
         let after : acceptedOf (putsOne ++ lastOne) ≡ acceptedOf (putsOther ++ lastOther) =
         oks-by (putsWith (o .puts-one) (o .allowance-one) ++ o .later-one) (putsOne ++ lastOne) (length-both (o .puts-one) (o .allowance-one) (o .later-one)) e size asleep (sharedLayout .end) sharedTree
         (from-here run (o .before) (o .puts-one) (o .allowance-one) (o .later-one) h) none-one ample
@@ -491,8 +491,7 @@ both-accepted run p pair =
     let o = asOrders p in
     let a = getD (putsOne run o) 0 (accepted 0) in
     let b = getD (putsOne run o) 1 (accepted 0) in
-    let at = pair-at (shared run o) a b (lastOne run o) (length (p .before)) (length-answers (runStart run) (p .before)) in
-    (
+    let at = pair-at (shared run o) a b (lastOne run o) (length (p .before)) (length-answers (runStart run) (p .before)) in (
       sym (at .0) ∙ sym (ap (λ (xs : List (Answer ℕ)). getD (acceptedOf xs) (length (p .before)) false) (parts-one run o)) ∙ pair .first,
       (
         sym (at .1) ∙ sym (ap (λ (xs : List (Answer ℕ)). getD (acceptedOf xs) (length (p .before) + 1) false) (parts-one run o)) ∙ pair .second,

@@ -48,7 +48,7 @@ use Rattle.aff_run.proofs.RunLaws.{step-form, step-edition, step-end, needed-ma
 use Rattle.aff_run.proofs.StepLaws.{buffer-after, run-buffer}
 use Rattle.aff.specs.Demand3.{bufferAt}
 use Rattle.aff.specs.Worked.{workedForm, nameA, nameN, minusSeventy, workedCalls, workedIn, workedTree, workedFile, WorkedRun, Worked, voidTree, OneShorter}
-use Rattle.aff.proofs.Demand3Laws.{demand3}
+use Rattle.aff.proofs.ExampleLaws.{data-at, begin-accepted, answers-are, stores-are, run-shows}
 use Rattle.aff.proofs.WorkedSums.{symbols-digest, entries-digest, data-digest, workedFront, header-digest-2, header-digest-3}
 
 -- ---- The answers of calls, from the tree alone.
@@ -98,12 +98,6 @@ string-n (suc (suc i)) l e = absurd (omega arith)
 entry-length : length (treeBytes (entryA ∷ entryN ∷ [])) ≡ 38
 unfolding treeBytes entryBytes beBytes
 entry-length = refl
-
--- Data begin at 168 in each written edition.
-data-at : (e : Edition) → isWritten e ≡ true → headerSize e ≡ 168
-data-at One w = absurd-bool w
-data-at Two w = refl
-data-at Three w = refl
 
 entries-are : (ed : Edition) → isWritten ed ≡ true → (buffer : List ℕ) (es : List Entry) → Each ed (nameA ∷ nameN ∷ []) buffer 172 1 es workedTree
     → (es ≡ entryA ∷ entryN ∷ []) × (part (headerSize ed) 4 buffer ≡ minusSeventy)
@@ -170,46 +164,16 @@ module _ (e : Edition) (w : isWritten e ≡ true) (s : State) {layout : DataLayo
       ∙ (λ i. fileOf (is i) (contents-are i) (f i) ++ rest-here i)
       ∙ file-is e w
 
--- ---- Runs with any areas of their lengths and any allowances that suffice.
-
-module _ (e : Edition) (w : isWritten e ≡ true) (buffer text tree : List ℕ) (begins puts closes : ℕ) (x : length text ≡ textArea) (t : length tree ≡ treeArea) (b : 1 ≤ begins) where
-  abbrev run : Run
-  run = workedIn e buffer text tree begins puts closes
-
-  begin-accepted : 168 ≤ length buffer → length buffer ≤ imageLimit → runBegin run .answer ≡ accepted 1
-  unfolding beginStep beginAnswer beginLengthsWrong
-  begin-accepted lo hi =
-      let place : headerSize (editionBy (editionNumber e)) ≡ 168 = ap headerSize (edition-by-number e) ∙ data-at e w in
-      rw (length-numberForm e, written-named (editionNumber e) (e, refl, w), place, eq-eqb (length text) textArea x, eq-eqb (length tree) treeArea t, le-ltb imageLimit (length buffer) hi, le-ltb (length buffer) 168 lo, le-ltb begins 1 b)
-
-  -- The answers are those expected in a buffer of that size.
-  answers-are : (size : ℕ) → length buffer ≡ size → 168 ≤ size → size ≤ imageLimit → runAnswers run ≡ expected e size false (headerSize e) [] (run .calls)
-  answers-are size r lo hi =
-      answers-expected (run .calls) e (length buffer) false (headerSize e) [] (runAnswers run) refl
-      (subst (λ (d : Edition). AnswersFromTree d (length buffer) false (headerSize d) [] (run .calls) (runAnswers run)) (edition-by-number e)
-      (run-from-tree run (begin-accepted (omega arith) (omega arith))))
-      ∙ ap (λ (n : ℕ). expected e n false (headerSize e) [] (run .calls)) r
-
--- Demand 3 of a run with a close accepted: the buffer after all its stores shows the tree described.
-run-shows : (run : Run) (shown : Tree) → runTree run ≡ shown → runClosed run ≡ true → Shows (applyStores (run .buffer) (runStores run)) (run .form) shown
-run-shows run shown e c =
-    let all = runStores run in
-    subst (λ (i : List ℕ). Shows i (run .form) shown) (ap (applyStores (run .buffer)) (take-length all))
-    (subst (λ (z : Tree). Shows (bufferAt run (length all)) (run .form) z) e (demand3 run (length all) (omega arith) .all-made refl c))
-
 -- ---- A buffer of 213 bytes: the answers from the tree, the rest by demand 3.
 
 pub worked-213 : OneShorter
 worked-213 e w buffer text tree begins puts closes r x t b c =
     let shorter = workedIn e buffer text tree begins puts closes in
-    let answers = answers-are e w buffer text tree begins puts closes x t b 213 r (omega arith) (omega arith) ∙ expected-213 e w puts closes c in
+    let answers = answers-are e w buffer text tree begins (workedCalls puts closes) x t b 213 r (omega arith) (omega arith) ∙ expected-213 e w puts closes c in
     let nodes = ap (treeAfter [] (shorter .calls)) answers in
     record { answers = answers; nodes = nodes; shows = run-shows shorter voidTree nodes (ap (closedBy (shorter .calls)) answers) }
 
 -- ---- The worked run.
-
-five-lengths : (b m n p c : List Store) → length b ≡ 1 → m ≡ [] → n ≡ [] → length p ≡ 4 → length c ≡ 210 → length (b ++ (m ++ (n ++ (p ++ (c ++ []))))) ≡ 215
-five-lengths b m n p c lb em en lp lc = rw (em, en, append-nil, length-append, length-append p c, lb, lp, lc)
 
 module _ (e : Edition) (w : isWritten e ≡ true) (buffer text tree : List ℕ) (begins puts closes : ℕ) (r : length buffer ≡ 214) (x : length text ≡ textArea) (t : length tree ≡ treeArea)
     (b : 1 ≤ begins) (p : 4 ≤ puts) (c : 210 ≤ closes) where
@@ -217,11 +181,11 @@ module _ (e : Edition) (w : isWritten e ≡ true) (buffer text tree : List ℕ) 
   it = workedIn e buffer text tree begins puts closes
 
   worked-begins : runBegin it .answer ≡ accepted 1
-  worked-begins = begin-accepted e w buffer text tree begins puts closes x t b (omega arith) (omega arith)
+  worked-begins = begin-accepted e w buffer text tree begins (workedCalls puts closes) x t b (omega arith) (omega arith)
 
   -- Every call is accepted.
   worked-answers : runAnswers it ≡ accepted 1 ∷ accepted 2 ∷ accepted 4 ∷ accepted 210 ∷ []
-  worked-answers = answers-are e w buffer text tree begins puts closes x t b 214 r (omega arith) (omega arith) ∙ expected-214 e w puts closes p c
+  worked-answers = answers-are e w buffer text tree begins (workedCalls puts closes) x t b 214 r (omega arith) (omega arith) ∙ expected-214 e w puts closes p c
 
   answer-at : (k : ℕ) → getD (runAnswers it) k (accepted 0) ≡ getD (accepted 1 ∷ accepted 2 ∷ accepted 4 ∷ accepted 210 ∷ []) k (accepted 0)
   answer-at k = ap (λ (l : List (Answer ℕ)). getD l k (accepted 0)) worked-answers
@@ -272,11 +236,7 @@ module _ (e : Edition) (w : isWritten e ≡ true) (buffer text tree : List ℕ) 
 
   -- 1 + 4 + 210 = 215 byte stores.
   worked-stores : length (runStores it) ≡ 215
-  worked-stores =
-      five-lengths (runBegin it .stores) (step s₀ (make 0 nameA) .stores) (step s₁ (make 1 nameN) .stores)
-      (step s₂ (put 2 3 minusSeventy puts) .stores) (step s₃ (close closes) .stores)
-      (ap length (begin-stores it worked-begins)) (make-stores s₀ 0 nameA) (make-stores s₁ 1 nameN)
-      (put-reports s₂ 2 3 minusSeventy puts ∙ ap storesReported (answer-at 2)) (close-reports s₃ closes ∙ ap storesReported (answer-at 3))
+  worked-stores = stores-are it worked-begins worked-answers
 
   -- The buffer is then the worked file.
   worked-buffer : applyStores buffer (runStores it) ≡ workedFile e

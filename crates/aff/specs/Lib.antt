@@ -10,3 +10,4 @@ pub mod DataPlaces
 pub mod PutOrder
 pub mod Withdrawn
 pub mod Worked
+pub mod WorkedOrders

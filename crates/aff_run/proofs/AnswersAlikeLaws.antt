@@ -300,7 +300,7 @@ module _ (e : Edition) (size end : ℕ) (tree : Tree) where
       let stores = padding end + length bytes in
       let fits : ltb allowance stores ≡ false = le-ltb allowance stores (omega (arith, ample, padding-few end)) in
       let given : firstWrong (commonChecks e tree (put node type bytes allowance) ++ (check (largeData e size end tree node type bytes) (refusal 21) ∷ check (ltb allowance stores) (refusalAt 23 allowance) ∷ [])) stores
-          ≡ firstWrong (commonChecks e tree (put node type bytes allowance) ++ (check (ltb allowance stores) (refusalAt 23 allowance) ∷ [])) stores =
+      ≡ firstWrong (commonChecks e tree (put node type bytes allowance) ++ (check (ltb allowance stores) (refusalAt 23 allowance) ∷ [])) stores =
       never-reported (commonChecks e tree (put node type bytes allowance)) (largeData e size end tree node type bytes) (refusal 21) (check (ltb allowance stores) (refusalAt 23 allowance) ∷ []) stores never in
       given ∙ rw fits
   plain-answer (close allowance) ample never = refl

@@ -160,6 +160,26 @@ module _ (s : State) where
   close-reports allowance =
       reported-made (writerChecks (length (s .buffer)) (s .writer) (s .text) (s .tree)) refl (closeStores (s .buffer) (s .writer) (s .text) (s .tree)) allowance
 
+-- So the stores of some calls are counted by their answers.
+abbrev pub storesBy : List Call → List (Answer ℕ) → ℕ
+storesBy [] answers = 0
+storesBy (c ∷ cs) [] = 0
+storesBy (make parent name ∷ cs) (a ∷ answers) = storesBy cs answers
+storesBy (put node type bytes allowance ∷ cs) (a ∷ answers) = storesReported a + storesBy cs answers
+storesBy (close allowance ∷ cs) (a ∷ answers) = storesReported a + storesBy cs answers
+
+pub stores-counted : (s : State) (cs : List Call) → length (storesOf s cs) ≡ storesBy cs (answersOf s cs)
+stores-counted s [] = refl
+stores-counted s (make parent name ∷ cs) =
+    let c = make parent name in
+    ap (λ (ss : List Store). length (ss ++ storesOf (afterCall s c) cs)) (make-stores s parent name) ∙ stores-counted (afterCall s c) cs
+stores-counted s (put node type bytes allowance ∷ cs) =
+    let c = put node type bytes allowance in
+    length-append (step s c .stores) (storesOf (afterCall s c) cs) ∙ ap₂ (λ (x y : ℕ). x + y) (put-reports s node type bytes allowance) (stores-counted (afterCall s c) cs)
+stores-counted s (close allowance ∷ cs) =
+    let c = close allowance in
+    length-append (step s c .stores) (storesOf (afterCall s c) cs) ∙ ap₂ (λ (x y : ℕ). x + y) (close-reports s allowance) (stores-counted (afterCall s c) cs)
+
 module _ (run : Run) where
   abbrev beginBefore : List Check
   beginBefore =
