@@ -173,6 +173,10 @@ uint32_t aff_decode(uint64_t kind, const uint8_t *bytes, size_t bytes_length, ui
 // A buffer that is never too small, in whatever order the calls come: 168 bytes, 14 and the name's bytes for each aff_make, and 19 and the data's bytes for
 // each aff_put, if this is at most 2,147,483,647. (A name used again, and data that need fewer zeros than 7, take less.)
 //
+// The order of aff_put calls that follow each other does not show in the tree: make the nodes first, then put the data in whatever order they come. In a
+// buffer of that size, with an allowance of 7 more than its bytes for each aff_put, every order is accepted if one is, and the files show the same nodes, types, counts and
+// bytes. The files may differ in the places of the data, and by up to 7 bytes in size.
+//
 // An allowance is the largest number of bytes that a call may store in the buffer; UINT64_MAX is no limit. After a refusal with 23 exactly that many
 // are stored, numbers[0] is their number, numbers[7] is 0, and the work areas are unchanged; the file cannot be continued. After any other refusal only
 // numbers[0] has changed: after 14 it is the place in the name, else it is 0. But aff_begin refused with 1, 3 or 21 sets numbers and kept to zero, so that

@@ -28,7 +28,7 @@ use Rattle.aff_run.proofs.CallsAlikeLaws.{treeBy, layoutBy, closesBy, putsBy, t
 use Rattle.aff_run.proofs.OrdersLaws.{length-answers, length-puts, seam-take, seam-drop, all-alike, all-same, asleep-oks, layoutAll, puts-tree, puts-layout, puts-closed, puts-but, puts-without, numbers-same, puts-most, most-before, end-all, Near, near-reordered, near-later, same-later, ends-meet, ends-stay, oks-reordered}
 use Rattle.aff_run.proofs.ReorderedLaws.{AllFit, putAll, tree-reordered, sum-reordered, length-reordered, endAll, end-reordered, lengths-agree, PutsMade, puts-made}
 use Rattle.aff_run.proofs.StepLaws.{asleep-step, asleep-after}
-use Rattle.aff.specs.PutOrder.{TwoPuts, oneOrder, otherOrder, PairAccepted, SameTree, PutOrder, PutOrderLiteral, TwoOrders, putsOn, runOne, runOther, asOrders, Numbers, PutsAccepted, PutsReordered, SameAnswers, LengthsAgree, putsAfter, PlacesInBoth, OrderPlaces, LaterAlike, AcceptedAlike, PutOrders}
+use Rattle.aff.specs.PutOrder.{TwoPuts, oneOrder, otherOrder, PairAccepted, SameTree, PutOrder, PutOrderLiteral, TwoOrders, putsOn, runOne, runOther, asOrders, Numbers, PutsAccepted, PutsReordered, SameAnswers, LengthsAgree, putsAfter, PlacesInBoth, OrderPlaces, LaterAlike, Ample, AcceptedAlike, AnyOrder, PutOrders}
 use Rattle.aff.proofs.DataPlacesLaws.{buffer-suffices}
 use Rattle.aff.proofs.Demand3Laws.{demand3}
 
@@ -372,16 +372,15 @@ module _ (run : Run) (o : TwoOrders) where
       ∙ (λ i. sum-reordered (λ d. 7 + length (d .bytes) + 12) (o .puts-one) (o .puts-other) (o .reordered) i + mostAddedBy (same i))
       ∙ sym (puts-most (o .puts-other) (o .allowance-other) (o .later-other)))
 
-  module _ (large : headerSize (editionBy (run .edition)) + mostAddedBy (one .calls) ≤ length (run .buffer)) (same : o .later-one ≡ o .later-other)
-      (ample : AmplePuts (putsOn (o .puts-one) (o .allowance-one) (o .later-one))) (ample-other : AmplePuts (putsOn (o .puts-other) (o .allowance-other) (o .later-other))) where
+  module _ (ample : Ample run o) where
     -- No answer of either run is 21.
     none-one : NoneBy 21 (putsOne ++ lastOne)
-    none-one = none-split (o .before) (runStart run) 21 (putsOne ++ lastOne) (subst (NoneBy 21) parts-one (buffer-suffices one large .1))
+    none-one = none-split (o .before) (runStart run) 21 (putsOne ++ lastOne) (subst (NoneBy 21) parts-one (buffer-suffices one (ample .buffer) .1))
 
     none-other : NoneBy 21 (putsOther ++ lastOther)
     none-other =
         none-split (o .before) (runStart run) 21 (putsOther ++ lastOther)
-        (subst (NoneBy 21) parts-other (buffer-suffices other (omega (arith, large, most-same same)) .1))
+        (subst (NoneBy 21) parts-other (buffer-suffices other (omega (arith, ample .buffer, most-same (ample .later))) .1))
 
     oks-by-begin : (a : Answer ℕ) → runBegin run .answer ≡ a → AllAccepted putsOne → acceptedOf (runAnswers one) ≡ acceptedOf (runAnswers other)
     oks-by-begin (accepted n) h ok =
@@ -395,12 +394,12 @@ module _ (run : Run) (o : TwoOrders) where
         ∙ sym (length-append (putsWith ds f) later) in
         let after : acceptedOf (putsOne ++ lastOne) ≡ acceptedOf (putsOther ++ lastOther) =
         oks-by (putsWith (o .puts-one) (o .allowance-one) ++ o .later-one) (putsOne ++ lastOne) (length-both (o .puts-one) (o .allowance-one) (o .later-one)) e size asleep (sharedLayout .end) sharedTree
-        (from-here run (o .before) (o .puts-one) (o .allowance-one) (o .later-one) h) none-one ample
+        (from-here run (o .before) (o .puts-one) (o .allowance-one) (o .later-one) h) none-one (ample .allowances-one)
         ∙ oks-reordered e asleep sharedTree (o .puts-one) (o .puts-other) (o .allowance-one) (o .allowance-other) (o .later-one) (o .reordered) (fit ok)
-        ∙ ap (λ (later : List Call). oksBy e asleep sharedTree (putsWith (o .puts-other) (o .allowance-other) ++ later)) same
+        ∙ ap (λ (later : List Call). oksBy e asleep sharedTree (putsWith (o .puts-other) (o .allowance-other) ++ later)) (ample .later)
         ∙ sym
         (oks-by (putsWith (o .puts-other) (o .allowance-other) ++ o .later-other) (putsOther ++ lastOther) (length-both (o .puts-other) (o .allowance-other) (o .later-other)) e size asleep (sharedLayout .end) sharedTree
-        (from-here run (o .before) (o .puts-other) (o .allowance-other) (o .later-other) h) none-other ample-other) in
+        (from-here run (o .before) (o .puts-other) (o .allowance-other) (o .later-other) h) none-other (ample .allowances-other)) in
         ap acceptedOf parts-one
         ∙ accepted-split shared (putsOne ++ lastOne)
         ∙ ap (λ (oks : List Bool). acceptedOf shared ++ oks) after
@@ -408,7 +407,7 @@ module _ (run : Run) (o : TwoOrders) where
         ∙ ap acceptedOf (sym parts-other)
     oks-by-begin (refused t) h ok =
         let z = asleep run t h in
-        asleep-oks (runStart run) z (one .calls) ∙ ap (λ (n : ℕ). replicate n false) (length-calls same) ∙ sym (asleep-oks (runStart run) z (other .calls))
+        asleep-oks (runStart run) z (one .calls) ∙ ap (λ (n : ℕ). replicate n false) (length-calls (ample .later)) ∙ sym (asleep-oks (runStart run) z (other .calls))
 
   -- ---- The numbers of nodes.
 
@@ -470,7 +469,10 @@ later-alike run o ok ok-other agree same =
     ∙ sym (last-part run (o .before) (o .puts-other) (o .allowance-other) (o .later-other) (length (o .puts-one)) (same-count run o))
 
 accepted-alike : AcceptedAlike
-accepted-alike run o large ample ample-other same ok = oks-by-begin run o large same ample ample-other (runBegin run .answer) refl (puts-one run o ok)
+accepted-alike run o ample ok = oks-by-begin run o ample (runBegin run .answer) refl (puts-one run o ok)
+
+any-order : AnyOrder
+any-order run o ample ok c = one-tree run o (accepted-alike run o ample ok) (puts-one run o ok) c
 
 -- ---- Two puts.
 
@@ -558,4 +560,5 @@ put-orders =
       places = places;
       later-alike = later-alike;
       accepted-alike = accepted-alike;
+      any-order = any-order;
     }

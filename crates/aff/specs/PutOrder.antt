@@ -23,8 +23,8 @@ use Rattle.aff_run.specs.Run.{Call, put, close, Run, withCalls, runAnswers, run
 
 -- ---- Two puts in both orders.
 
--- Two puts to different nodes that follow each other, with the calls before and after them. With padding a put may need other stores in the other order, so its allowance may be
--- another there, and those of the later calls too.
+-- Two puts to different nodes that follow each other, with the calls before and after them. (That the nodes differ is asked as the request has it. Where both puts are accepted they do: a
+-- second put to a node is 18.) With padding a put may need other stores in the other order, so its allowance may be another there, and those of the later calls too.
 pub record TwoPuts : Type 0 where
   pub before : List Call
   pub left : PutData
@@ -119,7 +119,7 @@ abbrev pub Numbers : Type 0
 Numbers = (run : Run) (o : TwoOrders) → acceptedOf (runAnswers (runOne run o)) ≡ acceptedOf (runAnswers (runOther run o))
     → madeNumbers (runOne run o .calls) (runAnswers (runOne run o)) ≡ madeNumbers (runOther run o .calls) (runAnswers (runOther run o))
 
--- The puts of a run were accepted. Then they are to different nodes: a second put to a node is 18.
+-- The puts of a run were accepted. So they are to different nodes.
 abbrev pub PutsAccepted : Run → TwoOrders → Type 0
 PutsAccepted run o = AllAccepted (take (length (o .puts-one)) (drop (length (o .before)) (runAnswers run)))
 
@@ -168,13 +168,21 @@ abbrev pub LaterAlike : Type 0
 LaterAlike = (run : Run) (o : TwoOrders) → PutsAccepted (runOne run o) o → PutsAccepted (runOther run o) o → LengthsAgree o → o .later-one ≡ o .later-other
     → drop (length (o .puts-one)) (drop (length (o .before)) (runAnswers (runOne run o))) ≡ drop (length (o .puts-one)) (drop (length (o .before)) (runAnswers (runOther run o)))
 
--- In a buffer that holds the most that the calls add (`BufferSuffices` in DataPlaces.antt), where each put from these on has an allowance for its bytes and 7 more, and the later calls
--- are the same with the same allowances: the other order accepts what the one accepts. Nothing is assumed of it.
+-- Buffer and allowances that suffice for every order: the buffer holds the most that the calls add (`BufferSuffices` in DataPlaces.antt); each put from these on has an allowance for its
+-- bytes and 7 more; the later calls are the same with the same allowances.
+pub record Ample (run : Run) (o : TwoOrders) : Type 0 where
+  pub buffer : headerSize (editionBy (run .edition)) + mostAddedBy (runOne run o .calls) ≤ length (run .buffer)
+  pub allowances-one : AmplePuts (putsOn (o .puts-one) (o .allowance-one) (o .later-one))
+  pub allowances-other : AmplePuts (putsOn (o .puts-other) (o .allowance-other) (o .later-other))
+  pub later : o .later-one ≡ o .later-other
+
+-- Then the other order accepts what the one accepts. Nothing is assumed of it.
 abbrev pub AcceptedAlike : Type 0
-AcceptedAlike = (run : Run) (o : TwoOrders) → headerSize (editionBy (run .edition)) + mostAddedBy (runOne run o .calls) ≤ length (run .buffer)
-    → AmplePuts (putsOn (o .puts-one) (o .allowance-one) (o .later-one)) → AmplePuts (putsOn (o .puts-other) (o .allowance-other) (o .later-other)) → o .later-one ≡ o .later-other
-    → PutsAccepted (runOne run o) o
-    → acceptedOf (runAnswers (runOne run o)) ≡ acceptedOf (runAnswers (runOther run o))
+AcceptedAlike = (run : Run) (o : TwoOrders) → Ample run o → PutsAccepted (runOne run o) o → acceptedOf (runAnswers (runOne run o)) ≡ acceptedOf (runAnswers (runOther run o))
+
+-- So the data may be delivered in any order: with such a buffer and such allowances the file of every other order opens and shows the same tree.
+abbrev pub AnyOrder : Type 0
+AnyOrder = (run : Run) (o : TwoOrders) → Ample run o → PutsAccepted (runOne run o) o → runClosed (runOne run o) ≡ true → SameTree (runOne run o) (runOther run o)
 
 pub record PutOrders : Type 0 where
   pub put-order : PutOrder
@@ -185,3 +193,4 @@ pub record PutOrders : Type 0 where
   pub places : OrderPlaces
   pub later-alike : LaterAlike
   pub accepted-alike : AcceptedAlike
+  pub any-order : AnyOrder

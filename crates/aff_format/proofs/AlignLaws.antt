@@ -1,5 +1,5 @@
 -- The lowest multiple of 8 at or above a place. Each law by arithmetic. Assumes nothing.
-use mathlib.Core.Path.{_≡_, ap, _∙_}
+use mathlib.Core.Path.{_≡_}
 use Prim.Native.Nat.{ℕ, _+_, _-_, _%_, _≤_, _<_}
 use native.Mathlib.Omega.{arith}
 use Rattle.aff_format.specs.Align.{padding, aligned}
@@ -46,30 +46,6 @@ padding-agrees l m h = rw h
 pub agrees-padding : (l m : ℕ) → padding l ≡ padding m → l % 8 ≡ m % 8
 unfolding padding
 agrees-padding l m h = omega arith
-
--- ---- Two runs of l and m bytes, each from the next multiple of 8 on, after a place.
-
-abbrev pub endOfTwo : ℕ → ℕ → ℕ → ℕ
-endOfTwo place l m = aligned (aligned place + l) + m
-
-two-end : (place l m : ℕ) → endOfTwo place l m ≡ aligned place + aligned l + m
-two-end place l m = ap (λ (n : ℕ). n + m) (aligned-shift (aligned place) l (aligned-multiple place))
-
--- In either order they end before the same multiple of 8.
-pub two-next : (place l m : ℕ) → aligned (endOfTwo place l m) ≡ aligned place + aligned l + aligned m
-two-next place l m =
-    let h : (aligned place + aligned l) % 8 ≡ 0 = omega (arith, aligned-multiple place, aligned-multiple l) in
-    ap aligned (two-end place l m) ∙ aligned-shift (aligned place + aligned l) m h
-
-pub two-same-next : (place l m : ℕ) → aligned (endOfTwo place l m) ≡ aligned (endOfTwo place m l)
-two-same-next place l m = omega (arith, two-next place l m, two-next place m l)
-
--- They end at the same place exactly where the lengths agree modulo 8.
-pub two-same : (place l m : ℕ) → l % 8 ≡ m % 8 → endOfTwo place l m ≡ endOfTwo place m l
-two-same place l m h = omega (arith, two-end place l m, two-end place m l, padding-agrees l m h)
-
-pub two-agree : (place l m : ℕ) → endOfTwo place l m ≡ endOfTwo place m l → l % 8 ≡ m % 8
-two-agree place l m h = agrees-padding l m (omega (arith, two-end place l m, two-end place m l))
 
 -- Places before the same multiple of 8 differ by at most 7.
 pub next-near : (n m : ℕ) → aligned n ≡ aligned m → n ≤ m + 7

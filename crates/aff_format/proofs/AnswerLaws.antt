@@ -120,3 +120,20 @@ check-reported n (check false q ∷ before) o wrong r after p a e h =
 pub last-reported : {A : Type 0} (n : ℕ) (before : List Check) → Others n before → (wrong : Bool) (r : RefusalCode) (a : A) {t : RefusalCode}
     → firstWrong (before ++ (check wrong r ∷ [])) a ≡ refused t → eqb (t .number) n ≡ true → Clear before × (wrong ≡ true) × (t ≡ r)
 last-reported n before o wrong r a e h = check-reported n before o wrong r [] refl a e h
+
+-- A check that is not the one reported may be left out.
+pub never-reported : {A : Type 0} (before : List Check) (wrong : Bool) (r : RefusalCode) (after : List Check) (a : A)
+    → ((t : RefusalCode) → firstWrong (before ++ (check wrong r ∷ after)) a ≡ refused t → t .number ≡ r .number → ⊥)
+    → firstWrong (before ++ (check wrong r ∷ after)) a ≡ firstWrong (before ++ after) a
+never-reported [] true r after a h = absurd (h r refl refl)
+never-reported [] false r after a h = refl
+never-reported (check true q ∷ before) wrong r after a h = refl
+never-reported (check false q ∷ before) wrong r after a h = never-reported before wrong r after a h
+
+-- A refusal that is none of the checks after one: that one refuses, or one before it.
+pub refused-up-to : {A B : Type 0} (before : List Check) (wrong : Bool) (r : RefusalCode) (after : List Check) (a : A) (b : B) {t : RefusalCode}
+    → firstWrong (before ++ (check wrong r ∷ after)) a ≡ refused t → (firstWrong after a ≡ refused t → ⊥) → firstWrong (before ++ (check true r ∷ [])) b ≡ refused t
+refused-up-to [] true r after a b e f = cc
+refused-up-to [] false r after a b e f = absurd (f e)
+refused-up-to (check true q ∷ before) wrong r after a b e f = cc
+refused-up-to (check false q ∷ before) wrong r after a b e f = refused-up-to before wrong r after a b e f

@@ -17,7 +17,7 @@ use Rattle.aff_format.specs.Tree.{Tree, treeNode}
 use Rattle.aff_format.specs.declared.edition.Edition.{Edition}
 use Rattle.aff_format.specs.declared.refusal.RefusalCode.{RefusalCode}
 use Rattle.aff_format.proofs.AlignLaws.{padding-few}
-use Rattle.aff_format.proofs.AnswerLaws.{not-both, passed-value, others-reported}
+use Rattle.aff_format.proofs.AnswerLaws.{not-both, passed-value, others-reported, never-reported, refused-up-to}
 use Rattle.aff_format.proofs.TestLaws.{or-false}
 use Rattle.aff_write.specs.Put.{wrongData, dataKind}
 use Rattle.aff_run.specs.TreeSizes.{withChild, withData, sizeOf}
@@ -28,23 +28,6 @@ use Rattle.aff_run.specs.Run.{Call, make, put, close, isAccepted, isClos
 use Rattle.aff_run.proofs.CallsAlikeLaws.{apply-without, close-without}
 
 -- ---- Checks in order.
-
--- A check that is not the one reported may be left out.
-never-reported : {A : Type 0} (before : List Check) (wrong : Bool) (r : RefusalCode) (after : List Check) (a : A)
-    → ((t : RefusalCode) → firstWrong (before ++ (check wrong r ∷ after)) a ≡ refused t → t .number ≡ r .number → ⊥)
-    → firstWrong (before ++ (check wrong r ∷ after)) a ≡ firstWrong (before ++ after) a
-never-reported [] true r after a h = absurd (h r refl refl)
-never-reported [] false r after a h = refl
-never-reported (check true q ∷ before) wrong r after a h = refl
-never-reported (check false q ∷ before) wrong r after a h = never-reported before wrong r after a h
-
--- A refusal that is none of the checks after one: that one refuses, or one before it.
-refused-up-to : {A B : Type 0} (before : List Check) (wrong : Bool) (r : RefusalCode) (after : List Check) (a : A) (b : B) {t : RefusalCode}
-    → firstWrong (before ++ (check wrong r ∷ after)) a ≡ refused t → (firstWrong after a ≡ refused t → ⊥) → firstWrong (before ++ (check true r ∷ [])) b ≡ refused t
-refused-up-to [] true r after a b e f = cc
-refused-up-to [] false r after a b e f = absurd (f e)
-refused-up-to (check true q ∷ before) wrong r after a b e f = cc
-refused-up-to (check false q ∷ before) wrong r after a b e f = refused-up-to before wrong r after a b e f
 
 -- Whether checks accept does not depend on the value.
 accepted-any : (checks : List Check) (v w : ℕ) → isAccepted (firstWrong checks v) ≡ isAccepted (firstWrong checks w)
