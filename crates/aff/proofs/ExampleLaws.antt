@@ -1,7 +1,7 @@
 -- Runs of examples: begin is accepted, the answers are those computed from the tree, and the stores are counted by them. Assumes nothing.
-use mathlib.Core.Path.{_≡_, refl, sym, ap, _∙_, subst}
+use mathlib.Core.Path.{_≡_, refl, ap, _∙_, subst}
 use mathlib.Core.Bool.{true, false}
-use mathlib.Core.List.{List, [], _++_}
+use mathlib.Core.List.{List, []}
 use Prim.Native.Nat.{ℕ, _+_, _≤_}
 use native.Mathlib.Omega.{arith}
 use lib.ListN.{length, length-append}
@@ -15,7 +15,7 @@ use Rattle.aff_format.specs.declared.edition.Edition.{Edition}
 use Rattle.aff_format.specs.declared.edition.Edition.the-variants.{One, Two, Three}
 use Rattle.aff_format.proofs.ClimbLaws.{absurd-bool}
 use Rattle.aff_format.proofs.EditionLaws.{edition-by-number, written-named, length-numberForm}
-use Rattle.aff_areas.specs.Stores.{Store, applyStores}
+use Rattle.aff_areas.specs.Stores.{applyStores}
 use Rattle.aff_write.specs.Begin.{beginLengthsWrong, beginAnswer}
 use Rattle.aff_run.specs.AnswersFromTree.{AnswersFromTree}
 use Rattle.aff_run.specs.Run.{Call, beginStep, storesOf, Run, runBegin, runStart, runAnswers, runStores, runTree, runClosed}

@@ -4,22 +4,21 @@
 use mathlib.Core.Path.{_≡_, refl, sym, ap, ap₂, _∙_, subst}
 use mathlib.Core.Bool.{Bool, true, false, _&&_, _||_, or-true, true≢false}
 use mathlib.Core.List.{List, [], _∷_, _++_, map}
-use Prim.Native.Nat.{ℕ, zero, suc, _+_, _-_, _≤_, _<_}
+use Prim.Native.Nat.{ℕ, zero, suc, _+_, _-_}
 use native.Mathlib.Omega.{arith}
 use lib.Dec.{eqb}
 use lib.ListN.{length, getD, take, drop, replicate, length-append, length-map}
 use lib.Seq.{take-append-seam, drop-append-seam}
 use Rattle.aff_format.specs.Align.{aligned}
-use Rattle.aff_format.specs.Answer.{Answer, accepted, refused, refusal}
+use Rattle.aff_format.specs.Answer.{Answer, accepted, refused}
 use Rattle.aff_format.specs.Edition.{headerSize, editionBy}
 use Rattle.aff_format.specs.Tree.{Tree}
-use Rattle.aff_format.specs.declared.refusal.RefusalCode.{RefusalCode}
 use Rattle.aff_format.proofs.AlignLaws.{next-near}
 use Rattle.aff_read.specs.Shows.{Shows}
 use Rattle.aff_run.specs.AnswersFromTree.{AnswersFromTree, AllWrongRecord}
 use Rattle.aff_run.specs.BufferSize.{mostAddedBy, NoneBy, acceptedPuts}
-use Rattle.aff_run.specs.CallsAlike.{withoutAllowance, acceptedOf, AllAccepted, answersButStores, madeNumbers, AmplePuts}
-use Rattle.aff_run.specs.Reordered.{PutData, putWith, putsWith, Reordered, lastLength}
+use Rattle.aff_run.specs.CallsAlike.{withoutAllowance, acceptedOf, AllAccepted, answersButStores, madeNumbers}
+use Rattle.aff_run.specs.Reordered.{PutData, putWith, putsWith}
 use Rattle.aff_run.specs.Run.{Call, make, put, close, State, Step, step, afterCall, answersOf, stateAfter, isAccepted, treeAfter, DataLayout, noData, layoutAfter, isClose, closedBy, Run, withCalls, runBegin, runStart, runAnswers, runStores, runState, runTree, runLayout, runClosed}
 use Rattle.aff_run.proofs.AnswersAlikeLaws.{answersBy, answers-by, numbersBy, numbers-by, oksBy, oks-by}
 use Rattle.aff_run.proofs.AnswersFromTreeLaws.{run-from-tree, run-spent, run-refused, expected, answers-expected}
@@ -28,7 +27,7 @@ use Rattle.aff_run.proofs.CallsAlikeLaws.{treeBy, layoutBy, closesBy, putsBy, t
 use Rattle.aff_run.proofs.OrdersLaws.{length-answers, length-puts, seam-take, seam-drop, all-alike, all-same, asleep-oks, layoutAll, puts-tree, puts-layout, puts-closed, puts-but, puts-without, numbers-same, puts-most, most-before, end-all, Near, near-reordered, near-later, same-later, ends-meet, ends-stay, oks-reordered}
 use Rattle.aff_run.proofs.ReorderedLaws.{AllFit, putAll, tree-reordered, sum-reordered, length-reordered, endAll, end-reordered, lengths-agree, PutsMade, puts-made}
 use Rattle.aff_run.proofs.StepLaws.{asleep-step, asleep-after}
-use Rattle.aff.specs.PutOrder.{TwoPuts, oneOrder, otherOrder, PairAccepted, SameTree, PutOrder, PutOrderLiteral, TwoOrders, putsOn, runOne, runOther, asOrders, Numbers, PutsAccepted, PutsReordered, SameAnswers, LengthsAgree, putsAfter, PlacesInBoth, OrderPlaces, LaterAlike, Ample, AcceptedAlike, AnyOrder, PutOrders}
+use Rattle.aff.specs.PutOrder.{TwoPuts, oneOrder, PairAccepted, SameTree, PutOrder, PutOrderLiteral, TwoOrders, putsOn, runOne, runOther, asOrders, Numbers, PutsAccepted, PutsReordered, SameAnswers, LengthsAgree, putsAfter, PlacesInBoth, OrderPlaces, LaterAlike, Ample, AcceptedAlike, AnyOrder, PutOrders}
 use Rattle.aff.proofs.DataPlacesLaws.{buffer-suffices}
 use Rattle.aff.proofs.Demand3Laws.{demand3}
 

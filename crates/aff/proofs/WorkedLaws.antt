@@ -2,51 +2,47 @@
 -- byte shorter refuses the put, and shows them Void. So what demand 3 says is not said of nothing. Answers from the tree, bytes from the closed buffer.
 -- Assumes nothing.
 use mathlib.Core.Path.{_≡_, refl, sym, ap, ap₂, _∙_, subst}
-use mathlib.Core.Bool.{Bool, true, false, cond, _||_}
-use mathlib.Core.List.{List, [], _∷_, _++_, append-nil}
+use mathlib.Core.Bool.{true, false}
+use mathlib.Core.List.{List, [], _∷_, _++_}
 use Prim.Native.Nat.{ℕ, zero, suc, _+_, _≤_, _<_}
 use native.Mathlib.Omega.{arith}
-use lib.ListN.{length, getD, drop, length-append}
-use lib.Seq.{drop-length, take-length}
-use borrow.Author.Tests.{eq-eqb, le-ltb}
+use lib.ListN.{length, getD, drop}
+use lib.Seq.{drop-length}
+use borrow.Author.Tests.{le-ltb}
 use Rattle.aff_format.specs.Align.{padding}
 use Rattle.aff_format.specs.Answer.{Answer, accepted, refused, refusal}
 use Rattle.aff_format.specs.Bytes.{part, sameBytes}
-use Rattle.aff_format.specs.Edition.{editionNumber, signatureText, isWritten, headerSize, numberForm, editionBy}
+use Rattle.aff_format.specs.Edition.{signatureText, isWritten, headerSize, numberForm, editionBy}
 use Rattle.aff_format.specs.Entry.{entryBytes}
-use Rattle.aff_format.specs.Limits.{imageLimit, textArea, treeArea}
+use Rattle.aff_format.specs.Limits.{textArea, treeArea}
 use Rattle.aff_format.specs.Lowest.{lowestFrom}
 use Rattle.aff_format.specs.Number.{beBytes}
 use Rattle.aff_format.specs.Strings.{isIn, textOf}
 use Rattle.aff_format.specs.Subkey.{narrowFirst, narrowNext, wide, restOfSubkey, subkeyFrom}
-use Rattle.aff_format.specs.Tree.{Tree}
 use Rattle.aff_format.specs.declared.entry.Entry.{Entry}
 use Rattle.aff_format.specs.declared.edition.Edition.{Edition}
 use Rattle.aff_format.specs.declared.edition.Edition.the-variants.{One, Two, Three}
 use Rattle.aff_format.proofs.ClimbLaws.{absurd-bool}
-use Rattle.aff_format.proofs.EditionLaws.{edition-by-number, written-named, length-numberForm}
+use Rattle.aff_format.proofs.EditionLaws.{edition-by-number}
 use Rattle.aff_format.specs.declared.kind.Kind.the-variants.{Void, Int}
 use Rattle.aff_tables.specs.Tables.{treeBytes}
 use Rattle.aff_header.specs.Header.{sectionNumbers, sectionHeader, headerFront, withSum}
 use Rattle.aff_file.specs.File.{FileContents, headerOf, fileHeader, fileOf}
-use Rattle.aff_areas.specs.Stores.{Store, applyStores, storesReported}
+use Rattle.aff_areas.specs.Stores.{applyStores}
 use Rattle.aff_areas.specs.Writer.{writerEdition, dataPlace, dataSize}
 use Rattle.aff_areas.proofs.StoreLaws.{apply-length}
-use Rattle.aff_write.specs.Begin.{beginLengthsWrong, beginAnswer}
 use Rattle.aff_run.specs.TreeSizes.{withChild, addName, namesFrom, namesOf, entriesSize, nonVoidCount, sizeOf}
-use Rattle.aff_run.specs.AnswersFromTree.{hasChild, tooLarge, closeNeeds, callAnswer, stops, AnswersFromTree}
-use Rattle.aff_run.specs.Run.{Call, make, put, close, State, step, afterCall, storesOf, beginStep, isAccepted, applyCall, DataLayout, noData, callEnd, layoutAfter, treeAfter, closedBy, Run, runBegin, runStart, runAnswers, runStores, runTree, runClosed}
+use Rattle.aff_run.specs.AnswersFromTree.{hasChild, tooLarge, closeNeeds}
+use Rattle.aff_run.specs.Run.{make, put, close, State, step, afterCall, storesOf, isAccepted, DataLayout, noData, layoutAfter, treeAfter, closedBy, Run, runBegin, runStart, runAnswers, runStores, runTree}
 use Rattle.aff_read.specs.Shows.{Shows}
-use Rattle.aff_run.proofs.BeginInvariantLaws.{begin-invariant, begin-edition, begin-end, begin-form, begin-stores}
+use Rattle.aff_run.proofs.BeginInvariantLaws.{begin-invariant, begin-edition, begin-end, begin-form}
 use Rattle.aff_run.proofs.ClosedLaws.{contents, rest, closed, closed-is, closed-buffer}
-use Rattle.aff_run.proofs.CutLaws.{make-stores, put-reports, close-reports}
-use Rattle.aff_run.proofs.AnswersFromTreeLaws.{run-from-tree, expected, answers-expected}
+use Rattle.aff_run.proofs.AnswersFromTreeLaws.{expected}
 use Rattle.aff_run.proofs.InvariantLaws.{Each, Invariant}
 use Rattle.aff_run.proofs.MakeInvariantLaws.{made-invariant}
 use Rattle.aff_run.proofs.PutInvariantLaws.{put-invariant}
 use Rattle.aff_run.proofs.RunLaws.{step-form, step-edition, step-end, needed-made}
 use Rattle.aff_run.proofs.StepLaws.{buffer-after, run-buffer}
-use Rattle.aff.specs.Demand3.{bufferAt}
 use Rattle.aff.specs.Worked.{workedForm, nameA, nameN, minusSeventy, workedCalls, workedIn, workedTree, workedFile, WorkedRun, Worked, voidTree, OneShorter}
 use Rattle.aff.proofs.ExampleLaws.{data-at, begin-accepted, answers-are, stores-are, run-shows}
 use Rattle.aff.proofs.WorkedSums.{symbols-digest, entries-digest, data-digest, workedFront, header-digest-2, header-digest-3}

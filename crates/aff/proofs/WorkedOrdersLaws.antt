@@ -11,7 +11,7 @@ use Rattle.aff_format.specs.Align.{padding}
 use Rattle.aff_format.specs.Answer.{Answer, accepted, refused, refusal}
 use Rattle.aff_format.specs.Bytes.{part, sameBytes}
 use Rattle.aff_format.specs.Edition.{editionNumber, isWritten, headerSize, editionBy}
-use Rattle.aff_format.specs.Limits.{imageLimit, textArea, treeArea}
+use Rattle.aff_format.specs.Limits.{textArea, treeArea}
 use Rattle.aff_format.specs.Lowest.{lowestFrom}
 use Rattle.aff_format.specs.Strings.{isIn, textOf}
 use Rattle.aff_format.specs.Subkey.{narrowFirst, narrowNext, wide, restOfSubkey, subkeyFrom}
@@ -23,10 +23,9 @@ use Rattle.aff_format.proofs.EditionLaws.{edition-by-number}
 use Rattle.aff_run.specs.TreeSizes.{addName, namesFrom, entriesSize, sizeOf}
 use Rattle.aff_run.specs.AnswersFromTree.{hasChild, tooLarge, closeNeeds}
 use Rattle.aff_run.specs.CallsAlike.{acceptedOf}
-use Rattle.aff_run.specs.Run.{Call, make, put, close, treeAfter, DataLayout, noData, layoutAfter, closedBy, Run, runAnswers, runState, runTree, runLayout, runClosed}
+use Rattle.aff_run.specs.Run.{make, close, treeAfter, DataLayout, noData, layoutAfter, closedBy, Run, runAnswers, runState, runTree, runLayout, runClosed}
 use Rattle.aff_run.proofs.AnswersFromTreeLaws.{expected}
-use Rattle.aff.specs.DataPlaces.{describedFile}
-use Rattle.aff.specs.PutOrder.{TwoPuts, PairAccepted, SameTree}
+use Rattle.aff.specs.PutOrder.{TwoPuts, SameTree}
 use Rattle.aff.specs.Worked.{nameA}
 use Rattle.aff.specs.WorkedOrders.{nameB, abc, one, lettersFirst, numberFirst, runIn, bothTree, BothOrders, OrdersIn238, OneOrder, OrdersIn237}
 use Rattle.aff.proofs.DataPlacesLaws.{data-places}

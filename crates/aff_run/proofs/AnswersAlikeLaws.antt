@@ -1,14 +1,14 @@
 -- What is known of the answers of a run by its calls without their allowances, which were accepted, and the tree: all but the stores of puts where a close is accepted (`answers-by`),
 -- the numbers of nodes (`numbers-by`), and which are accepted at all where neither 21 nor the padding can refuse (`oks-by`). None depends on where the data end. By induction on the
 -- calls, from the answers by the tree. Assumes nothing.
-use mathlib.Core.Path.{_≡_, refl, sym, ap, ap₂, _∙_, subst}
+use mathlib.Core.Path.{_≡_, refl, sym, ap, ap₂, _∙_}
 use mathlib.Core.Bool.{Bool, true, false, cond, not, _&&_, _||_, true≢false}
 use mathlib.Core.List.{List, [], _∷_, _++_, map}
-use Prim.Native.Nat.{ℕ, zero, suc, _+_, _-_, _≤_}
+use Prim.Native.Nat.{ℕ, _+_, _-_}
 use native.Mathlib.Omega.{arith}
 use lib.Dec.{eqb, ltb}
 use lib.ListN.{length, length-append, length-set}
-use borrow.Author.Tests.{eq-eqb, eqb-false, le-ltb}
+use borrow.Author.Tests.{le-ltb}
 use Rattle.aff_format.specs.Align.{padding, aligned}
 use Rattle.aff_format.specs.Answer.{Answer, accepted, refused, Check, check, refusal, refusalAt, firstWrong}
 use Rattle.aff_format.specs.Kind.{kindOf, isVoid}

@@ -1,18 +1,16 @@
 -- What calls describe depends on them but for their allowances, and on which were accepted: the tree, the layout of its data, whether they close it. Calls after other calls; answers
 -- of calls that are the same but for their allowances. By induction on the calls, one line for each kind of call. Assumes nothing.
 use mathlib.Core.Path.{_≡_, refl, sym, ap, ap₂, _∙_}
-use mathlib.Core.Bool.{Bool, true, false, cond, _&&_, _||_, true≢false}
+use mathlib.Core.Bool.{Bool, true, false, _&&_, _||_, true≢false}
 use mathlib.Core.List.{List, [], _∷_, _++_, map}
-use Prim.Native.Nat.{ℕ, zero, suc, _+_}
-use native.Mathlib.Omega.{arith}
-use lib.ListN.{length, getD}
-use Rattle.aff_format.specs.Answer.{Answer, accepted, refused, refusal}
+use Prim.Native.Nat.{ℕ, _+_}
+use Rattle.aff_format.specs.Answer.{Answer}
 use Rattle.aff_format.specs.Tree.{Tree}
 use Rattle.aff_format.specs.declared.edition.Edition.{Edition}
 use Rattle.aff_run.specs.AnswersFromTree.{stops, AnswersFromTree}
 use Rattle.aff_run.specs.BufferSize.{NoneBy, acceptedPut, acceptedPuts}
 use Rattle.aff_run.specs.CallsAlike.{withoutAllowance, acceptedOf, butStores, answersButStores}
-use Rattle.aff_run.specs.Run.{Call, make, put, close, State, step, afterCall, answersOf, stateAfter, isAccepted, applyCall, treeAfter, DataLayout, callEnd, callLayout, layoutAfter, isClose, closedBy}
+use Rattle.aff_run.specs.Run.{Call, make, put, close, State, step, afterCall, answersOf, stateAfter, isAccepted, applyCall, treeAfter, DataLayout, callLayout, layoutAfter, isClose, closedBy}
 
 -- ---- By the calls without their allowances and which were accepted.
 

@@ -1,9 +1,9 @@
 -- A run with puts that follow each other: what it describes and answers, by the calls before them, the puts, and the calls after them (`parts`). Two such runs with the puts in two
 -- orders: the layouts of their data. Assumes nothing.
-use mathlib.Core.Path.{_≡_, refl, sym, ap, ap₂, _∙_, subst}
-use mathlib.Core.Bool.{Bool, true, false, _&&_, _||_, true≢false}
+use mathlib.Core.Path.{_≡_, refl, sym, ap, ap₂, _∙_}
+use mathlib.Core.Bool.{Bool, true, false, true≢false}
 use mathlib.Core.List.{List, [], _∷_, _++_, map}
-use Prim.Native.Nat.{ℕ, zero, suc, _+_, _-_, _≤_, _<_}
+use Prim.Native.Nat.{ℕ, zero, suc, _+_, _-_, _<_}
 use native.Mathlib.Omega.{arith}
 use lib.ListN.{length, getD, set, take, drop, replicate, length-append, length-set}
 use lib.Seq.{getD-set-other, take-append-seam, drop-append-seam}
@@ -15,7 +15,7 @@ use Rattle.aff_format.specs.declared.edition.Edition.{Edition}
 use Rattle.aff_run.specs.BufferSize.{mostAddedBy, acceptedPut}
 use Rattle.aff_run.specs.CallsAlike.{withoutAllowance, acceptedOf, AllAccepted, answersButStores}
 use Rattle.aff_run.specs.Reordered.{PutData, putWith, putsWith, Reordered, Apart}
-use Rattle.aff_run.specs.Run.{Call, make, put, close, State, step, afterCall, answersOf, isAccepted, treeAfter, DataLayout, callEnd, callLayout, layoutAfter, closedBy}
+use Rattle.aff_run.specs.Run.{Call, make, put, close, State, afterCall, answersOf, treeAfter, DataLayout, callEnd, callLayout, layoutAfter, closedBy}
 use Rattle.aff_run.proofs.AnswersAlikeLaws.{numberBy, countBy, numbersBy, okBy, oksBy}
 use Rattle.aff_run.proofs.CallsAlikeLaws.{layoutBy, putsBy}
 use Rattle.aff_run.proofs.StepLaws.{asleep-step, asleep-next}

@@ -1,16 +1,16 @@
 -- Puts in another order. Where puts that follow each other are accepted, each is to a node of its own that was Void before them (`puts-after`), so they may come in any order: the tree
 -- after them is the same (`tree-reordered`), and the data end before the same multiple of 8 (`next-reordered`). By induction on the puts. Assumes nothing.
-use mathlib.Core.Path.{_≡_, refl, sym, ap, ap₂, _∙_, subst}
+use mathlib.Core.Path.{_≡_, refl, sym, ap, _∙_, subst}
 use mathlib.Core.Bool.{Bool, true, false, cond, not, _||_, true≢false}
 use mathlib.Core.List.{List, [], _∷_, _++_}
 use Prim.Native.Nat.{ℕ, zero, suc, _+_, _-_, _%_, _≤_, _<_}
 use native.Mathlib.Omega.{arith}
-use lib.Dec.{eqb, ltb}
-use lib.ListN.{length, getD, set, length-append, length-set}
+use lib.Dec.{eqb}
+use lib.ListN.{length, getD, set, length-set}
 use lib.Seq.{set-comm, getD-set-same, getD-set-other}
-use borrow.Author.Tests.{eqb-false, eq-eqb, ltb-false, le-ltb, not-false}
+use borrow.Author.Tests.{eqb-false, ltb-false, not-false}
 use Rattle.aff_format.specs.Align.{padding, aligned}
-use Rattle.aff_format.specs.Answer.{Answer, accepted, refused, check, refusal, Clear}
+use Rattle.aff_format.specs.Answer.{Answer, accepted, refused, refusal, Clear}
 use Rattle.aff_format.specs.Kind.{kindOf, isVoid}
 use Rattle.aff_format.specs.Tree.{Node, Tree, root, treeNode}
 use Rattle.aff_format.specs.declared.edition.Edition.{Edition}
@@ -23,7 +23,7 @@ use Rattle.aff_run.specs.TreeSizes.{withData}
 use Rattle.aff_run.specs.AnswersFromTree.{callChecks, callValue, callAnswer, stops, AnswersFromTree}
 use Rattle.aff_run.specs.CallsAlike.{AllAccepted}
 use Rattle.aff_run.specs.Reordered.{PutData, putWith, putsWith, Reordered, Apart, lastLength}
-use Rattle.aff_run.specs.Run.{Call, put, isAccepted, applyCall, callEnd}
+use Rattle.aff_run.specs.Run.{Call, isAccepted, applyCall, callEnd}
 use Rattle.aff_run.proofs.PutInvariantLaws.{data-right}
 
 -- ---- A put and the other nodes.
