@@ -20,6 +20,7 @@ use Rattle.aff_run.specs.BufferSize.{mostAddedBy, NoneBy, acceptedPuts}
 use Rattle.aff_run.specs.CallsAlike.{withoutAllowance, acceptedOf, AllAccepted, answersButStores, madeNumbers}
 use Rattle.aff_run.specs.Reordered.{PutData, putWith, putsWith}
 use Rattle.aff_run.specs.Run.{Call, make, put, close, State, Step, step, afterCall, answersOf, stateAfter, isAccepted, treeAfter, DataLayout, noData, layoutAfter, isClose, closedBy, Run, withCalls, runBegin, runStart, runAnswers, runStores, runState, runTree, runLayout, runClosed}
+use Rattle.aff_run.specs.TreeSizes.{sizeOf}
 use Rattle.aff_run.proofs.AnswersAlikeLaws.{answersBy, answers-by, numbersBy, numbers-by, oksBy, oks-by}
 use Rattle.aff_run.proofs.AnswersFromTreeLaws.{run-from-tree, run-spent, run-refused, expected, answers-expected}
 use Rattle.aff_run.proofs.BeginRefusedLaws.{asleep, none-closed}
@@ -27,8 +28,8 @@ use Rattle.aff_run.proofs.CallsAlikeLaws.{treeBy, layoutBy, closesBy, putsBy, t
 use Rattle.aff_run.proofs.OrdersLaws.{length-answers, length-puts, seam-take, seam-drop, all-alike, all-same, asleep-oks, layoutAll, puts-tree, puts-layout, puts-closed, puts-but, puts-without, numbers-same, puts-most, most-before, end-all, Near, near-reordered, near-later, same-later, ends-meet, ends-stay, oks-reordered}
 use Rattle.aff_run.proofs.ReorderedLaws.{AllFit, putAll, tree-reordered, sum-reordered, length-reordered, endAll, end-reordered, lengths-agree, PutsMade, puts-made}
 use Rattle.aff_run.proofs.StepLaws.{asleep-step, asleep-after}
-use Rattle.aff.specs.PutOrder.{TwoPuts, oneOrder, PairAccepted, SameTree, PutOrder, PutOrderLiteral, TwoOrders, putsOn, runOne, runOther, asOrders, Numbers, PutsAccepted, PutsReordered, SameAnswers, LengthsAgree, putsAfter, PlacesInBoth, OrderPlaces, LaterAlike, Ample, AcceptedAlike, AnyOrder, PutOrders}
-use Rattle.aff.proofs.DataPlacesLaws.{buffer-suffices}
+use Rattle.aff.specs.PutOrder.{TwoPuts, oneOrder, SameAccepted, PairAccepted, SameTree, PutOrder, PutOrderLiteral, TwoOrders, putsOn, runOne, runOther, asOrders, Numbers, PutsAccepted, PutsReordered, SameAnswers, LengthsAgree, putsAfter, PlacesInBoth, OrderPlaces, OrderSizes, LaterAlike, Ample, AcceptedAlike, AnyOrder, PutOrders}
+use Rattle.aff.proofs.DataPlacesLaws.{buffer-suffices, data-places}
 use Rattle.aff.proofs.Demand3Laws.{demand3}
 
 -- ---- One run with puts that follow each other.
@@ -203,7 +204,7 @@ module _ (run : Run) (o : TwoOrders) where
 
   -- ---- The same calls are accepted.
 
-  module _ (alike : acceptedOf (runAnswers one) ≡ acceptedOf (runAnswers other)) (ok : AllAccepted putsOne) where
+  module _ (alike : SameAccepted one other) (ok : AllAccepted putsOne) where
     -- Part by part.
     alike-after : acceptedOf putsOne ++ acceptedOf lastOne ≡ acceptedOf putsOther ++ acceptedOf lastOther
     alike-after =
@@ -381,7 +382,7 @@ module _ (run : Run) (o : TwoOrders) where
         none-split (o .before) (runStart run) 21 (putsOther ++ lastOther)
         (subst (NoneBy 21) parts-other (buffer-suffices other (omega (arith, ample .buffer, most-same (ample .later))) .1))
 
-    oks-by-begin : (a : Answer ℕ) → runBegin run .answer ≡ a → AllAccepted putsOne → acceptedOf (runAnswers one) ≡ acceptedOf (runAnswers other)
+    oks-by-begin : (a : Answer ℕ) → runBegin run .answer ≡ a → AllAccepted putsOne → SameAccepted one other
     oks-by-begin (accepted n) h ok =
         let e = editionBy (run .edition) in
         let size = length (run .buffer) in
@@ -415,7 +416,7 @@ module _ (run : Run) (o : TwoOrders) where
   calls-without [] ds f later = puts-without ds f later
   calls-without (c ∷ before) ds f later = ap (λ (cs : List Call). withoutAllowance c ∷ cs) (calls-without before ds f later)
 
-  numbers-alike : acceptedOf (runAnswers one) ≡ acceptedOf (runAnswers other)
+  numbers-alike : SameAccepted one other
       → numbersBy 0 (map withoutAllowance (one .calls)) (acceptedOf (runAnswers one)) ≡ numbersBy 0 (map withoutAllowance (other .calls)) (acceptedOf (runAnswers other))
   numbers-alike alike =
       ap (λ (cs : List Call). numbersBy 0 cs (acceptedOf (runAnswers one))) (calls-without (o .before) (o .puts-one) (o .allowance-one) (o .later-one))
@@ -449,7 +450,7 @@ numbers run o alike =
 puts-reordered : PutsReordered
 puts-reordered run o alike ok c = one-tree run o alike (puts-one run o ok) c
 
-answers-by-begin : (a : Answer ℕ) (run : Run) (o : TwoOrders) → runBegin run .answer ≡ a → acceptedOf (runAnswers (runOne run o)) ≡ acceptedOf (runAnswers (runOther run o))
+answers-by-begin : (a : Answer ℕ) (run : Run) (o : TwoOrders) → runBegin run .answer ≡ a → SameAccepted (runOne run o) (runOther run o)
     → PutsAccepted (runOne run o) o → runClosed (runOne run o) ≡ true
     → answersButStores (runOne run o .calls) (runAnswers (runOne run o)) ≡ answersButStores (runOther run o .calls) (runAnswers (runOther run o))
 answers-by-begin (accepted n) run o h alike ok c = one-answers run o alike (puts-one run o ok) c h
@@ -460,6 +461,20 @@ same-answers run o alike ok c = answers-by-begin (runBegin run .answer) run o re
 
 places : OrderPlaces
 places run o alike ok = placed run o alike (puts-one run o ok)
+
+-- The size of a file is its end of data and what the tree needs.
+sizes-by : (end end′ : ℕ) (tree tree′ : Tree) → tree ≡ tree′ → sizeOf end tree + end′ ≡ sizeOf end′ tree′ + end
+unfolding sizeOf
+sizes-by end end′ tree tree′ same = rw same (omega arith)
+
+sizes : OrderSizes
+sizes run o alike ok c =
+    let t = one-tree run o alike (puts-one run o ok) c in
+    let end = runLayout (runOne run o) .end in
+    let end′ = runLayout (runOther run o) .end in
+    ap (λ (n : ℕ). n + end′) (data-places .files-described (runOne run o) c .size)
+    ∙ sizes-by end end′ (runTree (runOne run o)) (runTree (runOther run o)) (t .one-describes ∙ sym (t .other-describes))
+    ∙ sym (ap (λ (n : ℕ). n + end) (data-places .files-described (runOther run o) (t .other-closed) .size))
 
 later-alike : LaterAlike
 later-alike run o ok ok-other agree same =
@@ -536,7 +551,7 @@ literal run before calls m n t u b c j k closes differ ok ok-other =
     let all : AllAccepted (putsOne run o ++ lastOne run o) = subst AllAccepted (from-puts run before (o .puts-one) (o .allowance-one) later) ok in
     let all-other : AllAccepted (putsOther run o ++ lastOther run o) = subst AllAccepted (from-puts run before (o .puts-other) (o .allowance-other) later) ok-other in
     let counted : length (lastOne run o) ≡ length (lastOther run o) = length-answers _ later ∙ sym (length-answers _ later) in
-    let alike : acceptedOf (runAnswers (runOne run o)) ≡ acceptedOf (runAnswers (runOther run o)) =
+    let alike : SameAccepted (runOne run o) (runOther run o) =
     ap acceptedOf (parts-one run o)
     ∙ accepted-split (shared run o) (putsOne run o ++ lastOne run o)
     ∙ ap (λ (oks : List Bool). acceptedOf (shared run o) ++ oks) (all-same (putsOne run o ++ lastOne run o) (putsOther run o ++ lastOther run o) (omega (arith, counted)) all all-other)
@@ -557,6 +572,7 @@ put-orders =
       puts-reordered = puts-reordered;
       same-answers = same-answers;
       places = places;
+      sizes = sizes;
       later-alike = later-alike;
       accepted-alike = accepted-alike;
       any-order = any-order;

@@ -3,8 +3,8 @@
 -- The request's words, and the names that say them here:
 --   a run as in demand 3                                a `Run` with any calls (`withCalls`)
 --   two puts to different nodes that follow each other  `TwoPuts`: the calls with them are `oneOrder` and `otherOrder`
---   both accepted in both orders                        `PairAccepted` of one run, with `acceptedOf` the same for both
---   later calls accepted in both runs up to close       `acceptedOf` the same for both, and `runClosed` of one
+--   both accepted in both orders                        `PairAccepted` of one run, and `SameAccepted`
+--   later calls accepted in both runs up to close       `SameAccepted`, and `runClosed` of one run
 --   two files showing the same tree                     `SameTree`
 -- After that the same of any number of puts in any order, what else agrees, and when the other order is accepted at all.
 use mathlib.Core.Path.{_≡_, refl}
@@ -20,6 +20,7 @@ use Rattle.aff_run.specs.BufferSize.{mostAddedBy, acceptedPuts}
 use Rattle.aff_run.specs.CallsAlike.{withoutAllowance, acceptedOf, AllAccepted, answersButStores, madeNumbers, AmplePuts}
 use Rattle.aff_run.specs.Reordered.{PutData, putWith, putsWith, Reordered, Apart, lastLength}
 use Rattle.aff_run.specs.Run.{Call, put, close, Run, withCalls, runAnswers, runState, runTree, runLayout, runClosed}
+use Rattle.aff.specs.DataPlaces.{describedFile}
 
 -- ---- Two puts in both orders.
 
@@ -30,6 +31,7 @@ pub record TwoPuts : Type 0 where
   pub left : PutData
   pub right : PutData
   pub nodes-differ : left .node ≡ right .node → ⊥
+  -- In the one order: the allowances of the two puts, and the calls after them. In the other, the same calls but for their allowances.
   pub left-one : ℕ
   pub right-one : ℕ
   pub later-one : List Call
@@ -43,6 +45,10 @@ oneOrder p = p .before ++ (putWith (p .left) (p .left-one) ∷ putWith (p .right
 
 abbrev pub otherOrder : TwoPuts → List Call
 otherOrder p = p .before ++ (putWith (p .right) (p .right-other) ∷ putWith (p .left) (p .left-other) ∷ p .later-other)
+
+-- The same calls of two runs are accepted.
+abbrev pub SameAccepted : Run → Run → Type 0
+SameAccepted one other = acceptedOf (runAnswers one) ≡ acceptedOf (runAnswers other)
 
 -- The two calls of a run after its first k were accepted.
 pub record PairAccepted (run : Run) (k : ℕ) : Type 0 where
@@ -63,8 +69,7 @@ abbrev pub PutOrder : Type 0
 PutOrder = (run : Run) (p : TwoPuts)
     → let one = withCalls run (oneOrder p) in
     let other = withCalls run (otherOrder p) in
-    acceptedOf (runAnswers one) ≡ acceptedOf (runAnswers other) → PairAccepted one (length (p .before)) → runClosed one ≡ true
-    → SameTree one other
+    SameAccepted one other → PairAccepted one (length (p .before)) → runClosed one ≡ true → SameTree one other
 
 -- The request's own words: the same calls with the same allowances, a close the last of them, and from the two puts on all accepted in both runs.
 abbrev pub PutOrderLiteral : Type 0
@@ -116,7 +121,7 @@ asOrders p =
 
 -- The makes of both runs report the same node numbers, so a caller's numbers stay good. For this neither the puts nor a close need be accepted.
 abbrev pub Numbers : Type 0
-Numbers = (run : Run) (o : TwoOrders) → acceptedOf (runAnswers (runOne run o)) ≡ acceptedOf (runAnswers (runOther run o))
+Numbers = (run : Run) (o : TwoOrders) → SameAccepted (runOne run o) (runOther run o)
     → madeNumbers (runOne run o .calls) (runAnswers (runOne run o)) ≡ madeNumbers (runOther run o .calls) (runAnswers (runOther run o))
 
 -- The puts of a run were accepted. So they are to different nodes.
@@ -124,12 +129,12 @@ abbrev pub PutsAccepted : Run → TwoOrders → Type 0
 PutsAccepted run o = AllAccepted (take (length (o .puts-one)) (drop (length (o .before)) (runAnswers run)))
 
 abbrev pub PutsReordered : Type 0
-PutsReordered = (run : Run) (o : TwoOrders) → acceptedOf (runAnswers (runOne run o)) ≡ acceptedOf (runAnswers (runOther run o)) → PutsAccepted (runOne run o) o
+PutsReordered = (run : Run) (o : TwoOrders) → SameAccepted (runOne run o) (runOther run o) → PutsAccepted (runOne run o) o
     → runClosed (runOne run o) ≡ true → SameTree (runOne run o) (runOther run o)
 
 -- All answers are then the same but for the stores that accepted puts report: the numbers of makes, the stores of closes, and every refusal with its place.
 abbrev pub SameAnswers : Type 0
-SameAnswers = (run : Run) (o : TwoOrders) → acceptedOf (runAnswers (runOne run o)) ≡ acceptedOf (runAnswers (runOther run o)) → PutsAccepted (runOne run o) o
+SameAnswers = (run : Run) (o : TwoOrders) → SameAccepted (runOne run o) (runOther run o) → PutsAccepted (runOne run o) o
     → runClosed (runOne run o) ≡ true
     → answersButStores (runOne run o .calls) (runAnswers (runOne run o)) ≡ answersButStores (runOther run o .calls) (runAnswers (runOther run o))
 
@@ -155,11 +160,15 @@ pub record PlacesInBoth (o : TwoOrders) (one other : Run) : Type 0 where
   -- The data of all other nodes are at the same places.
   pub elsewhere : (n : ℕ) → 0 < n → Apart n (o .puts-one) → getD (runLayout one .offsets) (n - 1) 0 ≡ getD (runLayout other .offsets) (n - 1) 0
 
--- No close is asked. Where there is one, the length of a file is its end of data and what the tree needs (`size` of `FilesDescribed` in DataPlaces.antt), so the two differ in length by
--- as much as the ends do.
+-- For this no close is asked.
 abbrev pub OrderPlaces : Type 0
-OrderPlaces = (run : Run) (o : TwoOrders) → acceptedOf (runAnswers (runOne run o)) ≡ acceptedOf (runAnswers (runOther run o)) → PutsAccepted (runOne run o) o
+OrderPlaces = (run : Run) (o : TwoOrders) → SameAccepted (runOne run o) (runOther run o) → PutsAccepted (runOne run o) o
     → PlacesInBoth o (runOne run o) (runOther run o)
+
+-- Where one is accepted, the files (`describedFile` in DataPlaces.antt) differ in length by as much as the ends of data.
+abbrev pub OrderSizes : Type 0
+OrderSizes = (run : Run) (o : TwoOrders) → SameAccepted (runOne run o) (runOther run o) → PutsAccepted (runOne run o) o → runClosed (runOne run o) ≡ true
+    → length (describedFile (runOne run o)) + runLayout (runOther run o) .end ≡ length (describedFile (runOther run o)) + runLayout (runOne run o) .end
 
 -- ---- What one order accepts, the other accepts.
 
@@ -178,7 +187,7 @@ pub record Ample (run : Run) (o : TwoOrders) : Type 0 where
 
 -- Then the other order accepts what the one accepts. Nothing is assumed of it.
 abbrev pub AcceptedAlike : Type 0
-AcceptedAlike = (run : Run) (o : TwoOrders) → Ample run o → PutsAccepted (runOne run o) o → acceptedOf (runAnswers (runOne run o)) ≡ acceptedOf (runAnswers (runOther run o))
+AcceptedAlike = (run : Run) (o : TwoOrders) → Ample run o → PutsAccepted (runOne run o) o → SameAccepted (runOne run o) (runOther run o)
 
 -- So the data may be delivered in any order: with such a buffer and such allowances the file of every other order opens and shows the same tree.
 abbrev pub AnyOrder : Type 0
@@ -191,6 +200,7 @@ pub record PutOrders : Type 0 where
   pub puts-reordered : PutsReordered
   pub same-answers : SameAnswers
   pub places : OrderPlaces
+  pub sizes : OrderSizes
   pub later-alike : LaterAlike
   pub accepted-alike : AcceptedAlike
   pub any-order : AnyOrder
