@@ -28,7 +28,8 @@ use Rattle.aff_run.proofs.CallsAlikeLaws.{treeBy, layoutBy, closesBy, putsBy, t
 use Rattle.aff_run.proofs.OrdersLaws.{length-answers, length-puts, seam-take, seam-drop, all-alike, all-same, asleep-oks, layoutAll, puts-tree, puts-layout, puts-closed, puts-but, puts-without, numbers-same, puts-most, most-before, end-all, Near, near-reordered, near-later, same-later, ends-meet, ends-stay, oks-reordered}
 use Rattle.aff_run.proofs.ReorderedLaws.{AllFit, putAll, tree-reordered, sum-reordered, length-reordered, endAll, end-reordered, lengths-agree, PutsMade, puts-made}
 use Rattle.aff_run.proofs.StepLaws.{asleep-step, asleep-after}
-use Rattle.aff.specs.PutOrder.{TwoPuts, oneOrder, SameAccepted, PairAccepted, SameTree, PutOrder, PutOrderLiteral, TwoOrders, putsOn, runOne, runOther, asOrders, Numbers, PutsAccepted, PutsReordered, SameAnswers, LengthsAgree, putsAfter, PlacesInBoth, OrderPlaces, OrderSizes, LaterAlike, Ample, AcceptedAlike, AnyOrder, PutOrders}
+use Rattle.aff_run.proofs.TreeByCallsLaws.{MakesFirst, makes-first, tree-by-calls}
+use Rattle.aff.specs.PutOrder.{TwoPuts, oneOrder, SameAccepted, PairAccepted, SameTree, PutOrder, PutOrderLiteral, TwoOrders, putsOn, runOne, runOther, asOrders, Numbers, PutsAccepted, PutsReordered, SameAnswers, LengthsAgree, putsAfter, PlacesInBoth, OrderPlaces, OrderSizes, LaterAlike, Ample, AcceptedAlike, AnyOrder, TreeByCalls, PutOrders}
 use Rattle.aff.proofs.DataPlacesLaws.{buffer-suffices, data-places}
 use Rattle.aff.proofs.Demand3Laws.{demand3}
 
@@ -143,6 +144,18 @@ all-shown run c =
     let k = demand3 run (length (runStores run)) (omega arith) in
     subst (λ (buffer : List ℕ). Shows buffer (run .form) (runTree run)) (k .all-left refl) (k .all-made refl c)
 
+-- Of two closed runs that describe one tree.
+both-show : (one other : Run) → runTree one ≡ runTree other → runClosed one ≡ true → runClosed other ≡ true → SameTree one other
+both-show one other same c d =
+    record {
+      shown = runTree one;
+      one-describes = refl;
+      other-describes = sym same;
+      other-closed = d;
+      one-shows = all-shown one c;
+      other-shows = subst (Shows (runState other .buffer) (other .form)) (sym same) (all-shown other d);
+    }
+
 -- ---- Two runs with the puts in two orders.
 
 module _ (run : Run) (o : TwoOrders) where
@@ -241,16 +254,7 @@ module _ (run : Run) (o : TwoOrders) where
 
     -- Demand 3 of all stores, twice.
     one-tree : runClosed one ≡ true → SameTree one other
-    one-tree c =
-        let d = sym closed-same ∙ c in
-        record {
-          shown = runTree one;
-          one-describes = refl;
-          other-describes = sym describe-same;
-          other-closed = d;
-          one-shows = all-shown one c;
-          other-shows = subst (Shows (runState other .buffer) (other .form)) (sym describe-same) (all-shown other d);
-        }
+    one-tree c = both-show one other describe-same c (sym closed-same ∙ c)
 
     one-answers : runClosed one ≡ true → {n : ℕ} → runBegin run .answer ≡ accepted n
         → answersButStores (one .calls) (runAnswers one) ≡ answersButStores (other .calls) (runAnswers other)
@@ -563,6 +567,19 @@ literal run before calls m n t u b c j k closes differ ok ok-other =
     ∙ or-true (closedBy before (shared run o)) in
     one-tree run o alike (all .0, (all .1 .0, tt)) closed
 
+-- ---- Puts anywhere among the makes.
+
+first-by : (a : Answer ℕ) (run : Run) → runBegin run .answer ≡ a → runClosed run ≡ true → MakesFirst [] (run .calls) (runAnswers run)
+first-by (accepted n) run h c =
+    makes-first (run .calls) (runAnswers run) (editionBy (run .edition)) (length (run .buffer)) false (headerSize (editionBy (run .edition))) [] (run-from-tree run h)
+first-by (refused t) run h c = absurd (true≢false (sym c ∙ none-closed run t h))
+
+by-calls : TreeByCalls
+by-calls one other c d makes puts =
+    both-show one other
+    (tree-by-calls (one .calls) (other .calls) (runAnswers one) (runAnswers other) (first-by (runBegin one .answer) one refl c) (first-by (runBegin other .answer) other refl d) makes puts)
+    c d
+
 pub put-orders : PutOrders
 put-orders =
     record {
@@ -576,4 +593,5 @@ put-orders =
       later-alike = later-alike;
       accepted-alike = accepted-alike;
       any-order = any-order;
+      tree-by-calls = by-calls;
     }

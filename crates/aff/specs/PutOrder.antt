@@ -6,7 +6,7 @@
 --   both accepted in both orders                        `PairAccepted` of one run, and `SameAccepted`
 --   later calls accepted in both runs up to close       `SameAccepted`, and `runClosed` of one run
 --   two files showing the same tree                     `SameTree`
--- After that the same of any number of puts in any order, what else agrees, and when the other order is accepted at all.
+-- After that the same of any number of puts in any order, what else agrees, when the other order is accepted at all, and what of a run the tree depends on.
 use mathlib.Core.Path.{_≡_, refl}
 use mathlib.Core.Bool.{true, false}
 use mathlib.Core.List.{List, [], _∷_, _++_, map}
@@ -18,7 +18,7 @@ use Rattle.aff_format.specs.Tree.{Tree}
 use Rattle.aff_read.specs.Shows.{Shows}
 use Rattle.aff_run.specs.BufferSize.{mostAddedBy, acceptedPuts}
 use Rattle.aff_run.specs.CallsAlike.{withoutAllowance, acceptedOf, AllAccepted, answersButStores, madeNumbers, AmplePuts}
-use Rattle.aff_run.specs.Reordered.{PutData, putWith, putsWith, Reordered, Apart, lastLength}
+use Rattle.aff_run.specs.Reordered.{PutData, putWith, putsWith, Reordered, Apart, lastLength, makesOf, putsOf}
 use Rattle.aff_run.specs.Run.{Call, put, close, Run, withCalls, runAnswers, runState, runTree, runLayout, runClosed}
 use Rattle.aff.specs.DataPlaces.{describedFile}
 
@@ -193,6 +193,14 @@ AcceptedAlike = (run : Run) (o : TwoOrders) → Ample run o → PutsAccepted (ru
 abbrev pub AnyOrder : Type 0
 AnyOrder = (run : Run) (o : TwoOrders) → Ample run o → PutsAccepted (runOne run o) o → runClosed (runOne run o) ≡ true → SameTree (runOne run o) (runOther run o)
 
+-- ---- Puts anywhere among the makes.
+
+-- The tree that a file shows depends on the accepted makes in their order and on the accepted puts in any order. It depends on nothing else of a run: not on where the puts are among the
+-- makes, nor on refused calls, edition, form, buffer, areas and allowances. Each file opens with its own form.
+abbrev pub TreeByCalls : Type 0
+TreeByCalls = (one other : Run) → runClosed one ≡ true → runClosed other ≡ true → makesOf (one .calls) (runAnswers one) ≡ makesOf (other .calls) (runAnswers other)
+    → Reordered (putsOf (one .calls) (runAnswers one)) (putsOf (other .calls) (runAnswers other)) → SameTree one other
+
 pub record PutOrders : Type 0 where
   pub put-order : PutOrder
   pub literal : PutOrderLiteral
@@ -204,3 +212,4 @@ pub record PutOrders : Type 0 where
   pub later-alike : LaterAlike
   pub accepted-alike : AcceptedAlike
   pub any-order : AnyOrder
+  pub tree-by-calls : TreeByCalls

@@ -21,3 +21,4 @@ pub mod CallsAlikeLaws
 pub mod AnswersAlikeLaws
 pub mod ReorderedLaws
 pub mod OrdersLaws
+pub mod TreeByCallsLaws

@@ -57,7 +57,7 @@ size-child end tree parent name =
 pub length-snoc : (tree : Tree) (t : Node) → length (tree ++ (t ∷ [])) ≡ length tree + 1
 length-snoc tree t = length-append tree (t ∷ [])
 
-node-old : (tree : Tree) (t : Node) (k : ℕ) → k ≤ length tree → treeNode (tree ++ (t ∷ [])) k ≡ treeNode tree k
+pub node-old : (tree : Tree) (t : Node) (k : ℕ) → k ≤ length tree → treeNode (tree ++ (t ∷ [])) k ≡ treeNode tree k
 node-old tree t zero h = refl
 node-old tree t (suc k) h = List·getD-append tree (t ∷ []) root k (omega arith)
 

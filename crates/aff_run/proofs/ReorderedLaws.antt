@@ -41,7 +41,7 @@ node-set tree (suc k) x lo hi =
     let e : suc k - 1 ≡ k = omega arith in
     ap (λ (i : ℕ). getD (set tree i x) k root) e ∙ getD-set-same tree k x root (omega arith)
 
-abbrev filled : Node → Kind → List ℕ → Node
+abbrev pub filled : Node → Kind → List ℕ → Node
 filled t kind bytes = record { parent = t .parent; name = t .name; kind = kind; bytes = bytes }
 
 -- Two puts to different nodes change places.
@@ -93,12 +93,12 @@ pub all-after : (tree : Tree) (c : PutData) (ds : List PutData) → 0 < c .node 
 all-after tree c [] lo apart h = tt
 all-after tree c (d ∷ ds) lo apart h = (fits-after tree c d lo (apart .0) (h .0), h .1, all-after tree c ds lo (apart .1) (h .2))
 
-all-before : (tree : Tree) (c : PutData) (ds : List PutData) → 0 < c .node → Apart (c .node) ds → AllFit (withPut tree c) ds → AllFit tree ds
+pub all-before : (tree : Tree) (c : PutData) (ds : List PutData) → 0 < c .node → Apart (c .node) ds → AllFit (withPut tree c) ds → AllFit tree ds
 all-before tree c [] lo apart h = tt
 all-before tree c (d ∷ ds) lo apart h = (fits-before tree c d lo (apart .0) (h .0), h .1, all-before tree c ds lo (apart .1) (h .2))
 
 -- A node with data takes none.
-taken-apart : (tree : Tree) (n : ℕ) (ds : List PutData) → isVoid (treeNode tree n .kind) ≡ false → AllFit tree ds → Apart n ds
+pub taken-apart : (tree : Tree) (n : ℕ) (ds : List PutData) → isVoid (treeNode tree n .kind) ≡ false → AllFit tree ds → Apart n ds
 taken-apart tree n [] h fit = tt
 taken-apart tree n (d ∷ ds) h fit = (
   λ e. true≢false (sym (fit .0 .void) ∙ ap (λ (k : ℕ). isVoid (treeNode tree k .kind)) (sym e) ∙ h),
@@ -216,7 +216,7 @@ lengths-agree end (d ∷ ds) (f ∷ others) r h =
 -- ---- Puts that are accepted in a run.
 
 -- An accepted put found nothing wrong.
-put-fits : (e : Edition) (size end : ℕ) (tree : Tree) (d : PutData) (allowance : ℕ) → Clear (callChecks e size end tree (putWith d allowance)) → Fits tree d
+pub put-fits : (e : Edition) (size end : ℕ) (tree : Tree) (d : PutData) (allowance : ℕ) → Clear (callChecks e size end tree (putWith d allowance)) → Fits tree d
 put-fits e size end tree d allowance clear =
     let o = or-false (eqb (d .node) 0) (not (isVoid (treeNode tree (d .node) .kind))) (clear .1 .0) in
     let z = eqb-false (d .node) 0 (o .0) in
@@ -228,7 +228,7 @@ put-fits e size end tree d allowance clear =
     }
 
 -- Its node then has data.
-now-taken : (tree : Tree) (d : PutData) → Fits tree d → isVoid (treeNode (withPut tree d) (d .node) .kind) ≡ false
+pub now-taken : (tree : Tree) (d : PutData) → Fits tree d → isVoid (treeNode (withPut tree d) (d .node) .kind) ≡ false
 now-taken tree d h =
     ap (λ (t : Node). isVoid (t .kind)) (node-set tree (d .node) (filled (treeNode tree (d .node)) (dataKind (kindOf (d .type))) (d .bytes)) (h .above) (h .there))
     ∙ data-right (kindOf (d .type)) (length (d .bytes)) (h .right) .0

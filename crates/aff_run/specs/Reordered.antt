@@ -1,9 +1,11 @@
--- Puts that follow each other, in any order (request C-23).
+-- The same puts in any order (request C-23).
 use mathlib.Core.Path.{_≡_}
+use mathlib.Core.Bool.{Bool, true, false}
 use mathlib.Core.List.{List, [], _∷_, _++_}
 use Prim.Native.Nat.{ℕ, suc}
 use lib.ListN.{length}
-use Rattle.aff_run.specs.Run.{Call, put}
+use Rattle.aff_format.specs.Answer.{Answer}
+use Rattle.aff_run.specs.Run.{Call, make, put, close, isAccepted}
 
 -- What a put is given besides its allowance.
 pub record PutData : Type 0 where
@@ -34,3 +36,33 @@ abbrev pub lastLength : List PutData → ℕ
 lastLength [] = 0
 lastLength (d ∷ []) = length (d .bytes)
 lastLength (d ∷ f ∷ ds) = lastLength (f ∷ ds)
+
+-- ---- The accepted makes and puts of some calls.
+
+-- What a make is given.
+pub record MakeData : Type 0 where
+  pub parent : ℕ
+  pub name : List ℕ
+
+abbrev pub makeAnd : Call → Bool → List MakeData → List MakeData
+makeAnd call false more = more
+makeAnd (make parent name) true more = record { parent = parent; name = name } ∷ more
+makeAnd (put node type bytes allowance) true more = more
+makeAnd (close allowance) true more = more
+
+abbrev pub putAnd : Call → Bool → List PutData → List PutData
+putAnd call false more = more
+putAnd (make parent name) true more = more
+putAnd (put node type bytes allowance) true more = record { node = node; type = type; bytes = bytes } ∷ more
+putAnd (close allowance) true more = more
+
+-- In their order.
+abbrev pub makesOf : List Call → List (Answer ℕ) → List MakeData
+makesOf [] answers = []
+makesOf (c ∷ cs) [] = []
+makesOf (c ∷ cs) (a ∷ answers) = makeAnd c (isAccepted a) (makesOf cs answers)
+
+abbrev pub putsOf : List Call → List (Answer ℕ) → List PutData
+putsOf [] answers = []
+putsOf (c ∷ cs) [] = []
+putsOf (c ∷ cs) (a ∷ answers) = putAnd c (isAccepted a) (putsOf cs answers)
