@@ -17,7 +17,7 @@ use Rattle.aff_format.proofs.AlignLaws.{next-near}
 use Rattle.aff_read.specs.Shows.{Shows}
 use Rattle.aff_run.specs.AnswersFromTree.{AnswersFromTree, AllWrongRecord}
 use Rattle.aff_run.specs.BufferSize.{mostAddedBy, NoneBy, acceptedPuts}
-use Rattle.aff_run.specs.CallsAlike.{withoutAllowance, acceptedOf, AllAccepted, answersButStores, madeNumbers}
+use Rattle.aff_run.specs.CallsAlike.{withoutAllowance, acceptedOf, AllAccepted, answersButStores, madeNumbers, AmplePuts}
 use Rattle.aff_run.specs.Reordered.{PutData, putWith, putsWith}
 use Rattle.aff_run.specs.Run.{Call, make, put, close, State, Step, step, afterCall, answersOf, stateAfter, isAccepted, treeAfter, DataLayout, noData, layoutAfter, isClose, closedBy, Run, withCalls, runBegin, runStart, runAnswers, runStores, runState, runTree, runLayout, runClosed}
 use Rattle.aff_run.specs.TreeSizes.{sizeOf}
@@ -35,95 +35,122 @@ use Rattle.aff.proofs.Demand3Laws.{demand3}
 
 -- ---- One run with puts that follow each other.
 
-module _ (run : Run) (before : List Call) (ds : List PutData) (allowance : ℕ → ℕ) (later : List Call) where
+-- The calls before the puts, the puts with their allowances, and the calls after them.
+record Parts : Type 0 where
+  before : List Call
+  ds : List PutData
+  allowance : ℕ → ℕ
+  later : List Call
+
+abbrev partsOf : List Call → List PutData → (ℕ → ℕ) → List Call → Parts
+partsOf before ds allowance later = record { before = before; ds = ds; allowance = allowance; later = later }
+
+-- Those of the two orders.
+abbrev oneParts : TwoOrders → Parts
+oneParts o = partsOf (o .before) (o .puts-one) (o .allowance-one) (o .later-one)
+
+abbrev otherParts : TwoOrders → Parts
+otherParts o = partsOf (o .before) (o .puts-other) (o .allowance-other) (o .later-other)
+
+module _ (run : Run) (b : Parts) where
   abbrev it : Run
-  it = withCalls run (before ++ (putsWith ds allowance ++ later))
+  it = withCalls run (b .before ++ (putsWith (b .ds) (b .allowance) ++ b .later))
 
   -- What each part is given, and what it answers.
   abbrev given : State
-  given = stateAfter (runStart run) before
+  given = stateAfter (runStart run) (b .before)
 
   abbrev first : List (Answer ℕ)
-  first = answersOf (runStart run) before
+  first = answersOf (runStart run) (b .before)
 
   abbrev puts : List (Answer ℕ)
-  puts = answersOf given (putsWith ds allowance)
+  puts = answersOf given (putsWith (b .ds) (b .allowance))
 
   abbrev last : List (Answer ℕ)
-  last = answersOf (stateAfter given (putsWith ds allowance)) later
+  last = answersOf (stateAfter given (putsWith (b .ds) (b .allowance))) (b .later)
 
   parts : runAnswers it ≡ first ++ (puts ++ last)
-  parts = answers-split before (runStart run) (putsWith ds allowance ++ later) ∙ ap (λ (xs : List (Answer ℕ)). first ++ xs) (answers-split (putsWith ds allowance) given later)
+  parts = answers-split (b .before) (runStart run) (putsWith (b .ds) (b .allowance) ++ b .later) ∙ ap (λ (xs : List (Answer ℕ)). first ++ xs) (answers-split (putsWith (b .ds) (b .allowance)) given (b .later))
 
-  length-first : length first ≡ length before
-  length-first = length-answers (runStart run) before
+  length-first : length first ≡ length (b .before)
+  length-first = length-answers (runStart run) (b .before)
 
-  count-puts : length puts ≡ length ds
-  count-puts = length-answers given (putsWith ds allowance) ∙ length-puts ds allowance
+  count-puts : length puts ≡ length (b .ds)
+  count-puts = length-answers given (putsWith (b .ds) (b .allowance)) ∙ length-puts (b .ds) (b .allowance)
 
-  from-puts : drop (length before) (runAnswers it) ≡ puts ++ last
+  from-puts : drop (length (b .before)) (runAnswers it) ≡ puts ++ last
   from-puts = ap₂ (λ (k : ℕ) (xs : List (Answer ℕ)). drop k xs) (sym length-first) parts ∙ drop-append-seam first (puts ++ last)
 
-  puts-part : (n : ℕ) → n ≡ length ds → take n (drop (length before) (runAnswers it)) ≡ puts
+  puts-part : (n : ℕ) → n ≡ length (b .ds) → take n (drop (length (b .before)) (runAnswers it)) ≡ puts
   puts-part n e = ap₂ (λ (k : ℕ) (xs : List (Answer ℕ)). take k xs) (e ∙ sym count-puts) from-puts ∙ take-append-seam puts last
 
-  last-part : (n : ℕ) → n ≡ length ds → drop n (drop (length before) (runAnswers it)) ≡ last
+  last-part : (n : ℕ) → n ≡ length (b .ds) → drop n (drop (length (b .before)) (runAnswers it)) ≡ last
   last-part n e = ap₂ (λ (k : ℕ) (xs : List (Answer ℕ)). drop k xs) (e ∙ sym count-puts) from-puts ∙ drop-append-seam puts last
 
   -- Tree and layout before the puts; whether the writer is closed or stopped there.
   abbrev treeBefore : Tree
-  treeBefore = treeAfter [] before first
+  treeBefore = treeAfter [] (b .before) first
 
   abbrev layoutBefore : DataLayout
-  layoutBefore = layoutAfter (noData (headerSize (editionBy (run .edition)))) before first
+  layoutBefore = layoutAfter (noData (headerSize (editionBy (run .edition)))) (b .before) first
 
   abbrev stoppedBefore : Bool
-  stoppedBefore = stoppedAfter false before first
+  stoppedBefore = stoppedAfter false (b .before) first
 
-  closed-is : runClosed it ≡ (closedBy before first || closedBy later last)
+  closed-is : runClosed it ≡ (closedBy (b .before) first || closedBy (b .later) last)
   closed-is =
       ap (closedBy (it .calls)) parts
-      ∙ closed-split before (runStart run) (putsWith ds allowance ++ later) (puts ++ last)
-      ∙ ap (λ (b : Bool). closedBy before first || b) (puts-closed ds allowance puts last later count-puts)
+      ∙ closed-split (b .before) (runStart run) (putsWith (b .ds) (b .allowance) ++ b .later) (puts ++ last)
+      ∙ ap (λ (z : Bool). closedBy (b .before) first || z) (puts-closed (b .ds) (b .allowance) puts last (b .later) count-puts)
 
   module _ (ok : AllAccepted puts) where
-    tree-is : runTree it ≡ treeAfter (putAll treeBefore ds) later last
+    tree-is : runTree it ≡ treeAfter (putAll treeBefore (b .ds)) (b .later) last
     tree-is =
         ap (treeAfter [] (it .calls)) parts
-        ∙ tree-split before (runStart run) [] (putsWith ds allowance ++ later) (puts ++ last)
-        ∙ puts-tree ds allowance puts last later treeBefore count-puts ok
+        ∙ tree-split (b .before) (runStart run) [] (putsWith (b .ds) (b .allowance) ++ b .later) (puts ++ last)
+        ∙ puts-tree (b .ds) (b .allowance) puts last (b .later) treeBefore count-puts ok
 
-    layout-is : runLayout it ≡ layoutAfter (layoutAll layoutBefore ds) later last
+    layout-is : runLayout it ≡ layoutAfter (layoutAll layoutBefore (b .ds)) (b .later) last
     layout-is =
         let none = noData (headerSize (editionBy (run .edition))) in
         ap (layoutAfter none (it .calls)) parts
-        ∙ layout-split before (runStart run) none (putsWith ds allowance ++ later) (puts ++ last)
-        ∙ puts-layout ds allowance puts last later layoutBefore count-puts ok
+        ∙ layout-split (b .before) (runStart run) none (putsWith (b .ds) (b .allowance) ++ b .later) (puts ++ last)
+        ∙ puts-layout (b .ds) (b .allowance) puts last (b .later) layoutBefore count-puts ok
 
-    but-is : answersButStores (it .calls) (runAnswers it) ≡ answersButStores before first ++ (replicate (length ds) (accepted 0) ++ answersButStores later last)
+    but-is : answersButStores (it .calls) (runAnswers it) ≡ answersButStores (b .before) first ++ (replicate (length (b .ds)) (accepted 0) ++ answersButStores (b .later) last)
     but-is =
         ap (answersButStores (it .calls)) parts
-        ∙ but-split before (runStart run) (putsWith ds allowance ++ later) (puts ++ last)
-        ∙ ap (λ (xs : List (Answer ℕ)). answersButStores before first ++ xs) (puts-but ds allowance puts last later count-puts ok)
+        ∙ but-split (b .before) (runStart run) (putsWith (b .ds) (b .allowance) ++ b .later) (puts ++ last)
+        ∙ ap (λ (xs : List (Answer ℕ)). answersButStores (b .before) first ++ xs) (puts-but (b .ds) (b .allowance) puts last (b .later) count-puts ok)
 
   -- ---- After an accepted begin.
 
   module _ {n : ℕ} (h : runBegin run .answer ≡ accepted n) where
-    from-here : AnswersFromTree (editionBy (run .edition)) (length (run .buffer)) stoppedBefore (layoutBefore .end) treeBefore (putsWith ds allowance ++ later) (puts ++ last)
+    from-here : AnswersFromTree (editionBy (run .edition)) (length (run .buffer)) stoppedBefore (layoutBefore .end) treeBefore (putsWith (b .ds) (b .allowance) ++ b .later) (puts ++ last)
     from-here =
-        from-tree-split before (runStart run) (editionBy (run .edition)) (length (run .buffer)) false (noData (headerSize (editionBy (run .edition)))) []
-        (putsWith ds allowance ++ later) (puts ++ last)
+        from-tree-split (b .before) (runStart run) (editionBy (run .edition)) (length (run .buffer)) false (noData (headerSize (editionBy (run .edition)))) []
+        (putsWith (b .ds) (b .allowance) ++ b .later) (puts ++ last)
         (subst (AnswersFromTree (editionBy (run .edition)) (length (run .buffer)) false (headerSize (editionBy (run .edition))) [] (it .calls)) parts (run-from-tree it h))
 
-    made : AllAccepted puts → PutsMade (editionBy (run .edition)) (length (run .buffer)) stoppedBefore (layoutBefore .end) treeBefore ds later last
-    made ok = puts-made ds allowance later puts last count-puts ok (editionBy (run .edition)) (length (run .buffer)) stoppedBefore (layoutBefore .end) treeBefore from-here
+    made : AllAccepted puts → PutsMade (editionBy (run .edition)) (length (run .buffer)) stoppedBefore (layoutBefore .end) treeBefore (b .ds) (b .later) last
+    made ok = puts-made (b .ds) (b .allowance) (b .later) puts last count-puts ok (editionBy (run .edition)) (length (run .buffer)) stoppedBefore (layoutBefore .end) treeBefore from-here
 
     -- Where a close is accepted: the answers after the puts but for the stores of puts.
     last-but : AllAccepted puts → runClosed it ≡ true
-        → answersButStores later last ≡ answersBy (editionBy (run .edition)) stoppedBefore (putAll treeBefore ds) (map withoutAllowance later) (acceptedOf last)
+        → answersButStores (b .later) last ≡ answersBy (editionBy (run .edition)) stoppedBefore (putAll treeBefore (b .ds)) (map withoutAllowance (b .later)) (acceptedOf last)
     last-but ok c =
-        answers-by later last (editionBy (run .edition)) (length (run .buffer)) stoppedBefore (endAll (layoutBefore .end) ds) (putAll treeBefore ds) (made ok .rest)
-        (λ s. rw (none-closed-yet before first false s) at (sym closed-is ∙ c))
+        answers-by (b .later) last (editionBy (run .edition)) (length (run .buffer)) stoppedBefore (endAll (layoutBefore .end) (b .ds)) (putAll treeBefore (b .ds)) (made ok .rest)
+        (λ s. rw (none-closed-yet (b .before) first false s) at (sym closed-is ∙ c))
+
+    -- Where no answer is 21 and the allowances cover the padding: which are accepted.
+    oks-are : NoneBy 21 (puts ++ last) → AmplePuts (putsWith (b .ds) (b .allowance) ++ b .later)
+        → acceptedOf (puts ++ last) ≡ oksBy (editionBy (run .edition)) stoppedBefore treeBefore (putsWith (b .ds) (b .allowance) ++ b .later)
+    oks-are none ample =
+        let count : length (puts ++ last) ≡ length (putsWith (b .ds) (b .allowance) ++ b .later) =
+        length-append puts last
+        ∙ ap₂ (λ (x y : ℕ). x + y) (length-answers given (putsWith (b .ds) (b .allowance))) (length-answers (stateAfter given (putsWith (b .ds) (b .allowance))) (b .later))
+        ∙ sym (length-append (putsWith (b .ds) (b .allowance)) (b .later)) in
+        oks-by (putsWith (b .ds) (b .allowance) ++ b .later) (puts ++ last) count (editionBy (run .edition)) (length (run .buffer)) stoppedBefore (layoutBefore .end) treeBefore from-here none ample
 
 -- ---- The puts fit the tree before them, whatever begin answers.
 
@@ -131,9 +158,9 @@ none-accepted : (s : State) → s .writer .live ≡ false → (c : Call) (cs : L
 none-accepted s h c cs ok = true≢false (sym (ok .0) ∙ ap (λ (t : Step). isAccepted (t .answer)) (asleep-step s h c))
 
 fit-by : (a : Answer ℕ) (run : Run) (before : List Call) (ds : List PutData) (allowance : ℕ → ℕ) (later : List Call) → runBegin run .answer ≡ a
-    → AllAccepted (puts run before ds allowance later) → AllFit (treeBefore run before ds allowance later) ds
+    → AllAccepted (puts run (partsOf before ds allowance later)) → AllFit (treeBefore run (partsOf before ds allowance later)) ds
 fit-by a run before [] allowance later h ok = tt
-fit-by (accepted n) run before (d ∷ ds) allowance later h ok = made run before (d ∷ ds) allowance later h ok .fit
+fit-by (accepted n) run before (d ∷ ds) allowance later h ok = made run (partsOf before (d ∷ ds) allowance later) h ok .fit
 fit-by (refused t) run before (d ∷ ds) allowance later h ok =
     absurd
     (none-accepted (runStart run) (asleep run t h) (putWith d (allowance 0)) (putsWith ds (λ k. allowance (suc k))) (rw (asleep-after (runStart run) (asleep run t h) before) at ok))
@@ -166,48 +193,48 @@ module _ (run : Run) (o : TwoOrders) where
   other = runOther run o
 
   abbrev putsOne : List (Answer ℕ)
-  putsOne = puts run (o .before) (o .puts-one) (o .allowance-one) (o .later-one)
+  putsOne = puts run (oneParts o)
 
   abbrev putsOther : List (Answer ℕ)
-  putsOther = puts run (o .before) (o .puts-other) (o .allowance-other) (o .later-other)
+  putsOther = puts run (otherParts o)
 
   abbrev lastOne : List (Answer ℕ)
-  lastOne = last run (o .before) (o .puts-one) (o .allowance-one) (o .later-one)
+  lastOne = last run (oneParts o)
 
   abbrev lastOther : List (Answer ℕ)
-  lastOther = last run (o .before) (o .puts-other) (o .allowance-other) (o .later-other)
+  lastOther = last run (otherParts o)
 
   -- What both share.
   abbrev shared : List (Answer ℕ)
-  shared = first run (o .before) (o .puts-one) (o .allowance-one) (o .later-one)
+  shared = first run (oneParts o)
 
   abbrev sharedTree : Tree
-  sharedTree = treeBefore run (o .before) (o .puts-one) (o .allowance-one) (o .later-one)
+  sharedTree = treeBefore run (oneParts o)
 
   abbrev sharedLayout : DataLayout
-  sharedLayout = layoutBefore run (o .before) (o .puts-one) (o .allowance-one) (o .later-one)
+  sharedLayout = layoutBefore run (oneParts o)
 
   parts-one : runAnswers one ≡ shared ++ (putsOne ++ lastOne)
-  parts-one = parts run (o .before) (o .puts-one) (o .allowance-one) (o .later-one)
+  parts-one = parts run (oneParts o)
 
   parts-other : runAnswers other ≡ shared ++ (putsOther ++ lastOther)
-  parts-other = parts run (o .before) (o .puts-other) (o .allowance-other) (o .later-other)
+  parts-other = parts run (otherParts o)
 
   same-count : length (o .puts-one) ≡ length (o .puts-other)
   same-count = length-reordered (o .puts-one) (o .puts-other) (o .reordered)
 
   same-puts : length putsOne ≡ length putsOther
   same-puts =
-      count-puts run (o .before) (o .puts-one) (o .allowance-one) (o .later-one)
+      count-puts run (oneParts o)
       ∙ same-count
-      ∙ sym (count-puts run (o .before) (o .puts-other) (o .allowance-other) (o .later-other))
+      ∙ sym (count-puts run (otherParts o))
 
   -- The puts of a run were accepted.
   puts-one : PutsAccepted one o → AllAccepted putsOne
-  puts-one = subst AllAccepted (puts-part run (o .before) (o .puts-one) (o .allowance-one) (o .later-one) (length (o .puts-one)) refl)
+  puts-one = subst AllAccepted (puts-part run (oneParts o) (length (o .puts-one)) refl)
 
   puts-other : PutsAccepted other o → AllAccepted putsOther
-  puts-other = subst AllAccepted (puts-part run (o .before) (o .puts-other) (o .allowance-other) (o .later-other) (length (o .puts-one)) same-count)
+  puts-other = subst AllAccepted (puts-part run (otherParts o) (length (o .puts-one)) same-count)
 
   fit : AllAccepted putsOne → AllFit sharedTree (o .puts-one)
   fit = fit-by (runBegin run .answer) run (o .before) (o .puts-one) (o .allowance-one) (o .later-one) refl
@@ -237,18 +264,18 @@ module _ (run : Run) (o : TwoOrders) where
 
     describe-same : runTree one ≡ runTree other
     describe-same =
-        tree-is run (o .before) (o .puts-one) (o .allowance-one) (o .later-one) ok
+        tree-is run (oneParts o) ok
         ∙ tree-by (putAll sharedTree (o .puts-one)) (o .later-one) lastOne
         ∙ (λ i. treeBy (same-tree ok i) (o .later-same i) (alike-last i))
         ∙ sym (tree-by (putAll sharedTree (o .puts-other)) (o .later-other) lastOther)
-        ∙ sym (tree-is run (o .before) (o .puts-other) (o .allowance-other) (o .later-other) ok-other)
+        ∙ sym (tree-is run (otherParts o) ok-other)
 
     closed-same : runClosed one ≡ runClosed other
     closed-same =
-        closed-is run (o .before) (o .puts-one) (o .allowance-one) (o .later-one)
+        closed-is run (oneParts o)
         ∙ ap (λ (b : Bool). closedBy (o .before) shared || b)
         (closed-by (o .later-one) lastOne ∙ (λ i. closesBy (o .later-same i) (alike-last i)) ∙ sym (closed-by (o .later-other) lastOther))
-        ∙ sym (closed-is run (o .before) (o .puts-other) (o .allowance-other) (o .later-other))
+        ∙ sym (closed-is run (otherParts o))
 
     -- ---- A close is accepted.
 
@@ -260,14 +287,14 @@ module _ (run : Run) (o : TwoOrders) where
         → answersButStores (one .calls) (runAnswers one) ≡ answersButStores (other .calls) (runAnswers other)
     one-answers c h =
         let e = editionBy (run .edition) in
-        let asleep = stoppedBefore run (o .before) (o .puts-one) (o .allowance-one) (o .later-one) in
+        let asleep = stoppedBefore run (oneParts o) in
         let same : answersButStores (o .later-one) lastOne ≡ answersButStores (o .later-other) lastOther =
-        last-but run (o .before) (o .puts-one) (o .allowance-one) (o .later-one) h ok c
+        last-but run (oneParts o) h ok c
         ∙ (λ i. answersBy e asleep (same-tree ok i) (o .later-same i) (alike-last i))
-        ∙ sym (last-but run (o .before) (o .puts-other) (o .allowance-other) (o .later-other) h ok-other (sym closed-same ∙ c)) in
-        but-is run (o .before) (o .puts-one) (o .allowance-one) (o .later-one) ok
+        ∙ sym (last-but run (otherParts o) h ok-other (sym closed-same ∙ c)) in
+        but-is run (oneParts o) ok
         ∙ (λ i. answersButStores (o .before) shared ++ (replicate (same-count i) (accepted 0) ++ same i))
-        ∙ sym (but-is run (o .before) (o .puts-other) (o .allowance-other) (o .later-other) ok-other)
+        ∙ sym (but-is run (otherParts o) ok-other)
 
     -- ---- Where the data are.
 
@@ -282,11 +309,11 @@ module _ (run : Run) (o : TwoOrders) where
     going l = layoutBy l (map withoutAllowance (o .later-one)) (acceptedOf lastOne)
 
     layout-one : runLayout one ≡ going oneLayout
-    layout-one = layout-is run (o .before) (o .puts-one) (o .allowance-one) (o .later-one) ok ∙ layout-by oneLayout (o .later-one) lastOne
+    layout-one = layout-is run (oneParts o) ok ∙ layout-by oneLayout (o .later-one) lastOne
 
     layout-other : runLayout other ≡ going otherLayout
     layout-other =
-        layout-is run (o .before) (o .puts-other) (o .allowance-other) (o .later-other) ok-other
+        layout-is run (otherParts o) ok-other
         ∙ layout-by otherLayout (o .later-other) lastOther
         ∙ sym (λ i. layoutBy otherLayout (o .later-same i) (alike-last i))
 
@@ -295,7 +322,7 @@ module _ (run : Run) (o : TwoOrders) where
 
     puts-later : putsAfter one o ≡ putsBy (map withoutAllowance (o .later-one)) (acceptedOf lastOne)
     puts-later =
-        ap (acceptedPuts (o .later-one)) (last-part run (o .before) (o .puts-one) (o .allowance-one) (o .later-one) (length (o .puts-one)) refl)
+        ap (acceptedPuts (o .later-one)) (last-part run (oneParts o) (length (o .puts-one)) refl)
         ∙ puts-by (o .later-one) lastOne
 
     -- What holds of the ends in `going` holds of those of the runs.
@@ -341,14 +368,14 @@ module _ (run : Run) (o : TwoOrders) where
   last-by (accepted n) h ok ok-other agree same =
       let e = editionBy (run .edition) in
       let size = length (run .buffer) in
-      let asleep = stoppedBefore run (o .before) (o .puts-one) (o .allowance-one) (o .later-one) in
+      let asleep = stoppedBefore run (oneParts o) in
       let count : (s : State) (cs : List Call) → length (answersOf s cs) ≡ length cs = length-answers in
       answers-expected (o .later-one) e size asleep (endAll (sharedLayout .end) (o .puts-one)) (putAll sharedTree (o .puts-one)) lastOne (count _ (o .later-one))
-      (made run (o .before) (o .puts-one) (o .allowance-one) (o .later-one) h ok .rest)
+      (made run (oneParts o) h ok .rest)
       ∙ (λ i. expected e size asleep (end-reordered (sharedLayout .end) (o .puts-one) (o .puts-other) (o .reordered) agree i) (same-tree ok i) (same i))
       ∙ sym
       (answers-expected (o .later-other) e size asleep (endAll (sharedLayout .end) (o .puts-other)) (putAll sharedTree (o .puts-other)) lastOther (count _ (o .later-other))
-      (made run (o .before) (o .puts-other) (o .allowance-other) (o .later-other) h ok-other .rest))
+      (made run (otherParts o) h ok-other .rest))
   last-by (refused t) h ok ok-other agree same =
       let z = asleep run t h in
       let still : (cs : List Call) → stateAfter (stateAfter (runStart run) (o .before)) cs ≡ runStart run =
@@ -389,21 +416,12 @@ module _ (run : Run) (o : TwoOrders) where
     oks-by-begin : (a : Answer ℕ) → runBegin run .answer ≡ a → AllAccepted putsOne → SameAccepted one other
     oks-by-begin (accepted n) h ok =
         let e = editionBy (run .edition) in
-        let size = length (run .buffer) in
-        let asleep = stoppedBefore run (o .before) (o .puts-one) (o .allowance-one) (o .later-one) in
-        let length-both : (ds : List PutData) (f : ℕ → ℕ) (later : List Call) → length (puts run (o .before) ds f later ++ last run (o .before) ds f later) ≡ length (putsWith ds f ++ later) =
-        λ ds f later.
-        length-append (puts run (o .before) ds f later) (last run (o .before) ds f later)
-        ∙ ap₂ (λ (x y : ℕ). x + y) (length-answers _ (putsWith ds f)) (length-answers _ later)
-        ∙ sym (length-append (putsWith ds f) later) in
+        let asleep = stoppedBefore run (oneParts o) in
         let after : acceptedOf (putsOne ++ lastOne) ≡ acceptedOf (putsOther ++ lastOther) =
-        oks-by (putsWith (o .puts-one) (o .allowance-one) ++ o .later-one) (putsOne ++ lastOne) (length-both (o .puts-one) (o .allowance-one) (o .later-one)) e size asleep (sharedLayout .end) sharedTree
-        (from-here run (o .before) (o .puts-one) (o .allowance-one) (o .later-one) h) none-one (ample .allowances-one)
+        oks-are run (oneParts o) h none-one (ample .allowances-one)
         ∙ oks-reordered e asleep sharedTree (o .puts-one) (o .puts-other) (o .allowance-one) (o .allowance-other) (o .later-one) (o .reordered) (fit ok)
         ∙ ap (λ (later : List Call). oksBy e asleep sharedTree (putsWith (o .puts-other) (o .allowance-other) ++ later)) (ample .later)
-        ∙ sym
-        (oks-by (putsWith (o .puts-other) (o .allowance-other) ++ o .later-other) (putsOther ++ lastOther) (length-both (o .puts-other) (o .allowance-other) (o .later-other)) e size asleep (sharedLayout .end) sharedTree
-        (from-here run (o .before) (o .puts-other) (o .allowance-other) (o .later-other) h) none-other (ample .allowances-other)) in
+        ∙ sym (oks-are run (otherParts o) h none-other (ample .allowances-other)) in
         ap acceptedOf parts-one
         ∙ accepted-split shared (putsOne ++ lastOne)
         ∙ ap (λ (oks : List Bool). acceptedOf shared ++ oks) after
@@ -482,9 +500,9 @@ sizes run o alike ok c =
 
 later-alike : LaterAlike
 later-alike run o ok ok-other agree same =
-    last-part run (o .before) (o .puts-one) (o .allowance-one) (o .later-one) (length (o .puts-one)) refl
+    last-part run (oneParts o) (length (o .puts-one)) refl
     ∙ last-by run o (runBegin run .answer) refl (puts-one run o ok) (puts-other run o ok-other) agree same
-    ∙ sym (last-part run (o .before) (o .puts-other) (o .allowance-other) (o .later-other) (length (o .puts-one)) (same-count run o))
+    ∙ sym (last-part run (otherParts o) (length (o .puts-one)) (same-count run o))
 
 accepted-alike : AcceptedAlike
 accepted-alike run o ample ok = oks-by-begin run o ample (runBegin run .answer) refl (puts-one run o ok)
@@ -552,8 +570,8 @@ literal run before calls m n t u b c j k closes differ ok ok-other =
       later-same = refl;
     } in
     let o = asOrders p in
-    let all : AllAccepted (putsOne run o ++ lastOne run o) = subst AllAccepted (from-puts run before (o .puts-one) (o .allowance-one) later) ok in
-    let all-other : AllAccepted (putsOther run o ++ lastOther run o) = subst AllAccepted (from-puts run before (o .puts-other) (o .allowance-other) later) ok-other in
+    let all : AllAccepted (putsOne run o ++ lastOne run o) = subst AllAccepted (from-puts run (oneParts o)) ok in
+    let all-other : AllAccepted (putsOther run o ++ lastOther run o) = subst AllAccepted (from-puts run (otherParts o)) ok-other in
     let counted : length (lastOne run o) ≡ length (lastOther run o) = length-answers _ later ∙ sym (length-answers _ later) in
     let alike : SameAccepted (runOne run o) (runOther run o) =
     ap acceptedOf (parts-one run o)
@@ -562,7 +580,7 @@ literal run before calls m n t u b c j k closes differ ok ok-other =
     ∙ sym (accepted-split (shared run o) (putsOther run o ++ lastOther run o))
     ∙ ap acceptedOf (sym (parts-other run o)) in
     let closed : runClosed (runOne run o) ≡ true =
-    closed-is run before (o .puts-one) (o .allowance-one) later
+    closed-is run (oneParts o)
     ∙ ap (λ (z : Bool). closedBy before (shared run o) || z) (close-last calls closes _ (all .1 .1))
     ∙ or-true (closedBy before (shared run o)) in
     one-tree run o alike (all .0, (all .1 .0, tt)) closed
