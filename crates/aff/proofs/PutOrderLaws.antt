@@ -26,10 +26,10 @@ use Rattle.aff_run.proofs.AnswersFromTreeLaws.{run-from-tree, run-spent, run-re
 use Rattle.aff_run.proofs.BeginRefusedLaws.{asleep, none-closed}
 use Rattle.aff_run.proofs.CallsAlikeLaws.{treeBy, layoutBy, closesBy, putsBy, tree-by, layout-by, closed-by, puts-by, answers-split, accepted-split, tree-split, layout-split, closed-split, but-split, none-split, stoppedAfter, from-tree-split, none-closed-yet}
 use Rattle.aff_run.proofs.OrdersLaws.{length-answers, length-puts, seam-take, seam-drop, all-alike, all-same, asleep-oks, layoutAll, puts-tree, puts-layout, puts-closed, puts-but, puts-without, numbers-same, puts-most, most-before, end-all, Near, near-reordered, near-later, same-later, ends-meet, ends-stay, oks-reordered}
-use Rattle.aff_run.proofs.ReorderedLaws.{AllFit, putAll, tree-reordered, sum-reordered, length-reordered, endAll, end-reordered, lengths-agree, PutsMade, puts-made}
+use Rattle.aff_run.proofs.ReorderedLaws.{AllFit, putAll, tree-reordered, sum-reordered, length-reordered, endAll, end-reordered, lengths-agree, PutsMade, puts-made, eights-agree}
 use Rattle.aff_run.proofs.StepLaws.{asleep-step, asleep-after}
-use Rattle.aff_run.proofs.TreeByCallsLaws.{MakesFirst, makes-first, tree-by-calls}
-use Rattle.aff.specs.PutOrder.{TwoPuts, oneOrder, SameAccepted, PairAccepted, SameTree, PutOrder, PutOrderLiteral, TwoOrders, putsOn, runOne, runOther, asOrders, Numbers, PutsAccepted, PutsReordered, SameAnswers, LengthsAgree, putsAfter, PlacesInBoth, OrderPlaces, OrderSizes, LaterAlike, Ample, AcceptedAlike, AnyOrder, TreeByCalls, PutOrders}
+use Rattle.aff_run.proofs.TreeByCallsLaws.{MakesFirst, makes-first, asleep-first, tree-from, tree-by-calls}
+use Rattle.aff.specs.PutOrder.{TwoPuts, oneOrder, SameAccepted, PairAccepted, SameTree, PutOrder, PutOrderLiteral, TwoOrders, putsOn, runOne, runOther, asOrders, Numbers, PutsAccepted, PutsReordered, SameAnswers, LengthsAgree, EightsAgree, putsAfter, PlacesInBoth, OrderPlaces, OrderSizes, LaterAlike, Ample, AcceptedAlike, AnyOrder, TreeOfCalls, TreeByCalls, PutOrders}
 use Rattle.aff.proofs.DataPlacesLaws.{buffer-suffices, data-places}
 use Rattle.aff.proofs.Demand3Laws.{demand3}
 
@@ -178,6 +178,7 @@ both-show one other same c d =
       shown = runTree one;
       one-describes = refl;
       other-describes = sym same;
+      one-closed = c;
       other-closed = d;
       one-shows = all-shown one c;
       other-shows = subst (Shows (runState other .buffer) (other .form)) (sym same) (all-shown other d);
@@ -340,6 +341,7 @@ module _ (run : Run) (o : TwoOrders) where
         let next : aligned (runLayout one .end) ≡ aligned (runLayout other .end) =
         ap (λ (l : DataLayout). aligned (l .end)) layout-one ∙ after .next ∙ sym (ap (λ (l : DataLayout). aligned (l .end)) layout-other) in
         record {
+          tree-same = describe-same;
           next-same = next;
           one-near = next-near (runLayout one .end) (runLayout other .end) next;
           other-near = next-near (runLayout other .end) (runLayout one .end) (sym next);
@@ -481,6 +483,9 @@ answers-by-begin (refused t) run o h alike ok c = absurd (true≢false (sym c �
 same-answers : SameAnswers
 same-answers run o alike ok c = answers-by-begin (runBegin run .answer) run o refl alike ok c
 
+eights : EightsAgree
+eights run o ok h = eights-agree (sharedTree run o) (o .puts-one) (o .puts-other) (o .reordered) (fit run o (puts-one run o ok)) h
+
 places : OrderPlaces
 places run o alike ok = placed run o alike (puts-one run o ok)
 
@@ -587,16 +592,20 @@ literal run before calls m n t u b c j k closes differ ok ok-other =
 
 -- ---- Puts anywhere among the makes.
 
-first-by : (a : Answer ℕ) (run : Run) → runBegin run .answer ≡ a → runClosed run ≡ true → MakesFirst [] (run .calls) (runAnswers run)
-first-by (accepted n) run h c =
+first-by : (a : Answer ℕ) (run : Run) → runBegin run .answer ≡ a → MakesFirst [] (run .calls) (runAnswers run)
+first-by (accepted n) run h =
     makes-first (run .calls) (runAnswers run) (editionBy (run .edition)) (length (run .buffer)) false (headerSize (editionBy (run .edition))) [] (run-from-tree run h)
-first-by (refused t) run h c = absurd (true≢false (sym c ∙ none-closed run t h))
+first-by (refused t) run h = asleep-first (runStart run) (asleep run t h) [] (run .calls)
+
+first-in : (run : Run) → MakesFirst [] (run .calls) (runAnswers run)
+first-in run = first-by (runBegin run .answer) run refl
+
+of-calls : TreeOfCalls
+of-calls run = tree-from (run .calls) (runAnswers run) (first-in run)
 
 by-calls : TreeByCalls
 by-calls one other c d makes puts =
-    both-show one other
-    (tree-by-calls (one .calls) (other .calls) (runAnswers one) (runAnswers other) (first-by (runBegin one .answer) one refl c) (first-by (runBegin other .answer) other refl d) makes puts)
-    c d
+    both-show one other (tree-by-calls (one .calls) (other .calls) (runAnswers one) (runAnswers other) (first-in one) (first-in other) makes puts) c d
 
 pub put-orders : PutOrders
 put-orders =
@@ -606,10 +615,12 @@ put-orders =
       numbers = numbers;
       puts-reordered = puts-reordered;
       same-answers = same-answers;
+      eights-agree = eights;
       places = places;
       sizes = sizes;
       later-alike = later-alike;
       accepted-alike = accepted-alike;
       any-order = any-order;
+      tree-of-calls = of-calls;
       tree-by-calls = by-calls;
     }

@@ -177,6 +177,8 @@ module _ (e : Edition) (w : isWritten e ≡ true) (buffer text tree : List ℕ) 
           number-stores = stores-are numberRun (begin-accepted e w buffer text tree begins (numberFirst letters number closes) x t b (omega arith) (omega arith)) number-answers;
           letters-places = ap (λ (l : DataLayout). l .offsets) letters-layout;
           number-places = ap (λ (l : DataLayout). l .offsets) number-layout;
+          letters-end = ap (λ (l : DataLayout). l .end) letters-layout;
+          number-end = ap (λ (l : DataLayout). l .end) number-layout;
           letters-size =
               data-places .files-described lettersRun letters-closed .size ∙ (λ i. sizeOf (letters-layout i .end) (letters-tree i)) ∙ both-size 184;
           number-size = data-places .files-described numberRun number-closed .size ∙ (λ i. sizeOf (number-layout i .end) (number-tree i)) ∙ both-size 179;

@@ -4,8 +4,10 @@
 --   a run as in demand 3                                a `Run` with any calls (`withCalls`)
 --   two puts to different nodes that follow each other  `TwoPuts`: the calls with them are `oneOrder` and `otherOrder`
 --   both accepted in both orders                        `PairAccepted` of one run, and `SameAccepted`
---   later calls accepted in both runs up to close       `SameAccepted`, and `runClosed` of one run
---   two files showing the same tree                     `SameTree`
+--   any later sequence of calls                         `later-one`, and the same but for its allowances in the other order, `later-other`
+--   accepted in both runs up to close                   `SameAccepted`, and `runClosed` of one run
+--   two files showing the same tree, node for node and  `SameTree`: both buffers show one tree, by the `Shows` of demand 3
+--   data byte for data byte
 -- After that the same of any number of puts in any order, what else agrees, when the other order is accepted at all, and what of a run the tree depends on.
 use mathlib.Core.Path.{_≡_, refl}
 use mathlib.Core.Bool.{true, false}
@@ -18,7 +20,7 @@ use Rattle.aff_format.specs.Tree.{Tree}
 use Rattle.aff_read.specs.Shows.{Shows}
 use Rattle.aff_run.specs.BufferSize.{mostAddedBy, acceptedPuts}
 use Rattle.aff_run.specs.CallsAlike.{withoutAllowance, acceptedOf, AllAccepted, answersButStores, madeNumbers, AmplePuts}
-use Rattle.aff_run.specs.Reordered.{PutData, putWith, putsWith, Reordered, Apart, lastLength, makesOf, putsOf}
+use Rattle.aff_run.specs.Reordered.{PutData, putWith, putsWith, Reordered, Apart, lastLength, Eights, makesOf, putsOf, TreeFrom}
 use Rattle.aff_run.specs.Run.{Call, put, close, Run, withCalls, runAnswers, runState, runTree, runLayout, runClosed}
 use Rattle.aff.specs.DataPlaces.{describedFile}
 
@@ -61,6 +63,7 @@ pub record SameTree (one other : Run) : Type 0 where
   pub shown : Tree
   pub one-describes : runTree one ≡ shown
   pub other-describes : runTree other ≡ shown
+  pub one-closed : runClosed one ≡ true
   pub other-closed : runClosed other ≡ true
   pub one-shows : Shows (runState one .buffer) (one .form) shown
   pub other-shows : Shows (runState other .buffer) (other .form) shown
@@ -124,7 +127,7 @@ abbrev pub Numbers : Type 0
 Numbers = (run : Run) (o : TwoOrders) → SameAccepted (runOne run o) (runOther run o)
     → madeNumbers (runOne run o .calls) (runAnswers (runOne run o)) ≡ madeNumbers (runOther run o .calls) (runAnswers (runOther run o))
 
--- The puts of a run were accepted. So they are to different nodes.
+-- The puts of a run were accepted. (So they are to different nodes, by 18.)
 abbrev pub PutsAccepted : Run → TwoOrders → Type 0
 PutsAccepted run o = AllAccepted (take (length (o .puts-one)) (drop (length (o .before)) (runAnswers run)))
 
@@ -140,15 +143,21 @@ SameAnswers = (run : Run) (o : TwoOrders) → SameAccepted (runOne run o) (runOt
 
 -- ---- Where the data are.
 
--- The last put of the one order and that of the other agree in length modulo 8: so do Doubles and Complex numbers, in any number. Of two puts these are the two.
+-- The last put of the one order and that of the other agree in length modulo 8. Of two puts these are the two.
 abbrev pub LengthsAgree : TwoOrders → Type 0
 LengthsAgree o = lastLength (o .puts-one) % 8 ≡ lastLength (o .puts-other) % 8
+
+-- So do accepted puts of Doubles and Complex numbers, in any number.
+abbrev pub EightsAgree : Type 0
+EightsAgree = (run : Run) (o : TwoOrders) → PutsAccepted (runOne run o) o → Eights (o .puts-one) → LengthsAgree o
 
 -- How many puts after them were accepted.
 abbrev pub putsAfter : Run → TwoOrders → ℕ
 putsAfter run o = acceptedPuts (o .later-one) (drop (length (o .puts-one)) (drop (length (o .before)) (runAnswers run)))
 
 pub record PlacesInBoth (o : TwoOrders) (one other : Run) : Type 0 where
+  -- Both describe one tree.
+  pub tree-same : runTree one ≡ runTree other
   -- The next multiple of 8 after the data is the same in both. So the ends of data differ by at most 7, and the next put begins at the same place.
   pub next-same : aligned (runLayout one .end) ≡ aligned (runLayout other .end)
   pub one-near : runLayout one .end ≤ runLayout other .end + 7
@@ -177,15 +186,15 @@ abbrev pub LaterAlike : Type 0
 LaterAlike = (run : Run) (o : TwoOrders) → PutsAccepted (runOne run o) o → PutsAccepted (runOther run o) o → LengthsAgree o → o .later-one ≡ o .later-other
     → drop (length (o .puts-one)) (drop (length (o .before)) (runAnswers (runOne run o))) ≡ drop (length (o .puts-one)) (drop (length (o .before)) (runAnswers (runOther run o)))
 
--- Buffer and allowances that suffice for every order: the buffer holds the most that the calls add (`BufferSuffices` in DataPlaces.antt); each put from these on has an allowance for its
--- bytes and 7 more; the later calls are the same with the same allowances.
+-- Buffer and allowances that suffice for both orders: the buffer holds the header and the most that the calls add (`BufferSuffices` in DataPlaces.antt); each put from these on has, in both
+-- orders, an allowance for its bytes and 7 more; the later calls are the same with the same allowances.
 pub record Ample (run : Run) (o : TwoOrders) : Type 0 where
   pub buffer : headerSize (editionBy (run .edition)) + mostAddedBy (runOne run o .calls) ≤ length (run .buffer)
   pub allowances-one : AmplePuts (putsOn (o .puts-one) (o .allowance-one) (o .later-one))
   pub allowances-other : AmplePuts (putsOn (o .puts-other) (o .allowance-other) (o .later-other))
   pub later : o .later-one ≡ o .later-other
 
--- Then the other order accepts what the one accepts. Nothing is assumed of it.
+-- Where the puts are then accepted in the one order, the same calls are accepted in both. Nothing is assumed of the answers of the other.
 abbrev pub AcceptedAlike : Type 0
 AcceptedAlike = (run : Run) (o : TwoOrders) → Ample run o → PutsAccepted (runOne run o) o → SameAccepted (runOne run o) (runOther run o)
 
@@ -195,7 +204,11 @@ AnyOrder = (run : Run) (o : TwoOrders) → Ample run o → PutsAccepted (runOne 
 
 -- ---- Puts anywhere among the makes.
 
--- The tree that a file shows depends on the accepted makes in their order and on the accepted puts in any order. It depends on nothing else of a run: not on where the puts are among the
+-- The tree that a run describes, node by node: node k has the parent and the name of accepted make k, and the type and the bytes of the accepted put to it; a node with no such put is Void.
+abbrev pub TreeOfCalls : Type 0
+TreeOfCalls = (run : Run) → TreeFrom (makesOf (run .calls) (runAnswers run)) (putsOf (run .calls) (runAnswers run)) (runTree run)
+
+-- So the tree that a file shows depends on the accepted makes in their order and on the accepted puts in any order. It depends on nothing else of a run: not on where the puts are among the
 -- makes, nor on refused calls, edition, form, buffer, areas and allowances. Each file opens with its own form.
 abbrev pub TreeByCalls : Type 0
 TreeByCalls = (one other : Run) → runClosed one ≡ true → runClosed other ≡ true → makesOf (one .calls) (runAnswers one) ≡ makesOf (other .calls) (runAnswers other)
@@ -207,9 +220,11 @@ pub record PutOrders : Type 0 where
   pub numbers : Numbers
   pub puts-reordered : PutsReordered
   pub same-answers : SameAnswers
+  pub eights-agree : EightsAgree
   pub places : OrderPlaces
   pub sizes : OrderSizes
   pub later-alike : LaterAlike
   pub accepted-alike : AcceptedAlike
   pub any-order : AnyOrder
+  pub tree-of-calls : TreeOfCalls
   pub tree-by-calls : TreeByCalls

@@ -63,6 +63,8 @@ pub record BothOrders (letters number : Run) : Type 0 where
   -- The data of `a` and `b` are at 168 and 176, and at 176 and 168. They end at 184 and at 179, so the files have 238 and 233 bytes.
   pub letters-places : runLayout letters .offsets ≡ 168 ∷ 176 ∷ []
   pub number-places : runLayout number .offsets ≡ 176 ∷ 168 ∷ []
+  pub letters-end : runLayout letters .end ≡ 184
+  pub number-end : runLayout number .end ≡ 179
   pub letters-size : length (describedFile letters) ≡ 238
   pub number-size : length (describedFile number) ≡ 233
   -- The buffers differ, and show one tree.
@@ -70,7 +72,7 @@ pub record BothOrders (letters number : Run) : Type 0 where
   pub same-tree : SameTree letters number
   pub nodes : same-tree .shown ≡ bothTree
 
--- In every edition that is written and every buffer of 238 bytes, with areas of their lengths and any content, and any allowances that suffice.
+-- In every edition that is written and every buffer of 238 bytes, with areas of their lengths and any content, and any allowances that suffice in both orders.
 abbrev pub OrdersIn238 : Type 0
 OrdersIn238 = (e : Edition) → isWritten e ≡ true → (buffer text tree : List ℕ) (begins letters number closes : ℕ) → length buffer ≡ 238 → length text ≡ textArea → length tree ≡ treeArea
     → 1 ≤ begins → 3 ≤ letters → 13 ≤ number → 222 ≤ closes

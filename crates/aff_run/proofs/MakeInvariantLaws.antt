@@ -61,7 +61,7 @@ pub node-old : (tree : Tree) (t : Node) (k : ℕ) → k ≤ length tree → tree
 node-old tree t zero h = refl
 node-old tree t (suc k) h = List·getD-append tree (t ∷ []) root k (omega arith)
 
-node-new : (tree : Tree) (t : Node) → treeNode (tree ++ (t ∷ [])) (suc (length tree)) ≡ t
+pub node-new : (tree : Tree) (t : Node) → treeNode (tree ++ (t ∷ [])) (suc (length tree)) ≡ t
 node-new tree t = getD-append-seam tree t [] root
 
 -- The counts with one name more.

@@ -11,10 +11,11 @@ use lib.Seq.{set-comm, getD-set-same, getD-set-other}
 use borrow.Author.Tests.{eqb-false, ltb-false, not-false}
 use Rattle.aff_format.specs.Align.{padding, aligned}
 use Rattle.aff_format.specs.Answer.{Answer, accepted, refused, refusal, Clear}
-use Rattle.aff_format.specs.Kind.{kindOf, isVoid}
+use Rattle.aff_format.specs.Kind.{kindOf, elementSize, isVoid}
 use Rattle.aff_format.specs.Tree.{Node, Tree, root, treeNode}
 use Rattle.aff_format.specs.declared.edition.Edition.{Edition}
 use Rattle.aff_format.specs.declared.kind.Kind.{Kind}
+use Rattle.aff_format.specs.declared.kind.Kind.the-variants.{Void, Char, Int, Double, Complex}
 use Rattle.aff_format.proofs.AlignLaws.{aligned-multiple, padding-shift, aligned-shift, padding-agrees, agrees-padding}
 use Rattle.aff_format.proofs.AnswerLaws.{not-both, passed}
 use Rattle.aff_format.proofs.TestLaws.{or-false}
@@ -22,7 +23,7 @@ use Rattle.aff_write.specs.Put.{wrongData, dataKind}
 use Rattle.aff_run.specs.TreeSizes.{withData}
 use Rattle.aff_run.specs.AnswersFromTree.{callChecks, callValue, callAnswer, stops, AnswersFromTree}
 use Rattle.aff_run.specs.CallsAlike.{AllAccepted}
-use Rattle.aff_run.specs.Reordered.{PutData, putWith, putsWith, Reordered, Apart, lastLength}
+use Rattle.aff_run.specs.Reordered.{PutData, putWith, putsWith, Reordered, Apart, lastLength, Eights}
 use Rattle.aff_run.specs.Run.{Call, isAccepted, applyCall, callEnd}
 use Rattle.aff_run.proofs.PutInvariantLaws.{data-right}
 
@@ -31,11 +32,11 @@ use Rattle.aff_run.proofs.PutInvariantLaws.{data-right}
 abbrev pub withPut : Tree → PutData → Tree
 withPut tree d = withData tree (d .node) (dataKind (kindOf (d .type))) (d .bytes)
 
-node-other : (tree : Tree) (m n : ℕ) (x : Node) → 0 < m → (m ≡ n → ⊥) → treeNode (set tree (m - 1) x) n ≡ treeNode tree n
+pub node-other : (tree : Tree) (m n : ℕ) (x : Node) → 0 < m → (m ≡ n → ⊥) → treeNode (set tree (m - 1) x) n ≡ treeNode tree n
 node-other tree m zero x lo f = refl
 node-other tree m (suc k) x lo f = getD-set-other tree (m - 1) k x root (λ e. f (omega (arith, e)))
 
-node-set : (tree : Tree) (m : ℕ) (x : Node) → 0 < m → m ≤ length tree → treeNode (set tree (m - 1) x) m ≡ x
+pub node-set : (tree : Tree) (m : ℕ) (x : Node) → 0 < m → m ≤ length tree → treeNode (set tree (m - 1) x) m ≡ x
 node-set tree zero x lo hi = absurd (omega arith)
 node-set tree (suc k) x lo hi =
     let e : suc k - 1 ≡ k = omega arith in
@@ -259,3 +260,33 @@ puts-made (d ∷ ds) allowance later (a ∷ answers) more n ok e size stopped en
     one-made e size stopped end tree d (allowance 0) ds later a more (h .0) (ok .0)
     (puts-made ds (λ k. allowance (suc k)) later answers more (omega arith) (ok .1) e size (stopped || stops (putWith d (allowance 0)) a)
     (callEnd end (putWith d (allowance 0)) (isAccepted a)) (applyCall tree (putWith d (allowance 0)) (isAccepted a)) (h .1))
+
+-- ---- Doubles and Complex numbers.
+
+eight-size : (k : Kind) (n : ℕ) → 8 ≤ elementSize k → n % elementSize k ≡ 0 → n % 8 ≡ 0
+eight-size Void n e h = absurd (omega arith)
+eight-size Char n e h = absurd (omega arith)
+eight-size Int n e h = absurd (omega arith)
+eight-size Double n e h = h
+eight-size Complex n e h = omega arith
+
+-- The last put has whole elements, so its length is a multiple of 8.
+eights-last : (tree : Tree) (ds : List PutData) → AllFit tree ds → Eights ds → lastLength ds % 8 ≡ 0
+eights-last tree [] fit eights = refl
+eights-last tree (d ∷ []) fit eights =
+    eight-size (dataKind (kindOf (d .type))) (length (d .bytes)) (eights .0) (data-right (kindOf (d .type)) (length (d .bytes)) (fit .0 .right) .1)
+eights-last tree (d ∷ f ∷ ds) fit eights = eights-last tree (f ∷ ds) (fit .2) (eights .1)
+
+eights-insert : (c : PutData) (front back : List PutData) → 8 ≤ elementSize (dataKind (kindOf (c .type))) → Eights (front ++ back) → Eights (front ++ (c ∷ back))
+eights-insert c [] back e h = (e, h)
+eights-insert c (d ∷ front) back e h = (h .0, eights-insert c front back e (h .1))
+
+eights-reordered : (ds others : List PutData) → Reordered ds others → Eights ds → Eights others
+eights-reordered [] others r h = rw r tt
+eights-reordered (d ∷ ds) others r h =
+    let (front, back, is, rest) = r in
+    subst Eights (sym is) (eights-insert d front back (h .0) (eights-reordered ds (front ++ back) rest (h .1)))
+
+pub eights-agree : (tree : Tree) (ds others : List PutData) → Reordered ds others → AllFit tree ds → Eights ds → lastLength ds % 8 ≡ lastLength others % 8
+eights-agree tree ds others r fit h =
+    eights-last tree ds fit h ∙ sym (eights-last tree others (fit-reordered tree ds others r fit) (eights-reordered ds others r h))

@@ -2,9 +2,13 @@
 use mathlib.Core.Path.{_≡_}
 use mathlib.Core.Bool.{Bool, true, false}
 use mathlib.Core.List.{List, [], _∷_, _++_}
-use Prim.Native.Nat.{ℕ, suc}
+use Prim.Native.Nat.{ℕ, suc, _≤_}
 use lib.ListN.{length}
 use Rattle.aff_format.specs.Answer.{Answer}
+use Rattle.aff_format.specs.Kind.{kindCode, kindOf, elementSize}
+use Rattle.aff_format.specs.Tree.{Tree, treeNode}
+use Rattle.aff_format.specs.declared.kind.Kind.the-variants.{Void}
+use Rattle.aff_write.specs.Put.{dataKind}
 use Rattle.aff_run.specs.Run.{Call, make, put, close, isAccepted}
 
 -- What a put is given besides its allowance.
@@ -37,6 +41,11 @@ lastLength [] = 0
 lastLength (d ∷ []) = length (d .bytes)
 lastLength (d ∷ f ∷ ds) = lastLength (f ∷ ds)
 
+-- Elements of 8 or 16 bytes: Doubles and Complex numbers.
+abbrev pub Eights : List PutData → Type 0
+Eights [] = Unit {0}
+Eights (d ∷ ds) = (8 ≤ elementSize (dataKind (kindOf (d .type)))) × Eights ds
+
 -- ---- The accepted makes and puts of some calls.
 
 -- What a make is given.
@@ -66,3 +75,23 @@ abbrev pub putsOf : List Call → List (Answer ℕ) → List PutData
 putsOf [] answers = []
 putsOf (c ∷ cs) [] = []
 putsOf (c ∷ cs) (a ∷ answers) = putAnd c (isAccepted a) (putsOf cs answers)
+
+-- ---- The tree that makes and puts describe, node by node.
+
+module _ (tree : Tree) where
+  -- From node k on, each node has the parent and the name of its make.
+  abbrev pub NodesMade : ℕ → List MakeData → Type 0
+  NodesMade k [] = Unit {0}
+  NodesMade k (m ∷ ms) = (treeNode tree k .parent ≡ m .parent) × (treeNode tree k .name ≡ m .name) × NodesMade (suc k) ms
+
+  -- The node of each put has its type, as a number, and its bytes.
+  abbrev pub NodesPut : List PutData → Type 0
+  NodesPut [] = Unit {0}
+  NodesPut (d ∷ ds) = (kindCode (treeNode tree (d .node) .kind) ≡ d .type) × (treeNode tree (d .node) .bytes ≡ d .bytes) × NodesPut ds
+
+-- There is a node for each make, numbered from 1 on in their order, with its parent and name; the node of each put has its type and bytes; a node that no put is to is Void.
+pub record TreeFrom (makes : List MakeData) (puts : List PutData) (tree : Tree) : Type 0 where
+  pub count : length tree ≡ length makes
+  pub made : NodesMade tree 1 makes
+  pub filled : NodesPut tree puts
+  pub void : (n : ℕ) → Apart n puts → (treeNode tree n .kind ≡ Void) × (treeNode tree n .bytes ≡ [])
