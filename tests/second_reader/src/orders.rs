@@ -1,12 +1,11 @@
 //! Request C-23: two neighbouring puts to different nodes may change places. Both orders are played on the writer, and what is claimed of them is
 //! compared wherever its hypotheses hold.
 
-use crate::format::Edition;
 use crate::kinds;
 use crate::pairs::{random_pair, Allowances, Order, Pair, ORDERS};
 use crate::random::Random;
 use crate::report::Report;
-use crate::runs::{call_both, shows_run, stores, Call, Desk, NewDesk};
+use crate::runs::{begun, call_both, shows_run, stores, Call, Desk, NewDesk, Run};
 use crate::trees::{File, Reading};
 use crate::writer::{Reported, ALIGNMENT};
 
@@ -34,7 +33,7 @@ impl Played {
     }
 
     /// The number of the close that was accepted.
-    fn closed(&self) -> Option<usize> {
+    pub fn closed(&self) -> Option<usize> {
         let is_close = |number: &usize| matches!(self.calls[*number], Call::Close);
         let numbers = 0..self.calls.len();
         numbers
@@ -43,13 +42,26 @@ impl Played {
     }
 
     /// The size of the file, from the record after close: `numbers[6] + numbers[0] - 168`.
-    pub fn size(&self, edition: Edition) -> Option<u64> {
+    pub fn size(&self) -> Option<u64> {
         let numbers = self.numbers[self.closed()?];
+        let (edition, _) = begun(&self.calls);
         Some(numbers[6] + numbers[0] - edition.header() as u64)
     }
 
+    /// The bytes of the file; of none that is not closed.
+    pub fn file(&self) -> &[u8] {
+        let size = self.size().unwrap_or(0) as usize;
+        &self.buffer[..size.min(self.buffer.len())]
+    }
+
+    /// How many calls there are after the accepted close.
+    pub fn calls_after_close(&self) -> usize {
+        self.closed()
+            .map_or(0, |close| self.calls.len() - close - 1)
+    }
+
     /// The number of the first accepted put from a call on.
-    fn accepted_put(&self, from: usize) -> Option<usize> {
+    pub fn accepted_put(&self, from: usize) -> Option<usize> {
         let is_put = |number: &usize| matches!(self.calls[*number], Call::Put(..));
         let numbers = from..self.calls.len();
         numbers
@@ -73,14 +85,21 @@ pub fn compare(seed: u64, number: u64, others: Others, report: &mut Report) {
     report.begin_pair(seed, number);
     let plays = ORDERS.map(|order| played(&pair, order, others.desk, report));
     compare_plays(&pair, &plays, others.readers, report);
-    let (edition, _) = pair.begun();
-    for (number, kind) in met(&pair, &plays) {
-        report.met(number, kind, Some(edition));
-    }
-    for reported in plays.iter().flat_map(|played| &played.answers) {
-        report.reported(reported, Some(edition));
-    }
+    count(&plays, met(&pair, &plays), report);
     report.end(&[]);
+}
+
+/// Counts what was met, by the edition of the first run, and the answers of both runs, each by its own.
+pub fn count(plays: &[Played; 2], met: Vec<(u32, kinds::Kind)>, report: &mut Report) {
+    let editions = plays.each_ref().map(|played| begun(&played.calls).0);
+    for (number, kind) in met {
+        report.met(number, kind, Some(editions[0]));
+    }
+    for (played, edition) in plays.iter().zip(editions) {
+        for reported in &played.answers {
+            report.reported(reported, Some(edition));
+        }
+    }
 }
 
 /// Compares all that is claimed of two orders.
@@ -94,12 +113,12 @@ pub fn compare_plays(
         ends_after_puts(pair, plays, report);
     }
     if assumes_nothing(pair, plays) {
-        same_later_answers(pair, plays, report);
+        same_later_answers(pair.first + 2, plays, report);
     }
     let claim = claim(pair, plays);
     match claim {
         Claim::Applies => {
-            same_answers(pair, plays, report);
+            same_answers(|number| pair.place(number), plays, report);
             same_ends(pair, plays, report);
             same_files(pair, plays, readers, report);
         }
@@ -111,9 +130,19 @@ pub fn compare_plays(
     claim
 }
 
-/// Plays an order: on the model, and on the other writer where there is one, whose answers are then compared and taken.
+/// Plays an order of a pair.
 pub fn played(pair: &Pair, order: Order, desk: Option<NewDesk>, report: &mut Report) -> Played {
-    let run = pair.run(order);
+    let allowances = &pair.allowances[order as usize];
+    played_run(pair.run(order), allowances, desk, report)
+}
+
+/// Plays a run: on the model, and on the other writer where there is one, whose answers are then compared and taken.
+pub fn played_run(
+    run: Run,
+    allowances: &Allowances,
+    desk: Option<NewDesk>,
+    report: &mut Report,
+) -> Played {
     let mut model = run.desk();
     let mut other = desk.map(|new| new(&run));
     let mut played = Played {
@@ -125,7 +154,7 @@ pub fn played(pair: &Pair, order: Order, desk: Option<NewDesk>, report: &mut Rep
     };
     let mut used = 0;
     for (number, call) in run.calls.iter().enumerate() {
-        let allowance = match &pair.allowances[order as usize] {
+        let allowance = match allowances {
             Allowances::Each(list) => list[number],
             Allowances::Total(total) => total.saturating_sub(used),
         };
@@ -209,22 +238,22 @@ fn assumes_nothing(pair: &Pair, plays: &[Played; 2]) -> bool {
         && one.allowances[later.clone()] == other.allowances[later]
 }
 
-/// Then every later answer is the same, accepted or not, and every number of the record.
-fn same_later_answers(pair: &Pair, plays: &[Played; 2], report: &mut Report) {
+/// Then every answer from a call on is the same, accepted or not, and every number of the record.
+pub fn same_later_answers(from: usize, plays: &[Played; 2], report: &mut Report) {
     let [one, other] = plays;
-    for number in pair.first + 2..one.calls.len() {
+    for number in from..one.calls.len() {
         let what = format!("call {number}, nothing assumed");
         report.same(&what, &one.answers[number], &other.answers[number]);
         report.same(&what, &one.numbers[number], &other.numbers[number]);
     }
 }
 
-/// All answers are the same but for the stores that accepted puts report: node numbers, stores of close, refusals with their places.
-fn same_answers(pair: &Pair, plays: &[Played; 2], report: &mut Report) {
+/// All answers are the same but for the stores that accepted puts report: node numbers, stores of close, refusals with their places. `place` is where a call
+/// of one order is in the other.
+pub fn same_answers(place: impl Fn(usize) -> usize, plays: &[Played; 2], report: &mut Report) {
     let [one, other] = plays;
     for (number, call) in one.calls.iter().enumerate() {
-        let place = pair.place(number);
-        let (here, there) = (one.answers[number], other.answers[place]);
+        let (here, there) = (one.answers[number], other.answers[place(number)]);
         let without_stores = |reported: Reported| match call {
             Call::Put(..) => reported.map(|_| 0),
             _ => reported,
@@ -246,45 +275,67 @@ fn same_ends(pair: &Pair, plays: &[Played; 2], report: &mut Report) {
     }
 }
 
-/// Both buffers show the tree that their calls describe; they open with begin's form by every reader, and show the same tree.
+/// The files of both orders.
 fn same_files(pair: &Pair, plays: &[Played; 2], readers: &[Reading], report: &mut Report) {
+    let same_size = lengths_agree(pair) || plays[0].accepted_put(pair.first + 2).is_some();
+    for files in files_shown(plays, readers, report) {
+        same_trees(&pair.nodes(), same_size, plays, &files, report);
+    }
+}
+
+/// Both buffers show the tree that their calls describe, and open with begin's form by every reader. What each reader reads of both.
+pub fn files_shown(
+    plays: &[Played; 2],
+    readers: &[Reading],
+    report: &mut Report,
+) -> Vec<[File; 2]> {
     for played in plays {
         shows_run(&played.calls, &played.answers, &played.buffer, report);
     }
-    let (_, form) = pair.begun();
-    let read_both = |read: &Reading| plays.each_ref().map(|played| read(&played.buffer, form));
-    let files: Vec<_> = readers.iter().map(read_both).collect();
-    for there in &files[1..] {
-        report.same("files by both readers", &files[0], there);
+    let read_both = |read: &Reading| {
+        plays
+            .each_ref()
+            .map(|played| read(&played.buffer, begun(&played.calls).1))
+    };
+    let read: Vec<_> = readers.iter().map(read_both).collect();
+    for there in &read[1..] {
+        report.same("files by both readers", &read[0], there);
     }
-    for both in &files {
+    let mut files = Vec::new();
+    for both in read {
         match both {
-            [Ok(one), Ok(other)] => same_trees(pair, plays, [one, other], report),
+            [Ok(one), Ok(other)] => files.push([one, other]),
             refused => {
                 let opened = refused.each_ref().map(Result::is_ok);
                 report.same("opened", &[true, true], &opened);
             }
         }
     }
+    files
 }
 
-/// The same trees, node for node; the data of every node but the two at the same place; sizes that differ only where no later put is accepted, by at most 7.
-fn same_trees(pair: &Pair, plays: &[Played; 2], files: [&File; 2], report: &mut Report) {
+/// The same trees, node for node; the data of every node but those of the puts moved at the same place; the same size exactly where it must be, else sizes that
+/// differ by at most 7.
+pub fn same_trees(
+    moved: &[u64],
+    same_size: bool,
+    plays: &[Played; 2],
+    files: &[File; 2],
+    report: &mut Report,
+) {
     let [one, other] = files;
     report.same("tree", &one.tree, &other.tree);
     let others = |file: &File| {
         let mut offsets = file.offsets.clone();
-        for node in pair.nodes() {
-            offsets[node as usize] = None;
+        for node in moved {
+            offsets[*node as usize] = None;
         }
         offsets
     };
     report.same("offsets of other nodes", &others(one), &others(other));
-    let (edition, _) = pair.begun();
-    let recorded = plays.each_ref().map(|played| played.size(edition));
+    let recorded = plays.each_ref().map(Played::size);
     report.same("size", &recorded, &[Some(one.size), Some(other.size)]);
-    let same = lengths_agree(pair) || plays[0].accepted_put(pair.first + 2).is_some();
-    report.same("same size", &same, &(one.size == other.size));
+    report.same("same size", &same_size, &(one.size == other.size));
     let apart = one.size.abs_diff(other.size);
     report.same("sizes within 7", &true, &(apart < ALIGNMENT));
 }
@@ -304,18 +355,12 @@ pub fn met(pair: &Pair, plays: &[Played; 2]) -> Vec<(u32, kinds::Kind)> {
 /// What a pair is like to which the claim applies.
 fn applied_to(pair: &Pair, plays: &[Played; 2]) -> [kinds::Kind; 6] {
     let [one, other] = plays;
-    let (edition, _) = pair.begun();
-    let after = one.closed().map_or(0, |close| one.calls.len() - close - 1);
-    let files = plays.each_ref().map(|played| {
-        let size = played.size(edition).unwrap_or(0) as usize;
-        &played.buffer[..size.min(played.buffer.len())]
-    });
     [
         kinds::ALL,
         kinds::of_lengths(lengths_agree(pair)),
         kinds::of_later_put(one.accepted_put(pair.first + 2).is_some()),
-        kinds::of_calls_after_close(after),
-        kinds::of_files(files),
+        kinds::of_calls_after_close(one.calls_after_close()),
+        kinds::of_files(plays.each_ref().map(Played::file)),
         kinds::of_allowances(&one.allowances, &other.allowances, pair.first),
     ]
 }

@@ -57,17 +57,6 @@ impl Pair {
         })
     }
 
-    /// What begin was passed.
-    pub fn begun(&self) -> (Edition, &[u8]) {
-        match &self.run.calls[0] {
-            Call::Begin(number, form) => {
-                let edition = Edition::written((*number).into()).expect("drawn so");
-                (edition, form)
-            }
-            other => unreachable!("{other:?} is no begin"),
-        }
-    }
-
     /// Where a call of one order is in the other.
     pub fn place(&self, number: usize) -> usize {
         exchanged(number, self.first)
@@ -140,7 +129,7 @@ pub fn random_pair(random: &Random) -> Pair {
 }
 
 /// A lawful begin, some with another form.
-fn begin(random: &Random) -> Call {
+pub fn begin(random: &Random) -> Call {
     let edition = random.pick(&Edition::WRITTEN);
     match random.one_in(8) {
         true => Call::Begin(edition.number() as u32, random.bytes(12)),
@@ -149,7 +138,13 @@ fn begin(random: &Random) -> Call {
 }
 
 /// Makes and puts, most of them lawful, as many as one of the numbers.
-fn some_calls(random: &Random, run: &mut Run, model: &mut Writer, style: Style, numbers: &[usize]) {
+pub fn some_calls(
+    random: &Random,
+    run: &mut Run,
+    model: &mut Writer,
+    style: Style,
+    numbers: &[usize],
+) {
     for _ in 0..random.pick(numbers) {
         let call = middle(random, model, style);
         add(run, model, call);
@@ -173,7 +168,7 @@ fn two_puts(random: &Random, nodes: &[u64]) -> [Call; 2] {
 }
 
 /// The code of a type, and bytes of some elements; of none, now and then.
-fn data(random: &Random) -> (u64, Vec<u8>) {
+pub fn data(random: &Random) -> (u64, Vec<u8>) {
     let code = random.pick(&[2, 2, 2, 3, 3, 4, 5]);
     let width = Kind::from_code(code).expect("a type").width();
     let most = if width == 1 { 17 } else { 5 };
@@ -216,8 +211,12 @@ fn length(random: &Random, run: &Run, first: usize) -> usize {
 
 /// The stores that each call of an order makes where allowances are not short.
 fn needed(run: &Run, first: usize, order: Order) -> Vec<u64> {
-    let calls = in_order(&run.calls, first, order);
-    let answers: Vec<Reported> = play(&mut run.desk(), &calls, u64::MAX);
+    needed_by(&in_order(&run.calls, first, order), run)
+}
+
+/// The stores that each of some calls makes on a run's buffer where allowances are not short.
+pub fn needed_by(calls: &[Call], run: &Run) -> Vec<u64> {
+    let answers: Vec<Reported> = play(&mut run.desk(), calls, u64::MAX);
     let made = calls.iter().zip(&answers);
     made.map(|(call, reported)| stores(call, reported))
         .collect()

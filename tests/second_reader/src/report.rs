@@ -62,19 +62,20 @@ impl Report {
 
     #[cfg(feature = "library")]
     pub fn begin_limit(&mut self, length: usize) {
-        self.case = format!("{length} zeros");
-        self.file.clear();
-        self.faults = 0;
+        self.begin_case(format!("{length} zeros"));
     }
 
     pub fn begin_run(&mut self, seed: u64, number: u64) {
-        self.case = format!("seed {seed}, run {number}");
-        self.file.clear();
-        self.faults = 0;
+        self.begin_case(format!("seed {seed}, run {number}"));
     }
 
     pub fn begin_pair(&mut self, seed: u64, number: u64) {
-        self.case = format!("seed {seed}, pair {number}");
+        self.begin_case(format!("seed {seed}, pair {number}"));
+    }
+
+    /// A case of which no image is kept.
+    fn begin_case(&mut self, case: String) {
+        self.case = case;
         self.file.clear();
         self.faults = 0;
     }
@@ -118,7 +119,7 @@ impl Report {
         self.by_number.entry(number).or_default().add(edition);
     }
 
-    /// A kind of malformed name or path, which 10 or 14 is about; of a put, of altered memory, or of a pair of orders, with the number of the refusal that it
+    /// A kind of malformed name or path, which 10 or 14 is about; of a put, of altered memory, or of two orders of puts, with the number of the refusal that it
     /// got, or 0.
     pub fn met(&mut self, number: u32, kind: Kind, edition: Option<Edition>) {
         self.kinds.entry((number, kind)).or_default().add(edition);

@@ -141,6 +141,17 @@ pub fn play(desk: &mut dyn Desk, calls: &[Call], total: u64) -> Vec<Reported> {
     answers
 }
 
+/// What the begin of a run was passed, where the run begins once, in a written edition.
+pub fn begun(calls: &[Call]) -> (Edition, &[u8]) {
+    match &calls[0] {
+        Call::Begin(number, form) => {
+            let edition = Edition::written((*number).into()).expect("drawn so");
+            (edition, form)
+        }
+        other => unreachable!("{other:?} is no begin"),
+    }
+}
+
 impl Call {
     /// The begin of an edition, with its form.
     pub fn begin(edition: Edition) -> Call {

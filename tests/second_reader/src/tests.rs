@@ -527,7 +527,7 @@ fn example_of_two_orders() {
         let [one, other] = &plays;
         assert_eq!([one, other].map(all_stores), [239, 234]);
         assert_eq!([one.end(4), other.end(4)], [184, 179]);
-        let sizes = [one, other].map(|played| played.size(edition));
+        let sizes = [one, other].map(Played::size);
         assert_eq!(sizes, [Some(238), Some(233)]);
         assert_ne!(one.buffer, other.buffer);
         for read in READERS {
