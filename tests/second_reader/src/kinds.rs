@@ -1,4 +1,4 @@
-//! Kinds of malformed names and paths (request C-18), of puts (request C-22) and of pairs of orders (request C-23), for the counts of what was met. No
+//! Kinds of malformed names and paths (request C-18), of puts (request C-22) and of orders of puts (request C-23), for the counts of what was met. No
 //! comparison depends on them.
 
 use crate::open::Node;
@@ -154,6 +154,57 @@ pub fn of_allowances(one: &[u64], other: &[u64], first: usize) -> Kind {
         (true, true) => (APPLIES, "allowances the same"),
         (false, true) => (APPLIES, "allowances differ for the two puts"),
         (_, false) => (APPLIES, "allowances differ for later calls"),
+    }
+}
+
+/// How many puts a block has.
+pub fn of_block(puts: usize) -> Kind {
+    match puts {
+        2 => (APPLIES, "a block of 2 puts"),
+        3..=6 => (APPLIES, "a block of 3 to 6 puts"),
+        _ => (APPLIES, "a block of 7 to 12 puts"),
+    }
+}
+
+/// Whether the lengths of the last puts of the two orders of a block agree modulo 8.
+pub fn of_last_lengths(agree: bool) -> Kind {
+    match agree {
+        true => (APPLIES, "last lengths equal modulo 8"),
+        false => (APPLIES, "last lengths different modulo 8"),
+    }
+}
+
+/// How many bytes of the buffer come after the longer of two files. As the first put of a file needs no padding, at least 7 do where the length is
+/// counted so that it is never too small.
+pub fn of_bytes_left(bytes: usize) -> Kind {
+    match bytes {
+        0..=7 => (APPLIES, "at most 7 bytes of the buffer left"),
+        _ => (APPLIES, "more than 7 bytes of the buffer left"),
+    }
+}
+
+/// Whether two runs are of one edition.
+pub fn of_editions(same: bool) -> Kind {
+    match same {
+        true => (APPLIES, "runs of one edition"),
+        false => (APPLIES, "runs of two editions"),
+    }
+}
+
+/// Whether the accepted puts of two runs come in the same order.
+pub fn of_put_order(same: bool) -> Kind {
+    match same {
+        true => (APPLIES, "puts in the same order"),
+        false => (APPLIES, "puts in another order"),
+    }
+}
+
+/// In which of two runs an accepted put comes before an accepted make.
+pub fn of_puts_among_makes(runs: [bool; 2]) -> Kind {
+    match runs {
+        [true, true] => (APPLIES, "puts before makes in both runs"),
+        [false, false] => (APPLIES, "puts before makes in neither run"),
+        _ => (APPLIES, "puts before makes in one run"),
     }
 }
 

@@ -3,6 +3,8 @@
 #[cfg(feature = "library")]
 mod agree;
 mod answers;
+mod any_order;
+mod blocks;
 mod cases;
 mod damage;
 mod format;
@@ -18,6 +20,7 @@ mod lists;
 #[cfg(feature = "library")]
 mod mapped;
 mod md5;
+mod moved;
 mod open;
 mod orders;
 mod pairs;
@@ -33,6 +36,7 @@ mod steps;
 #[cfg(test)]
 mod tests;
 mod times;
+mod tree_by_calls;
 mod trees;
 mod writer;
 
@@ -180,13 +184,25 @@ fn writes(seed: u64, count: u64) -> Outcome {
     Ok(report.finish())
 }
 
-/// Compares the two orders of neighbouring puts: on the model, and on the library's writer and reader where it is linked.
+/// Compares runs with the same puts in other orders: on the model, and on the library's writer and reader where it is linked. After the pairs of neighbouring
+/// puts, a tenth as many blocks of puts, and as many pairs of runs with puts moved among the makes. Each part is counted by itself.
 fn orders(seed: u64, count: u64) -> Outcome {
     let of = DESK.map_or("the model", |_| "the model and the library's writer");
+    let tenth = count.div_ceil(10);
     println!("seed {seed}, {count} pairs: two orders of {of}");
+    let pairs = compared(seed, count, orders::compare);
+    println!("seed {seed}, {tenth} blocks of puts in another order, in a buffer that is never too small: {of}");
+    let blocks = compared(seed, tenth, any_order::compare);
+    println!("seed {seed}, {tenth} pairs of runs with puts moved among the makes: {of}");
+    let moved = compared(seed, tenth, tree_by_calls::compare);
+    Ok(pairs && blocks && moved)
+}
+
+/// One part of `orders`; true where nothing differs.
+fn compared(seed: u64, count: u64, compare: fn(u64, u64, orders::Others, &mut Report)) -> bool {
     let mut report = Report::default();
     for number in 0..count {
-        orders::compare(seed, number, OTHERS, &mut report);
+        compare(seed, number, OTHERS, &mut report);
     }
-    Ok(report.finish())
+    report.finish()
 }

@@ -73,6 +73,14 @@ impl Report {
         self.begin_case(format!("seed {seed}, pair {number}"));
     }
 
+    pub fn begin_block(&mut self, seed: u64, number: u64) {
+        self.begin_case(format!("seed {seed}, block {number}"));
+    }
+
+    pub fn begin_moved(&mut self, seed: u64, number: u64) {
+        self.begin_case(format!("seed {seed}, moved puts {number}"));
+    }
+
     /// A case of which no image is kept.
     fn begin_case(&mut self, case: String) {
         self.case = case;

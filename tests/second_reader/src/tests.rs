@@ -1,12 +1,15 @@
 //! Document 01's worked file and cases, the symbol tables of requests C-11 and C-13, request C-12's listings, request C-18's places, request C-15's
-//! edition 3, request C-22's padding, request C-23's two orders, and the generator's images beside what their maker knows.
+//! edition 3, request C-22's padding, request C-23's orders of puts, and the generator's images beside what their maker knows.
 
 use crate::answers::{decoded, judged, listing, shown, Choice, Element, Passed, LISTED};
+use crate::any_order;
+use crate::blocks::{never_too_small, random_block, Block};
 use crate::cases;
 use crate::damage::numbers;
 use crate::format::{big, form_for, Edition, Kind, Refusal, DATA, SIGNATURE, SYMBOLS, TREE};
 use crate::images::{image, sum_header, Draft, Image, Node, WIDE_NAMES};
 use crate::md5::md5;
+use crate::moved::{random_runs, Planned};
 use crate::open::{bad_nodes, open, Opened, Refused, Span};
 use crate::orders::{self, compare_plays, played, Claim, Played};
 use crate::pairs::{random_pair, Allowances, Pair, ORDERS};
@@ -16,6 +19,7 @@ use crate::runs::{
     bad_name, met, padded_calls, play, random_run, stores, worked_calls, Alteration, Call, Desk,
     Run,
 };
+use crate::tree_by_calls;
 use crate::trees::{read_here, File};
 use crate::writer::{Record, Writer, TEXT_AREA, TREE_AREA};
 use crate::{kinds, paths, DESK, READERS};
@@ -478,17 +482,22 @@ fn kinds_of_puts() {
     assert_eq!(counts.len(), 4 + 3 + 4 + 2, "{counts:?}");
 }
 
+/// A buffer that is filled, with areas of zeros, and calls.
+fn run_in(buffer: usize, calls: Vec<Call>) -> Run {
+    Run {
+        buffer: vec![0x55; buffer],
+        text: vec![0; TEXT_AREA],
+        tree: vec![0; TREE_AREA],
+        calls,
+    }
+}
+
 /// Request C-23's example in a buffer of some length: `abc` in `a`, then the Double in `b`, and the other order. Allowances are not short.
 fn two_orders(edition: Edition, buffer: usize) -> Pair {
     let calls = padded_calls(edition);
     let ample = Allowances::Each(vec![u64::MAX; calls.len()]);
     Pair {
-        run: Run {
-            buffer: vec![0x55; buffer],
-            text: vec![0; TEXT_AREA],
-            tree: vec![0; TREE_AREA],
-            calls,
-        },
+        run: run_in(buffer, calls),
         first: 3,
         allowances: [ample.clone(), ample],
     }
@@ -594,12 +603,7 @@ fn differences_between_orders() {
 
 /// The file that the calls leave in a buffer of some length, by the library's writer where it is linked; all calls are accepted.
 fn file_of(edition: Edition, calls: Vec<Call>, buffer: usize) -> (Vec<u8>, File) {
-    let run = Run {
-        buffer: vec![0x55; buffer],
-        text: vec![0; TEXT_AREA],
-        tree: vec![0; TREE_AREA],
-        calls,
-    };
+    let run = run_in(buffer, calls);
     let mut desk = DESK.map_or_else(|| Box::new(run.desk()) as Box<dyn Desk>, |new| new(&run));
     let answers = play(desk.as_mut(), &run.calls, u64::MAX);
     assert!(answers.iter().all(Result::is_ok), "{answers:?}");
@@ -666,6 +670,258 @@ fn kinds_of_pairs() {
     };
     let counts = counted((0..600).flat_map(made));
     assert_eq!(counts.len(), 6 + 13 + 5, "{counts:?}");
+}
+
+/// Three nodes, and Chars of lengths 3, 8 and 5 as a block, beside another order of it. The length of the buffer goes by the calls.
+fn block_of_three(edition: Edition, order: [usize; 3], buffer: impl Fn(&[Call]) -> usize) -> Block {
+    let mut calls = vec![Call::begin(edition)];
+    calls.extend([b"a", b"b", b"c"].map(|name| Call::Make(0, name.to_vec())));
+    let puts = [b"abc".as_slice(), b"abcdefgh", b"abcde"];
+    let nodes_and_puts = (1..).zip(puts);
+    calls.extend(nodes_and_puts.map(|(node, bytes)| Call::Put(node, 2, bytes.to_vec())));
+    calls.push(Call::Close);
+    Block {
+        run: run_in(buffer(&calls), calls),
+        first: 4,
+        order: order.to_vec(),
+        // Strings with their zeros, entries, header.
+        close: 6 + 75 + 168,
+    }
+}
+
+/// Both orders of a block, on the model and on the library where it is linked, which must agree.
+fn block_played(block: &Block) -> [Played; 2] {
+    let mut report = Report::default();
+    let plays = ORDERS.map(|order| any_order::played(block, order, DESK, &mut report));
+    report.end(&[]);
+    assert!(report.finish());
+    plays
+}
+
+/// Whether nothing differs from what is claimed of a block.
+fn block_compared(block: &Block, plays: &[Played; 2]) -> bool {
+    let mut report = Report::default();
+    any_order::compare_plays(block, plays, READERS, &mut report);
+    report.end(&[]);
+    report.finish()
+}
+
+/// The six orders of Chars of lengths 3, 8 and 5, with the end of data by hand.
+const ORDERS_OF_THREE: [([usize; 3], u64); 6] = [
+    ([0, 1, 2], 189),
+    ([0, 2, 1], 192),
+    ([1, 0, 2], 189),
+    ([1, 2, 0], 187),
+    ([2, 0, 1], 192),
+    ([2, 1, 0], 187),
+];
+
+/// In a buffer that is never too small all six orders are accepted, with allowances of 7 more than the bytes. It has 168 bytes, 14 and 1 for each make, and 19 and
+/// the data for each put.
+#[test]
+fn three_puts_in_a_buffer_never_too_small() {
+    for edition in Edition::WRITTEN {
+        for (order, end) in ORDERS_OF_THREE {
+            let block = block_of_three(edition, order, never_too_small);
+            assert_eq!(block.run.buffer.len(), 168 + 3 * 15 + (22 + 27 + 24));
+            let plays = block_played(&block);
+            assert!(block_compared(&block, &plays), "{order:?}");
+            assert!(plays[1].answers.iter().all(Result::is_ok), "{order:?}");
+            let ends = plays.each_ref().map(|played| played.end(6));
+            assert_eq!(ends, [189, end], "{order:?}");
+            // Three strings of 2 bytes and three entries of 25.
+            assert_eq!(plays[1].size(), Some(end + 6 + 75), "{order:?}");
+        }
+    }
+}
+
+/// In a buffer one byte shorter than the longest of the six files, the two orders with that length are refused by 21 at their last put, and this is seen.
+#[test]
+fn three_puts_in_a_shorter_buffer() {
+    for edition in Edition::WRITTEN {
+        for (order, end) in ORDERS_OF_THREE {
+            let block = block_of_three(edition, order, |_| 192 + 6 + 75 - 1);
+            let plays = block_played(&block);
+            let refused = plays[1].answers[6] == Err((21, 0));
+            assert_eq!(refused, end == 192, "{order:?}");
+            assert_eq!(block_compared(&block, &plays), !refused, "{order:?}");
+        }
+    }
+}
+
+/// Each of these differences between two orders of a block is seen: a node number, a put that is refused, the stores of close, an end of data after the block
+/// and after close, a byte of data, a file that does not open.
+#[test]
+fn differences_between_orders_of_a_block() {
+    let changes: [fn(&mut Played); 8] = [
+        |played| played.answers[2] = Ok(3),
+        |played| played.answers[5] = Err((23, 15)),
+        |played| played.answers[7] = Ok(250),
+        |played| played.numbers[6][6] = 189,
+        |played| played.numbers[6][6] = 184,
+        |played| played.numbers[7][6] += 1,
+        |played| played.buffer[168] ^= 1,
+        |played| played.buffer[0] = 0,
+    ];
+    for edition in Edition::WRITTEN {
+        let block = block_of_three(edition, [1, 2, 0], never_too_small);
+        for (number, change) in changes.iter().enumerate() {
+            let mut plays = block_played(&block);
+            change(&mut plays[1]);
+            assert!(!block_compared(&block, &plays), "change {number}");
+        }
+    }
+}
+
+/// Random blocks are in another order, in a buffer of the length said, and meet every kind: 15 where a close is accepted, and 1 where none is.
+#[test]
+fn kinds_of_blocks() {
+    let mut report = Report::default();
+    let made = |number: u64| {
+        let block = random_block(&Random::of(36, number));
+        assert_ne!(block.order, Vec::from_iter(0..block.order.len()));
+        assert_eq!(block.run.buffer.len(), never_too_small(&block.run.calls));
+        let plays = ORDERS.map(|order| any_order::played(&block, order, None, &mut report));
+        any_order::met(&block, &plays)
+    };
+    let counts = counted((0..600).flat_map(made));
+    assert_eq!(counts.len(), 15 + 1, "{counts:?}");
+}
+
+/// A call of a run by hand, and whether it is meant to be accepted.
+type Meant = (Call, bool);
+
+/// A run of an edition with calls by hand between its begin and its close.
+fn planned_run(edition: Edition, calls: &[Meant]) -> Planned {
+    let first = (Call::begin(edition), true);
+    let last = (Call::Close, true);
+    let all = [vec![first], calls.to_vec(), vec![last]].concat();
+    let (calls, meant) = all.into_iter().unzip();
+    Planned {
+        run: run_in(300, calls),
+        allowances: Allowances::Total(u64::MAX),
+        meant,
+    }
+}
+
+/// Two runs, on the model and on the library where it is linked, which must agree; and whether nothing differs from what is claimed of them.
+fn both_planned(runs: [Planned; 2]) -> ([Played; 2], bool) {
+    let meant = runs.each_ref().map(|planned| planned.meant.clone());
+    let mut report = Report::default();
+    let plays = runs.map(|planned| tree_by_calls::played(planned, DESK, &mut report));
+    report.end(&[]);
+    assert!(report.finish());
+    let mut report = Report::default();
+    tree_by_calls::compare_plays(&meant, &plays, READERS, &mut report);
+    report.end(&[]);
+    (plays, report.finish())
+}
+
+/// Makes of `/a`, `/a/b` and `/c`, and puts of three Chars, an Int and a Double there.
+fn three_makes() -> [Meant; 3] {
+    [(0, b"a"), (1, b"b"), (0, b"c")]
+        .map(|(parent, name)| (Call::Make(parent, name.to_vec()), true))
+}
+
+fn three_puts() -> [Meant; 3] {
+    [
+        Call::Put(1, 2, b"abc".to_vec()),
+        Call::Put(2, 3, vec![0xff, 0xff, 0xff, 0xba]),
+        Call::Put(3, 4, 1_f64.to_be_bytes().to_vec()),
+    ]
+    .map(|put| (put, true))
+}
+
+/// Puts after all makes, and moved among them, with refused calls: one tree in both editions. The places of the data are by hand.
+#[test]
+fn puts_among_makes() {
+    let ([a, b, c], [chars, int, double]) = (three_makes(), three_puts());
+    let refused = |(call, _): &Meant| (call.clone(), false);
+    let again = refused(&a);
+    let second_put = refused(&int);
+    let to_root = (Call::Put(0, 2, Vec::new()), false);
+    let after = [&a, &b, &c, &chars, &int, &double].map(Clone::clone);
+    let moved: [(Vec<&Meant>, [u64; 3]); 4] = [
+        (vec![&a, &b, &c, &chars, &int, &double], [168, 176, 184]),
+        (vec![&a, &chars, &b, &int, &c, &double], [168, 176, 184]),
+        (
+            vec![&a, &again, &b, &int, &second_put, &chars, &c, &double],
+            [176, 168, 184],
+        ),
+        (
+            vec![&to_root, &a, &b, &int, &c, &double, &chars],
+            [184, 168, 176],
+        ),
+    ];
+    for (calls, offsets) in moved {
+        for editions in [[0, 0], [0, 1], [1, 0], [1, 1]] {
+            let [one, other] = editions.map(|number| Edition::WRITTEN[number]);
+            let calls: Vec<Meant> = calls.iter().map(|call| (*call).clone()).collect();
+            let runs = [planned_run(one, &after), planned_run(other, &calls)];
+            let (plays, same) = both_planned(runs);
+            assert!(same, "{calls:?}");
+            for read in READERS {
+                let file = read(&plays[1].buffer, &other.form()).unwrap();
+                let [a, b, c] = offsets;
+                assert_eq!(file.offsets, [None, Some(a), Some(b), Some(c)]);
+                let node = |n: usize| {
+                    (
+                        file.tree.nodes[n].path.clone(),
+                        file.tree.nodes[n].bytes.clone(),
+                    )
+                };
+                assert_eq!(node(1), (b"/a".to_vec(), b"abc".to_vec()));
+                assert_eq!(node(2), (b"/a/b".to_vec(), vec![0xff, 0xff, 0xff, 0xba]));
+                assert_eq!(node(3), (b"/c".to_vec(), 1_f64.to_be_bytes().to_vec()));
+            }
+        }
+    }
+}
+
+/// What the tree does depend on is seen: makes in another order, a put that is missing, and a put to another node.
+#[test]
+fn differences_between_trees() {
+    let ([a, b, c], [chars, int, double]) = (three_makes(), three_puts());
+    let to_other_node = (Call::Put(3, 2, b"abc".to_vec()), true);
+    let calls = [&a, &b, &chars, &int, &c].map(Clone::clone);
+    let others = [
+        [&a, &c, &b, &chars, &int].map(Clone::clone).to_vec(),
+        [&a, &b, &chars, &c].map(Clone::clone).to_vec(),
+        [&a, &b, &int, &c, &to_other_node]
+            .map(Clone::clone)
+            .to_vec(),
+        [&a, &b, &chars, &int, &c, &double]
+            .map(Clone::clone)
+            .to_vec(),
+    ];
+    for edition in Edition::WRITTEN {
+        for other in &others {
+            let runs = [planned_run(edition, &calls), planned_run(edition, other)];
+            let (_, same) = both_planned(runs);
+            assert!(!same, "{other:?}");
+        }
+    }
+}
+
+/// Random runs with puts moved meet every kind, and each refusal that does not stop a run.
+#[test]
+fn kinds_of_moved_puts() {
+    let mut report = Report::default();
+    let (mut kinds, mut refusals) = (Vec::new(), BTreeSet::new());
+    for number in 0..300 {
+        let runs = random_runs(&Random::of(37, number));
+        let plays = runs.map(|planned| tree_by_calls::played(planned, None, &mut report));
+        kinds.extend(tree_by_calls::met(&plays));
+        let answers = plays.iter().flat_map(|played| &played.answers);
+        refusals.extend(
+            answers
+                .filter_map(|reported| reported.err())
+                .map(|(number, _)| number),
+        );
+    }
+    let counts = counted(kinds.into_iter());
+    assert_eq!(counts.len(), 1 + 2 + 2 + 3 + 3, "{counts:?}");
+    assert_eq!(Vec::from_iter(refusals), [14, 15, 17, 18, 19, 21, 22]);
 }
 
 /// P1 to P10. P3 and P4 are in edition 3, too; P5 is not.
