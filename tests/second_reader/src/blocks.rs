@@ -48,15 +48,6 @@ impl Block {
         self.first + self.order.len()
     }
 
-    /// Where a call as drawn is in the other order.
-    pub fn place(&self, number: usize) -> usize {
-        let in_block = number.wrapping_sub(self.first);
-        match self.order.iter().position(|put| *put == in_block) {
-            Some(place) => self.first + place,
-            None => number,
-        }
-    }
-
     /// The nodes of the block's puts.
     pub fn nodes(&self) -> Vec<u64> {
         self.puts().iter().map(|(node, _)| *node).collect()

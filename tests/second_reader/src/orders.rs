@@ -328,7 +328,9 @@ pub fn same_trees(
     let others = |file: &File| {
         let mut offsets = file.offsets.clone();
         for node in moved {
-            offsets[*node as usize] = None;
+            if let Some(offset) = offsets.get_mut(*node as usize) {
+                *offset = None;
+            }
         }
         offsets
     };
