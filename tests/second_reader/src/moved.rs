@@ -1,5 +1,5 @@
 //! Random pairs of runs for `TreeByCalls` of request C-23: the same makes in the same order, and the same puts, each anywhere after the make of its node. Refused
-//! calls, editions, forms, buffers, areas and allowances differ.
+//! calls, edition, form, buffer, areas and allowances are drawn for each run.
 
 use crate::format::{Edition, Kind};
 use crate::images::subkey;
