@@ -35,7 +35,7 @@ COMPARED = [
     ("images in memory: opening, every reading call, altered memory", "agree", 20_000, []),
     ("images through the programs `list` and `listall`", "lists", 500, [os.path.join(TARGET, "bin", name) for name in ("list", "listall")]),
     ("runs of the writer, whole and cut, altered memory", "writes", 5_000, []),
-    ("runs of the writer in which two neighbouring puts change places", "orders", 100_000, []),
+    ("runs of the writer with puts in different orders", "orders", 100_000, []),
     ("processes killed while they write into a mapped file", "kills", 2_000, [FOLDER]),
     ("runs stopped after each instruction", "steps", 20, [FOLDER]),
 ]
