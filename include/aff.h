@@ -174,8 +174,8 @@ uint32_t aff_decode(uint64_t kind, const uint8_t *bytes, size_t bytes_length, ui
 // each aff_put, if this is at most 2,147,483,647. (A name used again, and data that need fewer zeros than 7, take less.)
 //
 // The order of aff_put calls that follow each other does not show in the tree: make the nodes first, then put the data in whatever order they come. In a
-// buffer of that size, with an allowance of 7 more than its bytes for each aff_put, every order is accepted if one is, and the files show the same nodes, types, counts and
-// bytes. The files may differ in the places of the data, and by up to 7 bytes in size.
+// buffer of that size, with an allowance of at least 7 more than its bytes for each aff_put, every order is accepted if one is, and the files show the same
+// nodes, types, counts and bytes. The files may differ in the places of the data, and by up to 7 bytes in size.
 //
 // An allowance is the largest number of bytes that a call may store in the buffer; UINT64_MAX is no limit. After a refusal with 23 exactly that many
 // are stored, numbers[0] is their number, numbers[7] is 0, and the work areas are unchanged; the file cannot be continued. After any other refusal only
