@@ -69,26 +69,24 @@ abbrev pub AllFit : Tree → List PutData → Type 0
 AllFit tree [] = Unit {0}
 AllFit tree (d ∷ ds) = Fits tree d × Apart (d .node) ds × AllFit tree ds
 
--- A put to one node leaves what is asked of the others, both ways.
-fits-after : (tree : Tree) (c d : PutData) → 0 < c .node → (c .node ≡ d .node → ⊥) → Fits tree d → Fits (withPut tree c) d
-fits-after tree c d lo f h =
-    let same = node-other tree (c .node) (d .node) (filled (treeNode tree (c .node)) (dataKind (kindOf (c .type))) (c .bytes)) lo f in
-    record {
-      above = h .above;
-      there = omega (arith, h .there, length-set tree (c .node - 1) (filled (treeNode tree (c .node)) (dataKind (kindOf (c .type))) (c .bytes)));
-      void = ap (λ (t : Node). isVoid (t .kind)) same ∙ h .void;
-      right = h .right;
-    }
+-- It is so in any tree that is at least as long and has the same node there.
+pub fits-in : (tree other : Tree) (d : PutData) → length tree ≤ length other → treeNode other (d .node) ≡ treeNode tree (d .node) → Fits tree d → Fits other d
+fits-in tree other d more same h =
+    record { above = h .above; there = omega (arith, h .there, more); void = ap (λ (t : Node). isVoid (t .kind)) same ∙ h .void; right = h .right }
 
-fits-before : (tree : Tree) (c d : PutData) → 0 < c .node → (c .node ≡ d .node → ⊥) → Fits (withPut tree c) d → Fits tree d
-fits-before tree c d lo f h =
-    let same = node-other tree (c .node) (d .node) (filled (treeNode tree (c .node)) (dataKind (kindOf (c .type))) (c .bytes)) lo f in
-    record {
-      above = h .above;
-      there = omega (arith, h .there, length-set tree (c .node - 1) (filled (treeNode tree (c .node)) (dataKind (kindOf (c .type))) (c .bytes)));
-      void = ap (λ (t : Node). isVoid (t .kind)) (sym same) ∙ h .void;
-      right = h .right;
-    }
+-- So a put to one node leaves what is asked of the others, both ways.
+module _ (tree : Tree) (c d : PutData) (lo : 0 < c .node) (f : c .node ≡ d .node → ⊥) where
+  same-length : length (withPut tree c) ≡ length tree
+  same-length = length-set tree (c .node - 1) _
+
+  same-node : treeNode (withPut tree c) (d .node) ≡ treeNode tree (d .node)
+  same-node = node-other tree (c .node) (d .node) _ lo f
+
+  fits-after : Fits tree d → Fits (withPut tree c) d
+  fits-after = fits-in tree (withPut tree c) d (omega (arith, same-length)) same-node
+
+  fits-before : Fits (withPut tree c) d → Fits tree d
+  fits-before = fits-in (withPut tree c) tree d (omega (arith, same-length)) (sym same-node)
 
 pub all-after : (tree : Tree) (c : PutData) (ds : List PutData) → 0 < c .node → Apart (c .node) ds → AllFit tree ds → AllFit (withPut tree c) ds
 all-after tree c [] lo apart h = tt

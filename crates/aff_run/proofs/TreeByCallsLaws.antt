@@ -10,7 +10,7 @@ use lib.ListN.{length, getD, set, length-append, length-set}
 use lib.Seq.{set-append-left}
 use borrow.Author.Tests.{eqb-true, eqb-false}
 use Rattle.aff_format.specs.Answer.{Answer, accepted, refused, refusal}
-use Rattle.aff_format.specs.Kind.{kindCode, kindOf, isVoid}
+use Rattle.aff_format.specs.Kind.{kindCode, kindOf}
 use Rattle.aff_format.specs.Tree.{Node, Tree, root, treeNode}
 use Rattle.aff_format.specs.declared.edition.Edition.{Edition}
 use Rattle.aff_format.specs.declared.kind.FoundKind.{FoundKind}
@@ -24,7 +24,7 @@ use Rattle.aff_run.specs.AnswersFromTree.{callChecks, callValue, callAns
 use Rattle.aff_run.specs.Reordered.{PutData, putWith, Reordered, Apart, MakeData, makesOf, putsOf, NodesMade, NodesPut, TreeFrom}
 use Rattle.aff_run.specs.Run.{Call, make, put, close, State, answersOf, isAccepted, applyCall, treeAfter, callEnd}
 use Rattle.aff_run.proofs.MakeInvariantLaws.{node-old, node-new}
-use Rattle.aff_run.proofs.ReorderedLaws.{withPut, node-other, node-set, filled, Fits, AllFit, all-after, all-before, taken-apart, putAll, put-fits, now-taken, tree-reordered}
+use Rattle.aff_run.proofs.ReorderedLaws.{withPut, node-other, node-set, filled, Fits, AllFit, fits-in, all-after, all-before, taken-apart, putAll, put-fits, now-taken, tree-reordered}
 use Rattle.aff_run.proofs.StepLaws.{asleep-step, asleep-next}
 
 -- ---- A put and later makes.
@@ -39,12 +39,7 @@ makeAll tree (m ∷ ms) = makeAll (withChild tree (m .parent) (m .name)) ms
 
 fits-child : (tree : Tree) (d : PutData) (m : MakeData) → Fits tree d → Fits (withChild tree (m .parent) (m .name)) d
 fits-child tree d m h =
-    record {
-      above = h .above;
-      there = omega (arith, h .there, length-append tree (child m ∷ []));
-      void = ap (λ (t : Node). isVoid (t .kind)) (node-old tree (child m) (d .node) (h .there)) ∙ h .void;
-      right = h .right;
-    }
+    fits-in tree (withChild tree (m .parent) (m .name)) d (omega (arith, length-append tree (child m ∷ []))) (node-old tree (child m) (d .node) (h .there)) h
 
 put-child : (tree : Tree) (d : PutData) (m : MakeData) → Fits tree d → withPut (withChild tree (m .parent) (m .name)) d ≡ withChild (withPut tree d) (m .parent) (m .name)
 put-child tree d m h =
