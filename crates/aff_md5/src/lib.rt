@@ -1,11 +1,13 @@
 // MD5, the message digest of RFC 1321. `specs/Md5.antt` defines it; `md5`, at the end, is the one public function.
+#![tactic(auto)]
+
 ghost use Rattle.std.specs.Prelude.{◌≡◌, ◌+◌, ◌*◌, ◌/◌, ◌%◌, ◌<◌, ◌≤◌, ◌++◌, length, take, drop, replicate};
 ghost use Rattle.aff_md5.specs.Md5.{rotl, word as word_of, turn as turned, mix as mix_of, step as step_of, compress as compressed, le, zeros, pad, all_blocks, output as output_of, md5 as md5_of};
 ghost use Rattle.aff_md5.specs.passes.StepTables.{Tables};
 ghost use Rattle.aff_md5.specs.passes.WholeBlocks.{whole};
 
 // The four words A, B, C and D.
-#[derive(Drop)]
+#[derive(Clone, Copy)]
 struct State {
     a: u32,
     b: u32,
@@ -59,6 +61,7 @@ fn low(x: u64) -> u8
 }
 
 // The four bytes of x, the low byte first.
+#[tactic(auto, using(crate::proofs::Writing::le_four))]
 fn four_bytes(x: u32) -> [u8; 4]
     ensures { result ≡ le 4 x }
 {
@@ -67,6 +70,7 @@ fn four_bytes(x: u32) -> [u8; 4]
 }
 
 // The eight bytes of x, the low byte first.
+#[tactic(auto, using(crate::proofs::Writing::le_eight))]
 fn eight_bytes(x: u64) -> [u8; 8]
     ensures { result ≡ le 8 x }
 {
@@ -136,6 +140,7 @@ fn word(m: &[u8], k: usize) -> u32
 }
 
 // What a step makes of v, with f the round's function of v, x a word of the block, s a shift and t an additive constant.
+#[tactic(auto, unfolding(crate::specs::Md5::turn))]
 fn turn(v: State, f: u32, x: u32, s: u32, t: u32) -> State
     requires { (0 < s) × (s < 32) }
     ensures { result ≡ turned v f x s t }
@@ -172,6 +177,7 @@ fn mix(i: usize, x: u32, y: u32, z: u32) -> u32
 
 // v after step i on the block m; t, s and k are the tables `T`, `SHIFTS` and `WORDS`. The word and the constant are read before `mix`:
 // so ordered, the compiler adds the word to v.a beside the computation of `mix` and not after it.
+#[tactic(auto, using(crate::proofs::StepTables::shift_positive, crate::proofs::StepTables::shift_below, crate::proofs::StepTables::word_below), unfolding(crate::specs::Md5::step))]
 fn step(v: State, m: &[u8], t: &[u32; 64], s: &[u8; 64], k: &[u8; 64], i: usize) -> State
     requires { (length m.now ≡ 64) × Tables t.now s.now k.now × (i < 64) }
     ensures { result ≡ step_of m.now i v }
@@ -182,6 +188,7 @@ fn step(v: State, m: &[u8], t: &[u32; 64], s: &[u8; 64], k: &[u8; 64], i: usize)
 }
 
 // h after the block m.
+#[tactic(auto, using(crate::proofs::Steps::done), unfolding(crate::specs::Md5::steps))]
 fn compress(h: State, m: &[u8], t: &[u32; 64], s: &[u8; 64], k: &[u8; 64]) -> State
     requires { (length m.now ≡ 64) × Tables t.now s.now k.now }
     ensures { result ≡ compressed h m.now }
@@ -220,6 +227,7 @@ fn block<'a>(front: &'a [u8], back: &'a [u8], n: usize) -> &'a [u8]
 
 // h after the whole blocks of `front` and then those of `back`. All blocks of a message go through this one loop, those with its padding
 // too, so that the compiled code has the steps once.
+#[tactic(auto, unfolding(crate::specs::Md5::blocks))]
 fn absorb<'a>(
     h: State,
     front: &'a [u8],
@@ -252,6 +260,7 @@ fn padded_size(rest: usize) -> usize
 
 // The last bytes of a message, fewer than a block, with the padding for a message of so many bits: one block or two, and nothing is
 // said of the rest of the result.
+#[tactic(auto, using(crate::proofs::Padding::padded))]
 fn last(s: &[u8], bits: u64) -> [u8; 128]
     requires { length s.now < 64 }
     ensures { take (length (pad s.now bits)) result ≡ pad s.now bits }
@@ -268,6 +277,7 @@ fn last(s: &[u8], bits: u64) -> [u8; 128]
 }
 
 // The bytes of the four words, the low byte of each first.
+#[tactic(auto, unfolding(crate::specs::Md5::output))]
 fn output(v: State) -> [u8; 16]
     ensures { result ≡ output_of v }
 {
@@ -280,6 +290,7 @@ fn output(v: State) -> [u8; 16]
 }
 
 // The MD5 digest of a message of any length. The message is read where it is, not copied.
+#[tactic(auto, unfolding(crate::specs::Md5::additive, crate::specs::Md5::shifts, crate::specs::Md5::word_order))]
 pub fn md5(message: &[u8]) -> [u8; 16]
     ensures { result ≡ md5_of message.now }
 {
