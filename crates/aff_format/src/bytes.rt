@@ -4,6 +4,7 @@ ghost use Rattle.aff_format.specs.Bytes.{same_bytes, spliced};
 ghost use Rattle.aff_format.specs.passes.Written.{Written};
 
 // Whether two runs are the same bytes.
+#[tactic(auto, using(crate::proofs::SameLaws::same_lengths, crate::proofs::SameLaws::same_differ, crate::proofs::SameLaws::same_next, crate::proofs::SameLaws::same_end))]
 pub fn same(a: &[u8], b: &[u8]) -> bool
     ensures { result ≡ same_bytes a.now b.now }
 {
@@ -21,6 +22,7 @@ pub fn same(a: &[u8], b: &[u8]) -> bool
 }
 
 // Stores a run from a place on.
+#[tactic(auto, using(crate::proofs::CopyLaws::copied_none, crate::proofs::CopyLaws::copied_all))]
 pub fn put(out: &mut [u8], at: usize, run: &[u8])
     requires { at + length run.now ≤ length out.old }
     ensures { out.new ≡ spliced at run.now out.old }

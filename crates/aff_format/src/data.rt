@@ -5,6 +5,7 @@ ghost use Rattle.aff_format.specs.Entry.{outside};
 use crate::entry::Entry;
 
 // Whether an entry's data are not inside the `size` bytes from `from` on. The offset is added to nothing: the sum could wrap.
+#[tactic(auto, using(crate::proofs::TestLaws::left_short), unfolding(crate::specs::Entry::outside))]
 pub fn is_outside(entry: Entry, from: usize, size: usize) -> bool
     requires { from + size < 2147483648 }
     ensures { result ≡ outside from size entry }

@@ -9,7 +9,7 @@ use crate::number;
 use crate::section::Section;
 
 // An edition of the format.
-#[derive(Drop)]
+#[derive(Clone, Copy)]
 pub enum Edition {
     One,
     Two,
@@ -17,7 +17,7 @@ pub enum Edition {
 }
 
 // The edition of a number, if there is one.
-#[derive(Drop)]
+#[derive(Clone, Copy)]
 pub enum FoundEdition {
     Known(Edition),
     Unknown,
@@ -50,6 +50,7 @@ impl Edition {
     }
 
     // The first 20 bytes of the signature.
+    #[tactic(auto, unfolding(crate::specs::Edition::signature_text))]
     pub fn signature_text(self) -> [u8; 20]
         ensures { result ≡ signature_text self }
     {
@@ -150,6 +151,7 @@ impl Edition {
     }
 
     // The 12 bytes after the text as our programs expect them (docs/FORM.md).
+    #[tactic(auto, using(crate::proofs::EditionLaws::form_written), unfolding(crate::specs::Edition::number_form))]
     pub fn number_form(self) -> [u8; 12]
         ensures { result ≡ number_form self }
     {

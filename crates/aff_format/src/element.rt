@@ -7,7 +7,7 @@ use crate::number;
 use crate::refusal::Refusal;
 
 // A number of a node's data.
-#[derive(Drop)]
+#[derive(Clone, Copy)]
 pub enum Element {
     Byte(u8),
     Int(i32),
@@ -15,7 +15,7 @@ pub enum Element {
     Pair(f64, f64),
 }
 
-#[derive(Drop)]
+#[derive(Clone, Copy)]
 pub enum ElementAnswer {
     Value(Element),
     Refused(Refusal),
@@ -35,6 +35,7 @@ pub fn count_in(kind: Kind, bytes: &[u8]) -> usize
 }
 
 // Element k of the bytes of a kind, where there is one.
+#[tactic(auto, unfolding(crate::specs::Element::element_at))]
 fn element_at(kind: Kind, bytes: &[u8], k: usize) -> Element
     requires { k < count_in kind bytes.now }
     ensures { result ≡ element_at kind bytes.now k }
@@ -54,6 +55,7 @@ fn element_at(kind: Kind, bytes: &[u8], k: usize) -> Element
 
 // Element k of a view that the caller holds: `bytes` is the data part of a node of that kind. 16 where there is none. No other check
 // is paid for. Every NaN pattern is returned as the language's one NaN.
+#[tactic(auto, unfolding(crate::specs::Element::decoded))]
 pub fn decode(kind: Kind, bytes: &[u8], k: usize) -> ElementAnswer
     ensures { answer_of_element result ≡ decoded kind bytes.now k }
 {

@@ -11,7 +11,7 @@ use crate::number;
 
 // A node's entry in the tree table: its kind, its parent's number, its string's number, and of one that is not Void the count of its
 // elements and the place of its data; 0 for a Void one.
-#[derive(Drop)]
+#[derive(Clone, Copy)]
 pub struct Entry {
     pub kind: Kind,
     pub parent: u64,
@@ -21,7 +21,7 @@ pub struct Entry {
 }
 
 // The entry at a place; Broken where its type does not exist or it is cut short.
-#[derive(Drop)]
+#[derive(Clone, Copy)]
 pub enum FoundEntry {
     Whole(Entry),
     Broken,
@@ -76,6 +76,7 @@ fn type_at(bytes: &[u8], at: usize) -> FoundKind
 }
 
 // The entry in a run of bytes at a place.
+#[tactic(auto, using(crate::proofs::EntryLaws::entry_past), unfolding(crate::specs::Entry::entry_of))]
 pub fn entry_at(bytes: &[u8], at: usize) -> FoundEntry
     ensures { result ≡ entry_of (drop at bytes.now) }
 {

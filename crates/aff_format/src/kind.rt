@@ -4,7 +4,7 @@ ghost use Rattle.aff_format.specs.Kind.{kind_code, kind_of, element_size, entry_
 
 use crate::edition::Edition;
 
-#[derive(Drop)]
+#[derive(Clone, Copy)]
 pub enum Kind {
     Void,
     Char,
@@ -14,7 +14,7 @@ pub enum Kind {
 }
 
 // The kind of a code, if there is one.
-#[derive(Drop)]
+#[derive(Clone, Copy)]
 pub enum FoundKind {
     Known(Kind),
     Unknown,

@@ -1,4 +1,6 @@
 // The vocabulary of the AFF format: what opening, reading and writing share, and nothing that knows of a record.
+#![tactic(auto)]
+
 pub mod section; // the three sections
 pub mod edition; // the layout of each edition
 pub mod kind; // the types of a node

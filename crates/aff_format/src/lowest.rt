@@ -1,7 +1,7 @@
 // The lowest number of which something holds.
 
 // The lowest of some numbers, or none.
-#[derive(Drop)]
+#[derive(Clone, Copy)]
 pub enum Lowest {
     Nothing,
     At(usize),

@@ -38,6 +38,7 @@ pub fn be64(bytes: &[u8], at: usize) -> u64
 }
 
 // Writes the width low bytes of n at a place, the high one first.
+#[tactic(auto, using(crate::proofs::NumberLaws::put_done))]
 pub fn put_be(out: &mut [u8], at: usize, width: usize, n: u64)
     requires { at + width ≤ length out.old }
     ensures { out.new ≡ spliced at (be_bytes width n) out.old }
@@ -52,6 +53,7 @@ pub fn put_be(out: &mut [u8], at: usize, width: usize, n: u64)
 }
 
 // The signed number that 32 bits encode.
+#[tactic(auto, using(std::proofs::lemmas::Int::ints), unfolding(crate::specs::Number::twos_complement))]
 pub fn signed(n: u32) -> i32
     ensures { result ≡ twos_complement n }
 {

@@ -8,6 +8,7 @@ use crate::subkey;
 use crate::subkey::Grammar;
 
 // The place of the first slash from a place on, or the length.
+#[tactic(auto, using(crate::proofs::PathLaws::slash_here, crate::proofs::PathLaws::slash_later, crate::proofs::PathLaws::slash_none))]
 fn next_slash(path: &[u8], from: usize) -> usize
     requires { from ≤ length path.now }
     ensures { (result ≡ from + until_slash (drop from path.now)) × (from ≤ result) × (result ≤ length path.now) }
@@ -23,6 +24,7 @@ fn next_slash(path: &[u8], from: usize) -> usize
 }
 
 // The first fault of the subkeys after the first slash.
+#[tactic(auto, using(crate::proofs::PathLaws::parts_break, crate::proofs::PathLaws::parts_last, crate::proofs::PathLaws::parts_next))]
 fn parts(edition: Edition, path: &[u8]) -> Grammar
     requires { 0 < length path.now }
     ensures { result ≡ parts_from edition 1 (between_slashes (drop 1 path.now)) }
@@ -44,6 +46,7 @@ fn parts(edition: Edition, path: &[u8]) -> Grammar
 }
 
 // What the grammar of an edition finds in a path.
+#[tactic(auto, using(crate::proofs::PathLaws::grammar_empty, crate::proofs::PathLaws::grammar_start, crate::proofs::PathLaws::grammar_root, crate::proofs::PathLaws::grammar_parts))]
 pub fn grammar(edition: Edition, path: &[u8]) -> Grammar
     ensures { result ≡ path_grammar edition path.now }
 {

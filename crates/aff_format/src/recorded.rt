@@ -45,6 +45,7 @@ pub fn or_none(found: FoundEntry) -> Entry
 }
 
 // The entry of a node; the root has none of its own.
+#[tactic(auto, unfolding(crate::specs::Recorded::recorded_entry))]
 pub fn recorded_entry(image: &[u8], entries: &[u32], node: usize) -> Entry
     ensures { result ≡ recorded_entry image.now entries.now node }
 {
@@ -55,6 +56,7 @@ pub fn recorded_entry(image: &[u8], entries: &[u32], node: usize) -> Entry
 }
 
 // Where the string that begins at a place ends: at its zero, or at `end`. One pass over its bytes.
+#[tactic(auto, using(crate::proofs::RecordedLaws::ends_here, crate::proofs::RecordedLaws::ends_on, crate::proofs::RecordedLaws::ends_past_lem))]
 pub fn name_end(image: &[u8], from: usize, end: usize) -> usize
     requires { (from ≤ end) × (end ≤ length image.now) }
     ensures { (result ≡ from + length (name_from image.now end from)) × (from ≤ result) × (result ≤ end) }

@@ -7,7 +7,7 @@ use crate::limits;
 use crate::section::Section;
 
 // A case for each row of the table, with what it reports. Number 8 is withdrawn (request C-14), and no case has it.
-#[derive(Drop)]
+#[derive(Clone, Copy)]
 pub enum Refusal {
     // A work area or the 12 bytes has another length, or the image is too long.
     WrongLength,
@@ -65,7 +65,7 @@ pub enum Refusal {
 }
 
 // A refusal as it is reported: its number, its place, and the place in the name that 10 reports besides.
-#[derive(Drop)]
+#[derive(Clone, Copy)]
 pub struct RefusalCode {
     pub number: u32,
     pub place: usize,

@@ -3,7 +3,7 @@ ghost use Rattle.std.specs.Prelude.{◌≡◌};
 ghost use Rattle.aff_format.specs.Section.{section_number};
 
 // In the order in which they are checked.
-#[derive(Drop)]
+#[derive(Clone, Copy)]
 pub enum Section {
     Symbol,
     Tree,

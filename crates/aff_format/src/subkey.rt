@@ -6,7 +6,7 @@ ghost use Rattle.aff_format.specs.Subkey.{is_letter, narrow_first, narrow_next, 
 use crate::edition::Edition;
 
 // What a grammar finds: nothing wrong, or the place of the first byte that breaks it, or at which an empty subkey would begin.
-#[derive(Drop)]
+#[derive(Clone, Copy)]
 pub enum Grammar {
     Sound,
     BreaksAt(usize),
@@ -31,6 +31,7 @@ fn is_letter(x: u8) -> bool
 }
 
 // Whether a byte may begin a subkey of editions 1 and 2.
+#[tactic(auto, unfolding(crate::specs::Subkey::narrow_first))]
 fn narrow_first(x: u8) -> bool
     ensures { result ≡ narrow_first x }
 {
@@ -44,6 +45,7 @@ fn narrow_first(x: u8) -> bool
 }
 
 // Whether a byte may come after the first of a subkey of editions 1 and 2.
+#[tactic(auto, unfolding(crate::specs::Subkey::narrow_next))]
 fn narrow_next(x: u8) -> bool
     ensures { result ≡ narrow_next x }
 {
@@ -60,6 +62,7 @@ fn narrow_next(x: u8) -> bool
 }
 
 // Whether a byte may be in a subkey of edition 3.
+#[tactic(auto, unfolding(crate::specs::Subkey::wide))]
 fn is_wide(x: u8) -> bool
     ensures { result ≡ wide x }
 {
@@ -90,6 +93,7 @@ fn may_follow(edition: Edition, x: u8) -> bool
 }
 
 // What the rule finds in bytes[from..end].
+#[tactic(auto, using(crate::proofs::SubkeyLaws::begin_good, crate::proofs::SubkeyLaws::begin_bad, crate::proofs::SubkeyLaws::begin_empty, crate::proofs::SubkeyLaws::rest_good, crate::proofs::SubkeyLaws::rest_bad, crate::proofs::SubkeyLaws::rest_end))]
 pub fn subkey_within(edition: Edition, bytes: &[u8], from: usize, end: usize) -> Grammar
     requires { (from ≤ end) × (end ≤ length bytes.now) }
     ensures { result ≡ subkey_from edition from (part from (end - from) bytes.now) }

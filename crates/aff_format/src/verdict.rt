@@ -2,14 +2,14 @@
 use crate::refusal::Refusal;
 
 // The answer of a call that hands back no value of its own.
-#[derive(Drop)]
+#[derive(Clone, Copy)]
 pub enum Verdict {
     Accepted,
     Refused(Refusal),
 }
 
 // The answer of a call that hands back a number.
-#[derive(Drop)]
+#[derive(Clone, Copy)]
 pub enum NumberAnswer {
     Value(usize),
     Refused(Refusal),

@@ -1,0 +1,7 @@
+use Rattle.std.proofs.Common.{arith}
+use Rattle.std.proofs.Math.ListN.{length-set}
+use Rattle.aff_format.proofs.NumberLaws.{put_next}
+use Rattle.aff_format.proofs.number.put_be.Goals as goal
+
+pub loop-left-preserved : goal.loop-left-preserved
+loop-left-preserved c = grind (arith, put_next, length-set)
