@@ -37,10 +37,10 @@ use Rattle.aff_tables.proofs.ParentLaws.{reaches_same}
 use Rattle.aff_format.proofs.RecordedLaws.{name_part}
 
 -- Strings judged one by one.
-pub judged_name : (e : Edition) (image : List ℕ) (from end to : ℕ) (found g : Grammar) → (from ≤ end) × (end ≤ length image)
-    → to ≡ from + length (name_from image end from) → found ≡ subkey_from e from (part from (to - from) image) → found ≡ g
+pub judged_name : (e : Edition) (image : List ℕ) (from end to : ℕ) (finding g : Grammar) → (from ≤ end) × (end ≤ length image)
+    → to ≡ from + length (name_from image end from) → finding ≡ subkey_from e from (part from (to - from) image) → finding ≡ g
     → bit (is_sound g) ≡ bit (is_subkey e (name_from image end from))
-judged_name e image from end to found g h t r q = rw (← q, r, name_part image end from to h.0 h.1 t, sound_shift e from (name_from image end from))
+judged_name e image from end to finding g h t r q = rw (← q, r, name_part image end from to h.0 h.1 t, sound_shift e from (name_from image end from))
 
 -- The place at which a string breaks, by the place in the image that the rule finds.
 module _ (e : Edition) (image : List ℕ) (from end to : ℕ) (g : Grammar) (within : (from ≤ end) × (end ≤ length image))

@@ -115,7 +115,7 @@ symbol_numbers e records section =
 pub symbols_clear : (e : Edition) (records : ℕ) (section : List ℕ) → Clear (symbol_checks e records section)
     → (length (strings_of section) ≤ string_limit) × (lowest_from (repeats (strings_of section)) (length (strings_of section)) 0 ≡ Nothing)
 symbols_clear e records section (many, (_, repeated)) =
-    (ltb-false _ _ many, (clear_lowest _ (lowest_from (repeats (strings_of section)) (length (strings_of section)) 0) [] repeated).0)
+    (ltb-false _ _ many, (clear_lowest (refusal_at 27) (lowest_from (repeats (strings_of section)) (length (strings_of section)) 0) [] repeated).0)
 
 -- What the table of a section reports, and its area where it accepts.
 module _ (e : Edition) (records : ℕ) (image : List ℕ) (from size : ℕ) (area₀ area : List ℕ) where

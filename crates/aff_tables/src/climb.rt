@@ -15,6 +15,7 @@ fn index(x: u32) -> usize
 
 // Climbs from k and marks each node it meets with k, up to the root or a marked node. It came to the root unless it met its own mark: an
 // earlier climb, which came there, has made any other. One step for each mark it sets, and one more.
+#[tactic(auto, using(crate::proofs::MarkLaws::at_mine, crate::proofs::MarkLaws::at_good, crate::proofs::MarkLaws::at_root))]
 fn trail(parents: &[u32], nodes: usize, k: usize, marks: &mut [u32]) -> bool
     requires { ClimbReady parents.now nodes k marks.old }
     ensures { Climbed (copied_parent parents.now) nodes k marks.new result }
@@ -36,6 +37,7 @@ fn trail(parents: &[u32], nodes: usize, k: usize, marks: &mut [u32]) -> bool
 
 // The lowest node whose climb does not reach the root. Each node is marked once at most and each climb goes one step past its marks, so all
 // climbs together take at most two steps a node.
+#[tactic(auto, using(crate::proofs::MarkLaws::next_endless, crate::proofs::MarkLaws::next_passed, crate::proofs::MarkLaws::all_passed))]
 pub fn climbs(parents: &[u32], nodes: usize) -> Lowest
     requires { ParentsExist parents.now nodes }
     ensures { result ≡ lowest_from (λ k. not (reaches_by (copied_parent parents.now) nodes k)) nodes 1 }

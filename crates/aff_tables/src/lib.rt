@@ -1,5 +1,7 @@
 // The tables of a file, over the bytes of their sections: the symbol table (25 to 27), the tree table (9), and what is asked of the nodes (10 to 13).
 // The two tables ask for sections that lie inside the image. Each pass reports the first fault in document 01's order.
+#![tactic(auto)]
+
 mod counts; // record counts
 pub mod symbols; // the symbol table
 mod distinct; // equal strings, and equal siblings

@@ -57,6 +57,7 @@ fn link_bad(entry: Entry, nodes: usize, strings: usize, sound: &[u8]) -> bool
 
 // The lowest node whose parent or string does not exist or whose string is no subkey; parents and string numbers are copied on the way.
 // One entry read a node.
+#[tactic(auto, using(aff_format::proofs::LowestLaws::lowest_here, aff_format::proofs::LowestLaws::lowest_end))]
 fn links(
     image: &[u8],
     entries: &[u32],
@@ -105,6 +106,7 @@ pub fn linked(
 }
 
 // The place in the string that begins at a place of the image, counted from there, at which it breaks the rule for a subkey; 0 where it is one.
+#[tactic(auto, using(crate::proofs::LinkLaws::break_sound, crate::proofs::LinkLaws::break_at))]
 fn break_in(image: &[u8], edition: Edition, from: usize, end: usize) -> usize
     requires { (from ≤ end) × (end ≤ length image.now) }
     ensures { result ≡ break_place (subkey_from edition 0 (name_from image.now end from)) }
@@ -117,6 +119,7 @@ fn break_in(image: &[u8], edition: Edition, from: usize, end: usize) -> usize
 }
 
 // The second number of 10: the place at which a node's name breaks, 0 where its string does not exist. Reads the entry, and its string where there is one.
+#[tactic(auto, using(crate::proofs::LinkLaws::break_none, crate::proofs::LinkLaws::break_some))]
 pub fn name_break(
     image: &[u8],
     edition: Edition,

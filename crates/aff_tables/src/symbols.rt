@@ -11,14 +11,14 @@ use crate::{counts, distinct};
 use aff_format::{Edition, Lowest};
 
 // How many strings there are, or more than the area has places.
-#[derive(Drop)]
+#[derive(Clone, Copy)]
 pub enum SplitResult {
     Strings(usize),
     TooMany,
 }
 
 // The first fault of a symbol table, or how many strings it has.
-#[derive(Drop)]
+#[derive(Clone, Copy)]
 pub enum Symbols {
     Strings(usize),
     // 25.
@@ -31,6 +31,7 @@ pub enum Symbols {
 
 // Stores where each string of a section begins; the section begins at place `first` of the image. Bytes after the last zero are one more string.
 // One pass over the section.
+#[tactic(auto, using(crate::proofs::SplitLaws::split_skip))]
 fn split(section: &[u8], first: usize, places: &mut [u32]) -> SplitResult
     requires { first + length section.now < 2147483648 }
     ensures value { result ≡ split_of (length places.old) (length (strings_of section.now)) }
@@ -84,6 +85,7 @@ fn counted(
 
 // 25 to 27, of the symbol section, `size` bytes from `from` on, with the record count of its header: the table's first fault, or how many strings it
 // has, with where each begins stored. The last string ends at its zero or, where it has none, at the section's end.
+#[tactic(auto, using(crate::proofs::SymbolLaws::table_places, crate::proofs::SymbolLaws::table_counted))]
 pub fn symbol_table(
     image: &[u8],
     edition: Edition,
@@ -94,7 +96,7 @@ pub fn symbol_table(
 ) -> Symbols
     requires { (from + size ≤ length image.now) × (length image.now < 2147483648) × (length places.old ≡ 2048) }
     ensures value { result ≡ symbols_of edition records (part from size image.now) }
-    ensures by_index { (n : ℕ) → answer_of_symbols result ≡ accepted n → places.new ≡ laid_over places.old (places_of from (strings_of (part from size image.now))) }
+    ensures stored { (n : ℕ) → answer_of_symbols result ≡ accepted n → places.new ≡ laid_over places.old (places_of from (strings_of (part from size image.now))) }
 {
     let end = from + size;
     match split(&image[from..end], from, places) {

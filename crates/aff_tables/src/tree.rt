@@ -10,14 +10,14 @@ use crate::counts;
 use aff_format::{Edition, FoundEntry, entry};
 
 // How many whole entries there are, or the number of the one that is not.
-#[derive(Drop)]
+#[derive(Clone, Copy)]
 pub enum WalkResult {
     Nodes(usize),
     BrokenAt(usize),
 }
 
 // What is wrong with a tree table, or how many nodes it has.
-#[derive(Drop)]
+#[derive(Clone, Copy)]
 pub enum TreeTable {
     Nodes(usize),
     BrokenAt(usize),
@@ -38,6 +38,7 @@ fn entry_size(section: &[u8], at: usize) -> usize
 }
 
 // Stores where each entry of a section begins; the section begins at place `first` of the image. At most as many turns as the area has places.
+#[tactic(auto, using(crate::proofs::WalkLaws::walk_buffer, crate::proofs::WalkLaws::walk_none, crate::proofs::WalkLaws::walk_ended, crate::proofs::WalkLaws::walk_broken))]
 fn walk(section: &[u8], first: usize, places: &mut [u32]) -> WalkResult
     requires { first + length section.now < 2147483648 }
     ensures value { result ≡ walk_of (length (entries_in (length places.old) section.now)) (bytes_after_entries (length places.old) section.now) }
@@ -72,8 +73,8 @@ pub fn tree_table(
     places: &mut [u32],
 ) -> TreeTable
     requires { (from + size ≤ length image.now) × (length image.now < 2147483648) × (length places.old ≡ 2048) }
-    ensures result_value { answer_of_tree result ≡ first_wrong (tree_checks edition records (part from size image.now)) (length (entries_of (part from size image.now))) }
-    ensures by_index { (n : ℕ) → answer_of_tree result ≡ accepted n → places.new ≡ laid_over places.old (entry_places from (entries_of (part from size image.now))) }
+    ensures value { answer_of_tree result ≡ first_wrong (tree_checks edition records (part from size image.now)) (length (entries_of (part from size image.now))) }
+    ensures stored { (n : ℕ) → answer_of_tree result ≡ accepted n → places.new ≡ laid_over places.old (entry_places from (entries_of (part from size image.now))) }
 {
     let end = from + size;
     match walk(&image[from..end], from, places) {
