@@ -1,5 +1,5 @@
 -- Byte stores and the buffer that they leave: document 01, 'Writing keys'.
-use Rattle.std.specs.Prelude.{cond, List, [], ◌∷◌, ℕ, ◌+◌, eqb, length, set, take}
+use Rattle.std.specs.Prelude.{cond, List, [], ◌∷◌, ℕ, ◌+◌, eqb, set, take}
 use Rattle.aff_format.specs.Answer.{Answer, accepted, refused}
 
 pub record Store : Type 0 where

@@ -18,6 +18,7 @@ pub fn found_slot(tree: &[u8], node: usize) -> FoundEntry
 }
 
 // The entry of a node; the root has none of its own.
+#[tactic(auto, unfolding(crate::specs::Areas::slot_entry))]
 pub fn slot_entry(tree: &[u8], node: usize) -> Entry
     requires { node ≤ node_limit }
     ensures { result ≡ slot_entry tree.now node }
@@ -39,6 +40,7 @@ fn entry_size(tree: &[u8], node: usize) -> usize
 }
 
 // Bytes of the entries of the nodes in a file. One pass over the nodes.
+#[tactic(auto, unfolding(crate::specs::Areas::entry_sizes))]
 fn entry_sizes(tree: &[u8], nodes: usize) -> usize
     requires { nodes ≤ node_limit }
     ensures { (result ≡ entry_sizes tree.now nodes) × (result ≤ 25 * nodes) }
@@ -53,6 +55,7 @@ fn entry_sizes(tree: &[u8], nodes: usize) -> usize
 }
 
 // Finished size: header and data up to their end, text, entries.
+#[tactic(auto, unfolding(crate::specs::Areas::finished_size))]
 pub fn finished_size(writer: Writer, tree: &[u8]) -> usize
     requires { (writer.end ≤ image_limit) × (writer.text ≤ text_area) × (writer.nodes ≤ node_limit) }
     ensures { result ≡ finished_size writer tree.now }
@@ -71,6 +74,7 @@ fn one_with_data(tree: &[u8], node: usize) -> usize
 }
 
 // How many nodes are not Void. One pass over the nodes.
+#[tactic(auto, unfolding(crate::specs::Areas::data_nodes))]
 pub fn data_nodes(tree: &[u8], nodes: usize) -> usize
     requires { nodes ≤ node_limit }
     ensures { (result ≡ data_nodes tree.now nodes) × (result ≤ nodes) }
@@ -98,6 +102,7 @@ fn put_entry(tree: &[u8], node: usize, at: usize, out: &mut [u8]) -> usize
 
 // The entries of the nodes as a file has them, at the front of an area of the tree area's size. It answers their bytes. One pass over the
 // nodes.
+#[tactic(auto, using(crate::proofs::AreaLaws::entries_next, crate::proofs::AreaLaws::length_entries_out_more, aff_format::proofs::BytesLaws::spliced_nil), unfolding(crate::specs::Areas::entries_out))]
 pub fn entries_out(tree: &[u8], nodes: usize, out: &mut [u8]) -> usize
     requires { (nodes ≤ node_limit) × (length tree.now ≡ tree_area) × (length out.old ≡ tree_area) }
     ensures size { result ≡ length (entries_out tree.now nodes) }
@@ -122,6 +127,7 @@ pub fn put_slot(tree: &mut [u8], node: usize, entry: Entry)
 }
 
 // Stores a name and its zero in the text area.
+#[tactic(auto, using(crate::proofs::AreaLaws::name_stored))]
 pub fn put_name(text: &mut [u8], at: usize, name: &[u8])
     requires { at + length name.now < length text.old }
     ensures { text.new ≡ spliced at (name.now ++ (0 ∷ [])) text.old }

@@ -13,6 +13,7 @@ use crate::writer::Writer;
 use aff_format::{Edition, FoundEntry, Lowest, Refusal, Verdict, data, limits};
 
 // The buffer's length, the areas' sizes and the counts.
+#[tactic(auto, unfolding(crate::specs::Belongs::writer_sizes_belong))]
 fn sizes(buffer: &[u8], writer: Writer, text: &[u8], tree: &[u8]) -> bool
     ensures { result ≡ writer_sizes_belong (length buffer.now) writer text.now tree.now }
 {
@@ -53,6 +54,7 @@ fn zeros(bytes: &[u8]) -> usize
 }
 
 // Whether there is no byte, or the last is zero.
+#[tactic(auto, using(aff_format::proofs::StringsLaws::ends_in_zero_none, aff_format::proofs::StringsLaws::ends_in_zero_last))]
 fn ends_in_zero(bytes: &[u8]) -> bool
     ensures { result ≡ ends_in_zero bytes.now }
 {
@@ -63,6 +65,7 @@ fn ends_in_zero(bytes: &[u8]) -> bool
 }
 
 // Whether the text area holds the recorded number of strings in the recorded length.
+#[tactic(auto, using(crate::proofs::BelongsLaws::unended_decides, crate::proofs::BelongsLaws::zeros_decide))]
 fn text_belongs(writer: Writer, text: &[u8]) -> bool
     requires { writer.text ≤ length text.now }
     ensures { result ≡ text_belongs writer text.now }
@@ -94,6 +97,7 @@ fn slot_lost(found: FoundEntry, strings: usize, from: usize, size: usize, k: usi
 }
 
 // The lowest node whose entry is not one that it may have. One entry read a node.
+#[tactic(auto, using(aff_format::proofs::LowestLaws::lowest_here, aff_format::proofs::LowestLaws::lowest_on, aff_format::proofs::LowestLaws::lowest_end, crate::proofs::BelongsLaws::node_judged))]
 fn lost_node(tree: &[u8], nodes: usize, strings: usize, from: usize, size: usize) -> Lowest
     requires { (nodes ≤ node_limit) × (from + size < 2147483648) }
     ensures { result ≡ lowest_from (writer_node_lost strings from size tree.now) nodes 1 }
@@ -109,6 +113,7 @@ fn lost_node(tree: &[u8], nodes: usize, strings: usize, from: usize, size: usize
 }
 
 // Whether the end of data, the nodes and the finished size belong. The end is bounded by the buffer before anything is added to it.
+#[tactic(auto, using(crate::proofs::BelongsLaws::header_decides, crate::proofs::BelongsLaws::end_decides, crate::proofs::BelongsLaws::lost_decides, crate::proofs::BelongsLaws::size_decides))]
 fn nodes_belong(writer: Writer, tree: &[u8]) -> bool
     requires { (writer.length ≤ image_limit) × (writer.text ≤ text_area) × (writer.nodes ≤ node_limit) }
     ensures { result ≡ writer_nodes_belong writer tree.now }
@@ -133,6 +138,7 @@ fn nodes_belong(writer: Writer, tree: &[u8]) -> bool
 }
 
 // Whether a record belongs to buffer and areas.
+#[tactic(auto, using(crate::proofs::BelongsLaws::edition_decides, crate::proofs::BelongsLaws::sizes_decide, crate::proofs::BelongsLaws::text_decides, crate::proofs::BelongsLaws::nodes_decide, crate::proofs::BelongsLaws::sizes_hold))]
 pub fn belongs(buffer: &[u8], writer: Writer, text: &[u8], tree: &[u8]) -> bool
     ensures { result ≡ belongs_of (length buffer.now) writer text.now tree.now }
 {

@@ -17,6 +17,7 @@ fn mark(string: &[u8], name: &[u8]) -> u8
 
 // Marks each string of a text: 1 where it is the name, else 0. One pass: the end of each string is searched once, and its bytes are compared
 // only where it is as long as the name.
+#[tactic(auto, using(crate::proofs::NameLaws::mark_buffer, crate::proofs::NameLaws::mark_all))]
 pub fn mark_strings(text: &[u8], name: &[u8], marks: &mut [u8])
     requires { (ends_in_zero text.now ≡ true) × (length (strings_of text.now) ≤ length marks.old) }
     ensures { marks.new ≡ laid_over marks.old (marks_of name.now (strings_of text.now)) }
@@ -32,6 +33,7 @@ pub fn mark_strings(text: &[u8], name: &[u8], marks: &mut [u8])
 }
 
 // The lowest place of a 1 among the first marks; their number where there is none.
+#[tactic(auto, using(crate::proofs::NameLaws::first_here, crate::proofs::NameLaws::first_on, crate::proofs::NameLaws::first_end))]
 pub fn first_mark(marks: &[u8], count: usize) -> usize
     requires { count ≤ length marks.now }
     ensures { result ≡ first_mark (take count marks.now) }
@@ -63,6 +65,7 @@ fn is_marked(marks: &[u8], tree: &[u8], parent: usize, node: usize) -> bool
 }
 
 // Whether some node is a child of the parent and its string is marked. One entry read a node.
+#[tactic(auto, using(aff_format::proofs::LowestLaws::lowest_here, aff_format::proofs::LowestLaws::lowest_on, aff_format::proofs::LowestLaws::lowest_end))]
 pub fn any_marked(marks: &[u8], tree: &[u8], nodes: usize, parent: usize) -> bool
     requires { nodes ≤ node_limit }
     ensures { result ≡ is_at (lowest_from (is_marked marks.now tree.now parent) nodes 1) }

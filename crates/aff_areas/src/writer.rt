@@ -9,7 +9,7 @@ use aff_format::{Edition, NumberAnswer, Refusal, bytes};
 
 // What begin, make and put leave for the next call: the buffer's length, the number of the edition, the 12 bytes of form, how many strings and how many bytes of text,
 // how many nodes, the place where the data end, and whether the file is neither closed nor stopped.
-#[derive(Drop)]
+#[derive(Clone, Copy)]
 pub struct Writer {
     pub length: usize,
     pub edition: u32,
@@ -22,7 +22,7 @@ pub struct Writer {
 }
 
 // The answer of a writer's call, and the record after it.
-#[derive(Drop)]
+#[derive(Clone, Copy)]
 pub struct Writing {
     pub answer: NumberAnswer,
     pub writer: Writer,
@@ -136,6 +136,7 @@ pub fn refused(refusal: Refusal, writer: Writer) -> Writing
 }
 
 // The 12 bytes of a form.
+#[tactic(auto, using(aff_format::proofs::BytesLaws::spliced_whole))]
 fn form_of(form: &[u8]) -> [u8; 12]
     requires { length form.now ≡ 12 }
     ensures { result ≡ form.now }
