@@ -7,13 +7,14 @@ ghost use Rattle.aff_spelling.specs.Spelling.{hex_digit, is_plain, shown_byte, s
 use aff_format::bytes;
 
 // The bytes of a name themselves; or as the listers print them: a byte below 33, above 126 or equal to 92 as `\x` and two small hex digits (request C-15).
-#[derive(Drop)]
+#[derive(Clone, Copy)]
 pub enum Spelling {
     Raw,
     Escaped,
 }
 
 // Whether a byte is printed as it is.
+#[tactic(auto, unfolding(crate::specs::Spelling::is_plain))]
 fn is_plain(x: u8) -> bool
     ensures { result ≡ is_plain x }
 {
@@ -27,6 +28,7 @@ fn is_plain(x: u8) -> bool
 }
 
 // A hex digit as a character.
+#[tactic(auto, unfolding(crate::specs::Spelling::hex_digit))]
 fn hex_digit(n: u8) -> u8
     requires { n < 16 }
     ensures { result ≡ hex_digit n }
@@ -35,6 +37,7 @@ fn hex_digit(n: u8) -> u8
 }
 
 // How many bytes are printed for a byte.
+#[tactic(auto, unfolding(crate::specs::Spelling::shown_byte))]
 fn shown_size(x: u8) -> usize
     ensures { result ≡ length (shown_byte x) }
 {
@@ -42,6 +45,7 @@ fn shown_size(x: u8) -> usize
 }
 
 // Stores what is printed for a byte, and returns where it ends.
+#[tactic(auto, unfolding(crate::specs::Spelling::shown_byte))]
 fn put_shown_byte(x: u8, at: usize, out: &mut [u8]) -> usize
     requires { at + length (shown_byte x) ≤ length out.old }
     ensures { Written at (shown_byte x) out.old out.new result }
@@ -54,6 +58,7 @@ fn put_shown_byte(x: u8, at: usize, out: &mut [u8]) -> usize
 }
 
 // The length of what is printed for some bytes, counted no further than one past a limit. One pass, over no more bytes than the limit and one.
+#[tactic(auto, using(crate::proofs::ShownLaws::counted_none, crate::proofs::ShownLaws::counted_past, crate::proofs::ShownLaws::counted_next, crate::proofs::ShownLaws::counted_all))]
 fn shown_length(run: &[u8], limit: usize) -> usize
     requires { limit < 2 ^ 63 }
     ensures { result ≡ capped limit (length (shown run.now)) }
@@ -72,6 +77,7 @@ fn shown_length(run: &[u8], limit: usize) -> usize
 }
 
 // Stores what is printed for some bytes, and returns where it ends. One pass over the bytes.
+#[tactic(auto, using(crate::proofs::ShownLaws::byte_fits, crate::proofs::ShownLaws::put_all))]
 fn put_shown(run: &[u8], at: usize, out: &mut [u8]) -> usize
     requires { at + length (shown run.now) ≤ length out.old }
     ensures { Written at (shown run.now) out.old out.new result }
