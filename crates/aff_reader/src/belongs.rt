@@ -13,6 +13,7 @@ use aff_format::{Edition, Entry, FoundEntry, Lowest, data, limits, recorded};
 use aff_tables::climb;
 
 // The image's length, the areas' sizes, the counts and the edition.
+#[tactic(auto, unfolding(crate::specs::Belongs::sizes_belong))]
 fn sizes(image: &[u8], reader: Reader, strings: &[u32], entries: &[u32]) -> bool
     ensures { result ≡ sizes_belong image.now reader strings.now entries.now }
 {
@@ -38,6 +39,7 @@ fn sizes(image: &[u8], reader: Reader, strings: &[u32], entries: &[u32]) -> bool
 }
 
 // Whether a section lies inside the image. Offset and size are not added: the sum could wrap.
+#[tactic(auto, unfolding(crate::specs::Belongs::span_inside))]
 fn span_inside(image: &[u8], span: Span) -> bool
     ensures { result ≡ span_inside image.now span }
 {
@@ -48,6 +50,7 @@ fn span_inside(image: &[u8], span: Span) -> bool
     span.size <= length - span.offset
 }
 
+#[tactic(auto, unfolding(crate::specs::passes::Belongs::sections_inside))]
 fn sections_inside(image: &[u8], reader: Reader) -> bool
     ensures { result ≡ sections_inside image.now reader }
 {
@@ -65,6 +68,7 @@ fn sections_inside(image: &[u8], reader: Reader) -> bool
 
 // The lowest string that does not begin inside the symbol section, which begins at `from` and ends at `end`. Two comparisons a string. A string ends at
 // its zero or at the section's end.
+#[tactic(auto, using(crate::proofs::LostLaws::string_asks, aff_format::proofs::LowestLaws::lowest_here, aff_format::proofs::LowestLaws::lowest_on, aff_format::proofs::LowestLaws::lowest_end))]
 fn lost_string(from: usize, end: usize, strings: &[u32], count: usize) -> Lowest
     ensures { result ≡ lowest_from (string_lost from end strings.now) count 0 }
 {
@@ -97,6 +101,7 @@ fn entry_lost(entry: Entry, size: usize, strings: usize, nodes: usize) -> bool
 }
 
 // The lowest node whose entry is none or has such a fault; parents are copied on the way. One pass over the nodes.
+#[tactic(auto, using(crate::proofs::LostLaws::node_broken, aff_format::proofs::LowestLaws::lowest_here, aff_format::proofs::LowestLaws::lowest_end))]
 fn lost_node(
     image: &[u8],
     entries: &[u32],
@@ -127,6 +132,7 @@ fn lost_node(
 }
 
 // The entries, then the climbs.
+#[tactic(auto, using(crate::proofs::BelongsLaws::climbs_decide, crate::proofs::BelongsLaws::nodes_linked), unfolding(crate::specs::passes::Belongs::nodes_belong))]
 fn nodes_belong(image: &[u8], reader: Reader, entries: &[u32]) -> bool
     requires { (length image.now ≤ image_limit) × (reader.nodes ≤ node_limit) }
     ensures { result ≡ nodes_belong image.now reader entries.now }
@@ -142,6 +148,7 @@ fn nodes_belong(image: &[u8], reader: Reader, entries: &[u32]) -> bool
 }
 
 // The strings, then the nodes.
+#[tactic(auto, unfolding(crate::specs::passes::Belongs::tables_belong))]
 fn tables_belong(image: &[u8], reader: Reader, strings: &[u32], entries: &[u32]) -> bool
     requires { (length image.now ≤ image_limit) × (reader.nodes ≤ node_limit) × (reader.symbols.offset + reader.symbols.size ≤ length image.now) }
     ensures { result ≡ tables_belong image.now reader strings.now entries.now }
@@ -155,6 +162,7 @@ fn tables_belong(image: &[u8], reader: Reader, strings: &[u32], entries: &[u32])
 }
 
 // 24: over all that is recorded, whatever the record and the areas hold. One pass over the strings, one over the nodes, and their climbs.
+#[tactic(auto, using(crate::proofs::BelongsLaws::sizes_decide, crate::proofs::BelongsLaws::sections_decide, crate::proofs::BelongsLaws::tables_decide, crate::proofs::BelongsLaws::sizes_hold, crate::proofs::BelongsLaws::sections_hold))]
 pub fn belongs(image: &[u8], reader: Reader, strings: &[u32], entries: &[u32]) -> bool
     ensures { result ≡ belongs_of image.now reader strings.now entries.now }
 {

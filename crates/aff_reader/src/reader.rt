@@ -3,14 +3,14 @@ ghost use Rattle.std.specs.Prelude.{◌≡◌};
 ghost use Rattle.aff_reader.specs.Reader.{no_span, no_reader};
 
 // A section: where it begins, and its bytes.
-#[derive(Drop)]
+#[derive(Clone, Copy)]
 pub struct Span {
     pub offset: usize,
     pub size: usize,
 }
 
 // What an accepted opening found. It belongs to the image and the two areas that were passed.
-#[derive(Drop)]
+#[derive(Clone, Copy)]
 pub struct Reader {
     pub length: usize,
     pub edition: u32,
