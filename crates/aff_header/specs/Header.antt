@@ -1,5 +1,5 @@
 -- The header of a written file: document 01, 'Layout of a file'.
-use Rattle.std.specs.Prelude.{Bool, true, false, cond, List, [], ◌∷◌, ◌++◌, map, ℕ, length}
+use Rattle.std.specs.Prelude.{cond, List, [], ◌++◌, map, ℕ, length}
 use Rattle.aff_md5.specs.Md5.{md5}
 use Rattle.aff_format.specs.Bytes.{joined}
 use Rattle.aff_format.specs.Edition.{has_counts, header_order, signature_text}

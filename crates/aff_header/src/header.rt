@@ -7,6 +7,7 @@ ghost use Rattle.aff_header.specs.Header.{section_numbers, section_header, with_
 use aff_format::{Edition, bytes, number};
 
 // Offset, size and, where the edition has it, record count of a section, at a place.
+#[tactic(auto, using(crate::proofs::HeaderLaws::with_count, crate::proofs::HeaderLaws::without_count))]
 fn put_numbers(
     out: &mut [u8],
     edition: Edition,
@@ -26,6 +27,7 @@ fn put_numbers(
 }
 
 // The header of a section that begins at `offset`, has `count` records and holds some bytes, at a place.
+#[tactic(auto, using(crate::proofs::HeaderLaws::section_over))]
 pub fn put_section(
     out: &mut [u8],
     edition: Edition,
@@ -47,6 +49,7 @@ pub fn put_section(
 }
 
 // The signature: its text and the 12 bytes of form.
+#[tactic(auto, using(crate::proofs::HeaderLaws::signature_over))]
 pub fn put_signature(out: &mut [u8], edition: Edition, form: [u8; 12])
     requires { signature_size ≤ length out.old }
     ensures area { out.new ≡ spliced 0 (signature_text edition ++ form) out.old }
@@ -58,6 +61,7 @@ pub fn put_signature(out: &mut [u8], edition: Edition, form: [u8; 12])
 }
 
 // The header sum after the front of a header.
+#[tactic(auto, using(crate::proofs::HeaderLaws::sum_over))]
 pub fn put_sum(out: &mut [u8], edition: Edition)
     requires { header_size edition ≤ length out.old }
     ensures { take (header_size edition) out.new ≡ with_sum (take (header_sum_at edition) out.old) }
