@@ -16,6 +16,7 @@ use aff_areas::{areas, belongs, names, writer};
 use aff_format::{Edition, Entry, Grammar, Kind, NumberAnswer, Refusal, Verdict, limits, subkey};
 
 // Bytes that a name adds to the text; `string` is the number of the lowest string that is the name, or the number of strings.
+#[tactic(auto, using(crate::proofs::MakeLaws::added_old, crate::proofs::MakeLaws::added_new))]
 fn added_text(writer: Writer, text: &[u8], name: &[u8], string: usize) -> usize
     requires { (string ≡ index_in name.now (names_in writer text.now)) × (length (names_in writer text.now) ≡ writer.strings) }
     ensures { result ≡ added_text writer text.now name.now }
@@ -28,9 +29,10 @@ fn added_text(writer: Writer, text: &[u8], name: &[u8], string: usize) -> usize
 }
 
 // 20.
+#[tactic(auto, using(crate::proofs::MakeLaws::many_nodes, crate::proofs::MakeLaws::many_old, crate::proofs::MakeLaws::many_strings))]
 fn too_many(writer: Writer, text: &[u8], name: &[u8], string: usize) -> bool
-    requires string_value { (string ≡ index_in name.now (names_in writer text.now)) × (length (names_in writer text.now) ≡ writer.strings) }
-    requires nodes_le_node_limit { (writer.nodes ≤ node_limit) × (writer.strings ≤ string_limit) × (writer.text ≤ text_area) }
+    requires name_number { (string ≡ index_in name.now (names_in writer text.now)) × (length (names_in writer text.now) ≡ writer.strings) }
+    requires within_limits { (writer.nodes ≤ node_limit) × (writer.strings ≤ string_limit) × (writer.text ≤ text_area) }
     ensures { result ≡ too_many writer text.now name.now }
 {
     if writer.nodes == limits::NODE_LIMIT {
@@ -46,6 +48,7 @@ fn too_many(writer: Writer, text: &[u8], name: &[u8], string: usize) -> bool
 }
 
 // 21.
+#[tactic(auto, using(crate::proofs::MakeLaws::added_most, crate::proofs::MakeLaws::buffer_short))]
 fn too_small(writer: Writer, text: &[u8], tree: &[u8], name: &[u8], string: usize) -> bool
     requires { WriterBelongs writer.length writer text.now tree.now × (string ≡ index_in name.now (names_in writer text.now)) }
     ensures { result ≡ ltb writer.length (finished_size writer tree.now + entry_size Void + added_text writer text.now name.now) }
@@ -55,6 +58,7 @@ fn too_small(writer: Writer, text: &[u8], tree: &[u8], name: &[u8], string: usiz
 }
 
 // Stores the child's slot and, where it is new, its name. It answers the record after it.
+#[tactic(auto, using(crate::proofs::MakeLaws::string_few, crate::proofs::MakeLaws::is_old, crate::proofs::MakeLaws::is_new, crate::proofs::MakeLaws::text_old, crate::proofs::MakeLaws::text_new, crate::proofs::MakeLaws::tree_made_lem))]
 fn add_child(
     writer: Writer,
     text: &mut [u8],
@@ -63,8 +67,8 @@ fn add_child(
     name: &[u8],
     string: usize,
 ) -> Writer
-    requires writer_belongs { WriterBelongs writer.length writer text.old tree.old × (string ≡ index_in name.now (names_in writer text.old)) }
-    requires parent_le_nodes { (parent ≤ writer.nodes) × (too_many writer text.old name.now ≡ false) }
+    requires belongs { WriterBelongs writer.length writer text.old tree.old × (string ≡ index_in name.now (names_in writer text.old)) }
+    requires has_room { (parent ≤ writer.nodes) × (too_many writer text.old name.now ≡ false) }
     ensures record { result ≡ made_writer writer text.old name.now }
     ensures text { text.new ≡ made_text writer text.old name.now }
     ensures tree { tree.new ≡ made_tree writer text.old tree.old parent name.now }
