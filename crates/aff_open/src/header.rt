@@ -11,13 +11,14 @@ ghost use Rattle.aff_open.specs.passes.Opening.{answer_of_header};
 use aff_format::{Edition, FoundEdition, Refusal, bytes};
 
 // The edition of an image whose header is sound.
-#[derive(Drop)]
+#[derive(Clone, Copy)]
 pub enum HeaderResult {
     Found(Edition),
     Refused(Refusal),
 }
 
 // Whether an image begins with the text of an edition.
+#[tactic(auto, using(aff_format::proofs::EditionLaws::length_signature_text, aff_format::proofs::SameLaws::same_lengths))]
 fn has_text(image: &[u8], edition: Edition) -> bool
     ensures { result ≡ same_bytes (take 20 image.now) (signature_text edition) }
 {
@@ -29,6 +30,7 @@ fn has_text(image: &[u8], edition: Edition) -> bool
 }
 
 // The edition whose text an image begins with.
+#[tactic(auto, unfolding(crate::specs::Sections::text_edition))]
 pub fn text_edition(image: &[u8]) -> FoundEdition
     ensures { result ≡ text_edition image.now }
 {
@@ -63,6 +65,7 @@ pub fn sum_differs(image: &[u8], at: usize, from: usize, size: usize) -> bool
     !bytes::same(&image[at..at + 16], &sum)
 }
 
+#[tactic(auto, unfolding(crate::specs::Sections::header_sum_wrong))]
 fn header_sum_wrong(image: &[u8], edition: Edition) -> bool
     requires { header_size edition ≤ length image.now }
     ensures { result ≡ header_sum_wrong edition image.now }

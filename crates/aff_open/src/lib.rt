@@ -1,4 +1,6 @@
 // Opening an image.
+#![tactic(auto)]
+
 mod header; // the signature and the header sum
 mod sections; // the three sections
 pub mod tables; // opening up to the tables

@@ -11,7 +11,7 @@ use aff_reader::Reader;
 use aff_tables::nodes;
 
 // The answer of an opening, and the record: all zero where it was refused.
-#[derive(Drop)]
+#[derive(Clone, Copy)]
 pub struct Opening {
     pub verdict: Verdict,
     pub reader: Reader,
@@ -47,6 +47,7 @@ fn record(image: &[u8], edition: Edition, strings: usize, nodes: usize) -> Reade
 }
 
 // After the two tables: 10 to 13.
+#[tactic(auto, using(crate::proofs::OpeningLaws::checked_by, crate::proofs::TablesLaws::span_inside_lem))]
 fn with_nodes(
     image: &[u8],
     edition: Edition,
@@ -56,7 +57,7 @@ fn with_nodes(
     nodes: usize,
 ) -> Opening
     requires { Readable edition image.now × StringsLaid edition image.now strings.now count × EntriesLaid edition image.now entries.now nodes }
-    ensures result_value { answer_of_opening result ≡ first_wrong (nodes_checked edition image.now) (reader_for edition image.now) }
+    ensures value { answer_of_opening result ≡ first_wrong (nodes_checked edition image.now) (reader_for edition image.now) }
     ensures reader_value { result.reader ≡ reader_after (answer_of_opening result) }
 {
     let symbols = sections::span(image, edition, Section::Symbol);
@@ -84,7 +85,7 @@ fn with_nodes(
 // After sound tables: 10 to 13. A refusal clears both areas.
 fn with_tables(image: &[u8], sizes: TableSizes, strings: &mut [u32], entries: &mut [u32]) -> Opening
     requires { Readable sizes.edition image.now × StringsLaid sizes.edition image.now strings.old sizes.strings × EntriesLaid sizes.edition image.now entries.old sizes.nodes }
-    ensures result_value { answer_of_opening result ≡ first_wrong (nodes_checked sizes.edition image.now) (reader_for sizes.edition image.now) }
+    ensures value { answer_of_opening result ≡ first_wrong (nodes_checked sizes.edition image.now) (reader_for sizes.edition image.now) }
     ensures reader_value { result.reader ≡ reader_after (answer_of_opening result) }
     ensures strings_after { strings.new ≡ kept_or_cleared (answer_of_opening result) strings.old }
     ensures entries_after { entries.new ≡ kept_or_cleared (answer_of_opening result) entries.old }

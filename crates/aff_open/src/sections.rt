@@ -21,6 +21,7 @@ fn field(image: &[u8], edition: Edition, section: Section, at: usize) -> u64
     number::be64(image, edition.section_header_at(section) + at)
 }
 
+#[tactic(auto, unfolding(crate::specs::Sections::section_offset))]
 fn offset(image: &[u8], edition: Edition, section: Section) -> u64
     requires { header_size edition ≤ length image.now }
     ensures { result ≡ section_offset edition section image.now }
@@ -28,6 +29,7 @@ fn offset(image: &[u8], edition: Edition, section: Section) -> u64
     field(image, edition, section, 0)
 }
 
+#[tactic(auto, unfolding(crate::specs::Sections::section_size))]
 fn size(image: &[u8], edition: Edition, section: Section) -> u64
     requires { header_size edition ≤ length image.now }
     ensures { result ≡ section_size edition section image.now }
@@ -36,6 +38,7 @@ fn size(image: &[u8], edition: Edition, section: Section) -> u64
 }
 
 // The record count of a section; 0 in edition 1, which has none.
+#[tactic(auto, unfolding(crate::specs::Sections::section_records))]
 pub fn records(image: &[u8], edition: Edition, section: Section) -> u64
     requires { header_size edition ≤ length image.now }
     ensures { result ≡ section_records edition section image.now }
@@ -48,6 +51,7 @@ pub fn records(image: &[u8], edition: Edition, section: Section) -> u64
 }
 
 // Offset and size are not added: the sum could wrap.
+#[tactic(auto, unfolding(crate::specs::Sections::ends_past))]
 fn ends_past(image: &[u8], edition: Edition, section: Section) -> bool
     requires { header_size edition ≤ length image.now }
     ensures { result ≡ ends_past edition section image.now }
@@ -71,6 +75,7 @@ pub fn span(image: &[u8], edition: Edition, section: Section) -> Span
     }
 }
 
+#[tactic(auto, using(crate::proofs::SectionLaws::sum_inside, crate::proofs::SectionLaws::ends_inside), unfolding(crate::specs::Sections::sum_wrong, crate::specs::Sections::section_bytes))]
 fn sum_wrong(image: &[u8], edition: Edition, section: Section) -> bool
     requires { (header_size edition ≤ length image.now) × (ends_past edition section image.now ≡ false) }
     ensures { result ≡ sum_wrong edition section image.now }

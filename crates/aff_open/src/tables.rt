@@ -17,7 +17,7 @@ use aff_tables::tree::TreeTable;
 use aff_tables::{symbols, tree};
 
 // What opening knows of an image whose tables are sound: its edition, and how many strings and nodes they have.
-#[derive(Drop)]
+#[derive(Clone, Copy)]
 pub struct TableSizes {
     pub edition: Edition,
     pub strings: usize,
@@ -25,13 +25,14 @@ pub struct TableSizes {
 }
 
 // The answer up to the tables.
-#[derive(Drop)]
+#[derive(Clone, Copy)]
 pub enum OpenedTables {
     Found(TableSizes),
     Refused(Refusal),
 }
 
 // 1.
+#[tactic(auto, unfolding(crate::specs::Opening::lengths_wrong))]
 fn lengths_wrong(image: &[u8], form: &[u8], strings: &[u32], entries: &[u32]) -> bool
     ensures { result ≡ lengths_wrong image.now form.now (length strings.now) (length entries.now) }
 {
@@ -58,10 +59,11 @@ pub fn clear(area: &mut [u32])
 }
 
 // 25 to 27, of the image's symbol section.
+#[tactic(auto, using(crate::proofs::TablesLaws::span_inside_lem), unfolding(crate::specs::Sections::section_bytes))]
 fn symbol_table(image: &[u8], edition: Edition, strings: &mut [u32]) -> Symbols
     requires { Readable edition image.now × (length strings.old ≡ 2048) }
     ensures value { result ≡ symbols_in edition image.now }
-    ensures by_index { (n : ℕ) → answer_of_symbols result ≡ accepted n → strings.new ≡ laid_over strings.old (string_places edition image.now) }
+    ensures stored { (n : ℕ) → answer_of_symbols result ≡ accepted n → strings.new ≡ laid_over strings.old (string_places edition image.now) }
 {
     let span = sections::span(image, edition, Section::Symbol);
     let records = sections::records(image, edition, Section::Symbol);
@@ -69,10 +71,11 @@ fn symbol_table(image: &[u8], edition: Edition, strings: &mut [u32]) -> Symbols
 }
 
 // 9, of the image's tree section.
+#[tactic(auto, using(crate::proofs::TablesLaws::span_inside_lem), unfolding(crate::specs::Sections::section_bytes))]
 fn tree_table(image: &[u8], edition: Edition, entries: &mut [u32]) -> TreeTable
     requires { Readable edition image.now × (length entries.old ≡ 2048) }
-    ensures result_value { answer_of_tree result ≡ first_wrong (tree_checked edition image.now) (length (nodes_in edition image.now)) }
-    ensures by_index { (n : ℕ) → answer_of_tree result ≡ accepted n → entries.new ≡ laid_over entries.old (node_places edition image.now) }
+    ensures value { answer_of_tree result ≡ first_wrong (tree_checked edition image.now) (length (nodes_in edition image.now)) }
+    ensures stored { (n : ℕ) → answer_of_tree result ≡ accepted n → entries.new ≡ laid_over entries.old (node_places edition image.now) }
 {
     let span = sections::span(image, edition, Section::Tree);
     let records = sections::records(image, edition, Section::Tree);
@@ -82,8 +85,8 @@ fn tree_table(image: &[u8], edition: Edition, entries: &mut [u32]) -> TreeTable
 // After the symbol table: 9.
 fn with_strings(image: &[u8], edition: Edition, strings: usize, entries: &mut [u32]) -> OpenedTables
     requires { Readable edition image.now × (strings ≡ length (strings_in edition image.now)) × (length entries.old ≡ 2048) }
-    ensures result_value { answer_of_tables result ≡ first_wrong (tree_checked edition image.now) (sizes_in edition image.now) }
-    ensures entries_after { (s : SizesOf) → answer_of_tables result ≡ accepted s → entries.new ≡ laid_over entries.old (node_places edition image.now) }
+    ensures value { answer_of_tables result ≡ first_wrong (tree_checked edition image.now) (sizes_in edition image.now) }
+    ensures stored { (s : SizesOf) → answer_of_tables result ≡ accepted s → entries.new ≡ laid_over entries.old (node_places edition image.now) }
 {
     match tree_table(image, edition, entries) {
         TreeTable::BrokenAt(k) => OpenedTables::Refused(Refusal::BadTreeTable(k)),
@@ -104,7 +107,7 @@ fn with_sections(
     entries: &mut [u32],
 ) -> OpenedTables
     requires { Readable edition image.now × (length strings.old ≡ 2048) × (length entries.old ≡ 2048) }
-    ensures result_value { answer_of_tables result ≡ first_wrong (table_checks edition image.now) (sizes_in edition image.now) }
+    ensures value { answer_of_tables result ≡ first_wrong (table_checks edition image.now) (sizes_in edition image.now) }
     ensures filled { (s : SizesOf) → answer_of_tables result ≡ accepted s → Filled edition image.now strings.old strings.new entries.old entries.new }
 {
     match symbol_table(image, edition, strings) {
@@ -123,7 +126,7 @@ fn with_edition(
     entries: &mut [u32],
 ) -> OpenedTables
     requires { (header_size edition ≤ length image.now) × (length image.now < 2147483648) × (length strings.old ≡ 2048) × (length entries.old ≡ 2048) }
-    ensures result_value { answer_of_tables result ≡ first_wrong (body_checks edition image.now) (sizes_in edition image.now) }
+    ensures value { answer_of_tables result ≡ first_wrong (body_checks edition image.now) (sizes_in edition image.now) }
     ensures filled { (s : SizesOf) → answer_of_tables result ≡ accepted s → Filled edition image.now strings.old strings.new entries.old entries.new }
 {
     match sections::sections(image, edition) {
@@ -135,7 +138,7 @@ fn with_edition(
 // All but 1, in areas of the right length.
 fn with_areas(image: &[u8], form: &[u8], strings: &mut [u32], entries: &mut [u32]) -> OpenedTables
     requires { (length image.now < 2147483648) × (length strings.old ≡ 2048) × (length entries.old ≡ 2048) }
-    ensures result_value { answer_of_tables result ≡ first_wrong (header_checks image.now form.now ++ body_checks (edition_in image.now) image.now) (sizes_in (edition_in image.now) image.now) }
+    ensures value { answer_of_tables result ≡ first_wrong (header_checks image.now form.now ++ body_checks (edition_in image.now) image.now) (sizes_in (edition_in image.now) image.now) }
     ensures filled { (s : SizesOf) → answer_of_tables result ≡ accepted s → Filled (edition_in image.now) image.now strings.old strings.new entries.old entries.new }
 {
     match header::header(image, form) {
@@ -147,7 +150,7 @@ fn with_areas(image: &[u8], form: &[u8], strings: &mut [u32], entries: &mut [u32
 // All but 1, in cleared areas; a refusal clears them again.
 fn in_cleared(image: &[u8], form: &[u8], strings: &mut [u32], entries: &mut [u32]) -> OpenedTables
     requires { (length image.now < 2147483648) × (length strings.old ≡ 2048) × (length entries.old ≡ 2048) × (strings.old ≡ replicate (length strings.old) 0) × (entries.old ≡ replicate (length entries.old) 0) }
-    ensures result_value { answer_of_tables result ≡ first_wrong (header_checks image.now form.now ++ body_checks (edition_in image.now) image.now) (sizes_in (edition_in image.now) image.now) }
+    ensures value { answer_of_tables result ≡ first_wrong (header_checks image.now form.now ++ body_checks (edition_in image.now) image.now) (sizes_in (edition_in image.now) image.now) }
     ensures strings_after { strings.new ≡ area_filled (answer_of_tables result) strings.old (string_places (edition_in image.now) image.now) }
     ensures entries_after { entries.new ≡ area_filled (answer_of_tables result) entries.old (node_places (edition_in image.now) image.now) }
 {
@@ -163,6 +166,7 @@ fn in_cleared(image: &[u8], form: &[u8], strings: &mut [u32], entries: &mut [u32
 
 // Reads the tables of an image and fills the two areas with the places of its strings and of its entries. A refusal's numbers are 1 to 7, 25 to 27 and 9.
 // Nothing is asked of the nodes, so their parents and strings may not exist. 1 changes nothing; another refusal leaves both areas all zero.
+#[tactic(auto, using(crate::proofs::TablesLaws::lengths_right))]
 pub fn open_tables(
     image: &[u8],
     form: &[u8],
