@@ -2,14 +2,14 @@
 use aff_format::{Kind, Refusal};
 use aff_reader::Span;
 
-#[derive(Drop)]
+#[derive(Clone, Copy)]
 pub enum KindAnswer {
     Value(Kind),
     Refused(Refusal),
 }
 
 // Where a part of the image is.
-#[derive(Drop)]
+#[derive(Clone, Copy)]
 pub enum PartAnswer {
     At(Span),
     Refused(Refusal),

@@ -25,6 +25,7 @@ pub fn judge(image: &[u8], reader: Reader, strings: &[u32], entries: &[u32], nod
 }
 
 // Where the name of a node is, for a record that belongs.
+#[tactic(auto, using(crate::proofs::SpanLaws::name_root, crate::proofs::SpanLaws::name_other))]
 pub fn name_span(
     image: &[u8],
     reader: Reader,
@@ -49,6 +50,7 @@ pub fn name_span(
 }
 
 // Where the data of a node are, for a record that belongs.
+#[tactic(auto, using(crate::proofs::SpanLaws::data_void, crate::proofs::SpanLaws::data_full))]
 pub fn data_span(
     image: &[u8],
     reader: Reader,
@@ -71,6 +73,7 @@ pub fn data_span(
 }
 
 // The name of a node: where it is in the image, up to its zero or to the symbol section's end. The root's is empty.
+#[tactic(auto, using(crate::proofs::JudgeLaws::judge_belongs), unfolding(crate::specs::Answers::name_answer))]
 pub fn name_bounds(
     image: &[u8],
     reader: Reader,
@@ -87,6 +90,7 @@ pub fn name_bounds(
 }
 
 // The kind of a node. The root is Void.
+#[tactic(auto, unfolding(crate::specs::Answers::kind_answer))]
 pub fn kind(
     image: &[u8],
     reader: Reader,
@@ -107,6 +111,7 @@ pub fn kind(
 }
 
 // The count of a node's elements; 0 of a Void one.
+#[tactic(auto, unfolding(crate::specs::Answers::count_answer))]
 pub fn count(
     image: &[u8],
     reader: Reader,
@@ -126,6 +131,7 @@ pub fn count(
 }
 
 // The data of a node: where they are in the image. A Void node has none.
+#[tactic(auto, using(crate::proofs::JudgeLaws::judge_belongs), unfolding(crate::specs::Answers::view_answer))]
 pub fn view_bounds(
     image: &[u8],
     reader: Reader,
@@ -152,6 +158,7 @@ fn span_of<'a>(image: &'a [u8], span: Span) -> &'a [u8]
 }
 
 // The name of a node, as a part of the image; empty where the call is refused.
+#[tactic(auto, using(crate::proofs::JudgeLaws::span_inside_lem, crate::proofs::SpanLaws::name_within), unfolding(crate::specs::Answers::name_answer))]
 pub fn name<'a>(
     image: &'a [u8],
     reader: Reader,
@@ -168,6 +175,7 @@ pub fn name<'a>(
 }
 
 // The data of a node, as a part of the image; empty where the call is refused.
+#[tactic(auto, using(crate::proofs::JudgeLaws::span_inside_lem, crate::proofs::SpanLaws::data_within), unfolding(crate::specs::Answers::view_answer))]
 pub fn view<'a>(
     image: &'a [u8],
     reader: Reader,
@@ -202,6 +210,7 @@ pub fn element_of(
 }
 
 // One element of a node's data.
+#[tactic(auto, using(crate::proofs::JudgeLaws::judge_belongs, crate::proofs::ElementLaws::element_decoded), unfolding(crate::specs::Answers::element_answer))]
 pub fn element(
     image: &[u8],
     reader: Reader,
