@@ -1,5 +1,5 @@
 -- Begin: document 01, 'Writing keys', and 'Order': 1, 21, 23; request C-15: 3 after 1, for a number that names no written edition.
-use Rattle.std.specs.Prelude.{Bool, true, false, cond, not, ◌||◌, List, [], ◌∷◌, ℕ, eqb, ltb, length, replicate}
+use Rattle.std.specs.Prelude.{Bool, cond, not, ◌||◌, List, [], ◌∷◌, ℕ, eqb, ltb, length, replicate}
 use Rattle.aff_format.specs.Answer.{Answer, accepted, refused, Check, check, refusal, refusal_at, first_wrong}
 use Rattle.aff_format.specs.Edition.{header_size, edition_by, names_written}
 use Rattle.aff_format.specs.Limits.{image_limit, text_area, tree_area}

@@ -8,6 +8,7 @@ use aff_areas::writer::{Writer, Writing};
 use aff_areas::{areas, writer};
 use aff_format::{Edition, NumberAnswer, Refusal, limits};
 
+#[tactic(auto, unfolding(crate::specs::Begin::begin_lengths_wrong))]
 fn lengths_wrong(buffer: &[u8], form: &[u8], text: &[u8], tree: &[u8]) -> bool
     ensures { result ≡ begin_lengths_wrong buffer.now form.now text.now tree.now }
 {
@@ -25,6 +26,7 @@ fn lengths_wrong(buffer: &[u8], form: &[u8], text: &[u8], tree: &[u8]) -> bool
 
 // Begins a file of a written edition in a buffer: 1, 3, 21, 23. `edition` is its number, 2 or 3; `form` has the 12 bytes that come after the signature text. An
 // accepted begin stores 0 at the buffer's place 0, so that nothing opens there until the file is closed, and clears both areas.
+#[tactic(auto, unfolding(crate::specs::Begin::begin_answer, aff_areas::specs::Stores::apply_stores, aff_areas::specs::Stores::stores_from))]
 pub fn begin(
     edition: u32,
     buffer: &mut [u8],

@@ -185,6 +185,7 @@ fn close_open(
 }
 
 // Closes the file: 24, 22, 23. It answers the stores made. The last store, of the first signature byte, makes the buffer one that opens.
+#[tactic(auto, unfolding(aff_areas::specs::Stores::apply_stores))]
 pub fn close(
     buffer: &mut [u8],
     writer: Writer,

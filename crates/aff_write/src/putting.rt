@@ -18,6 +18,7 @@ use aff_areas::{areas, belongs, store, writer};
 use aff_format::{Entry, FoundKind, Kind, NumberAnswer, Refusal, Verdict, align};
 
 // 18.
+#[tactic(auto, unfolding(crate::specs::Put::takes_none))]
 fn takes_none(tree: &[u8], node: usize) -> bool
     requires { node ≤ node_limit }
     ensures { result ≡ takes_none tree.now node }
@@ -108,6 +109,7 @@ fn put_bytes(
 }
 
 // 21, 23, for a node that takes data of the kind.
+#[tactic(auto, unfolding(aff_areas::specs::Stores::apply_stores))]
 fn put_sized(
     buffer: &mut [u8],
     writer: Writer,
@@ -136,6 +138,7 @@ fn put_sized(
 }
 
 // 15, 18, 19, 21, 23, for a record that belongs and is open.
+#[tactic(auto, unfolding(aff_areas::specs::Stores::apply_stores))]
 fn put_data(
     buffer: &mut [u8],
     writer: Writer,
@@ -172,6 +175,7 @@ fn put_data(
 
 // Puts data into a node, once: 24, 22, 15, 18, 19, 21, 23. `kind` is the code of the type, 2 to 5; the data's bytes are those that the file
 // is to have. It answers the stores made.
+#[tactic(auto, unfolding(aff_areas::specs::Stores::apply_stores))]
 pub fn put(
     buffer: &mut [u8],
     writer: Writer,
