@@ -19,6 +19,7 @@ use aff_reader::{Reader, belongs};
 use aff_spelling::{Spelling, spelling};
 
 // Where the string that begins at a place ends, or, where it is longer than a limit, the place one byte past the limit. No byte after that is read.
+#[tactic(auto, using(crate::proofs::NameStopLaws::name_whole, crate::proofs::NameStopLaws::name_cut))]
 fn name_stop(image: &[u8], from: usize, end: usize, limit: usize) -> usize
     requires { (from ≤ end) × (end ≤ length image.now) × (limit < 2 ^ 63) }
     ensures { (from ≤ result) × (result ≤ end) × (part from (result - from) image.now ≡ take (limit + 1) (name_from image.now end from)) }
@@ -38,6 +39,7 @@ fn parent_of(image: &[u8], entries: &[u32], node: usize) -> usize
 }
 
 // Where the name of a node begins.
+#[tactic(auto, unfolding(aff_nodes::specs::Recall::name_span))]
 fn name_place(image: &[u8], reader: Reader, strings: &[u32], entries: &[u32], node: usize) -> usize
     ensures { result ≡ (name_span image.now reader strings.now entries.now node).offset }
 {
@@ -49,6 +51,7 @@ fn name_place(image: &[u8], reader: Reader, strings: &[u32], entries: &[u32], no
 }
 
 // The length of a slash and a node's name as it is written, counted no further than one past a limit. No byte of the name is read past the limit.
+#[tactic(auto, using(crate::proofs::FrontLaws::root_name, crate::proofs::FrontLaws::name_starts, crate::proofs::FrontLaws::name_counted, aff_format::proofs::CappedLaws::capped_next))]
 fn own_length(
     spelling: Spelling,
     image: &[u8],
@@ -75,6 +78,7 @@ fn own_length(
 
 // The length of a node's path as it is written, counted no further than one past a limit. Each step of the climb counts a byte at least, and no name is read
 // past the limit: at most `limit` bytes, and `limit` + 1 steps.
+#[tactic(auto, using(crate::proofs::StepLaws::measure_done))]
 pub fn path_length(
     spelling: Spelling,
     image: &[u8],
@@ -130,6 +134,7 @@ fn note(
 }
 
 // Stores the nodes of the climb from a node to the root, and no others, in the table of the climb.
+#[tactic(auto, using(crate::proofs::ClimbLaws::climbing_start, crate::proofs::ClimbLaws::climbing_next))]
 fn note_climb(
     image: &[u8],
     reader: Reader,
@@ -165,7 +170,7 @@ fn put_own(
     out: &mut [u8],
 ) -> usize
     requires table_inside { TableInside image.now table.now × (node ≤ node_limit) }
-    requires node_in_bounds { at + length (47 ∷ spelled spelling (table_name image.now table.now node)) ≤ length out.old }
+    requires name_fits { at + length (47 ∷ spelled spelling (table_name image.now table.now node)) ≤ length out.old }
     ensures { Written at (47 ∷ spelled spelling (table_name image.now table.now node)) out.old out.new result }
 {
     let from = recorded::place(table, 3 * node + 1);
@@ -186,7 +191,7 @@ fn write_front(
     out: &mut [u8],
 ) -> usize
     requires table_inside { TableInside image.now table.now × (node ≤ node_limit) }
-    requires node_in_bounds { length (table_front spelling image.now table.now left node) ≤ length out.old }
+    requires front_fits { length (table_front spelling image.now table.now left node) ≤ length out.old }
     ensures { Written 0 (table_front spelling image.now table.now left node) out.old out.new result }
 {
     if left == 0 {
@@ -229,6 +234,7 @@ pub fn path_of(
 }
 
 // Writes the path of a node, root first, at the front of an output; the rest of it stays: 24, 15, 21. Returns the path's length.
+#[tactic(auto, using(aff_nodes::proofs::JudgeLaws::judge_belongs), unfolding(crate::specs::Paths::path_answer))]
 pub fn path(
     image: &[u8],
     reader: Reader,
@@ -247,6 +253,7 @@ pub fn path(
 }
 
 // Whether a path is the root's.
+#[tactic(auto, using(crate::proofs::FitLaws::root_long, crate::proofs::FitLaws::root_one))]
 fn is_root(path: &[u8]) -> bool
     ensures { result ≡ same_bytes (47 ∷ []) path.now }
 {
@@ -258,6 +265,7 @@ fn is_root(path: &[u8]) -> bool
 
 // Whether a path has the string that begins at a place from `at` on: 2 more than where it ends there, or 1 where it does not. One pass
 // over the two, no further than the first byte that differs.
+#[tactic(auto, using(crate::proofs::FitLaws::name_fits_past, crate::proofs::FitLaws::name_fits, crate::proofs::FitLaws::name_cut, crate::proofs::FitLaws::name_differs, crate::proofs::FitLaws::name_goes_on))]
 fn fit_from(image: &[u8], from: usize, end: usize, path: &[u8], at: usize) -> usize
     requires { (from ≤ end) × (end ≤ length image.now) × (at ≤ length path.now) }
     ensures { result ≡ fit_from (name_from image.now end from) (drop at path.now) at }
@@ -283,6 +291,7 @@ fn fit_from(image: &[u8], from: usize, end: usize, path: &[u8], at: usize) -> us
 
 // The fit of a node is n + 2 where its path, nothing for the root, is the first n bytes of the given one, and 1 where it is not. This is the
 // fit of a node that is not the root, by that of its parent: a slash and the name are to follow.
+#[tactic(auto, using(crate::proofs::FitLaws::below_none, crate::proofs::FitLaws::below_end, crate::proofs::FitLaws::below_other, crate::proofs::FitLaws::below_slash, crate::proofs::FrontLaws::name_begins, crate::proofs::FrontLaws::name_there))]
 fn fit_below(
     image: &[u8],
     reader: Reader,
@@ -315,6 +324,7 @@ fn fit_below(
 
 // Climbs from a node to the first one whose fit is stored, itself or an ancestor. Stores the nodes on the way and then that one in `chain`, and the
 // string numbers of those on the way in `names`. Returns how many are on the way.
+#[tactic(auto, using(crate::proofs::ChainLaws::at_exists, crate::proofs::ChainLaws::few_more))]
 fn climb(
     image: &[u8],
     entries: &[u32],
@@ -358,7 +368,7 @@ fn settle_chain(
     requires reader_belongs { ReaderBelongs image.now reader strings.now entries.now }
     requires fits_settled { FitsSettled image.now reader strings.now entries.now path.now fits.old }
     requires chain { Chain image.now entries.now reader.nodes chain.now names.now count }
-    requires fact { get_or fits.old (get_or chain.now count 0) 0 ≡ 0 → ⊥ }
+    requires top_settled { get_or fits.old (get_or chain.now count 0) 0 ≡ 0 → ⊥ }
     ensures settled { FitsSettled image.now reader strings.now entries.now path.now fits.new }
     ensures fit { result ≡ fit_at image.now reader strings.now entries.now path.now (get_or chain.now 0 0) }
 {
@@ -400,6 +410,7 @@ fn settle(
 }
 
 // Whether the path of a node is the given one.
+#[tactic(auto, using(crate::proofs::FitLaws::other_has))]
 fn has_path(
     image: &[u8],
     reader: Reader,
@@ -428,6 +439,7 @@ fn has_path(
 // The lowest node whose path is the given one, for a record that belongs. The fit of a node is computed once at most: its entry is read once, and its
 // name compared only where its parent fits, up to the first byte that differs and no further than the path goes. No recursion: the stack holds three
 // arrays, 32,784 bytes.
+#[tactic(auto, using(aff_format::proofs::LowestLaws::lowest_here, aff_format::proofs::LowestLaws::lowest_on, aff_format::proofs::LowestLaws::lowest_end))]
 pub fn lowest_match(
     image: &[u8],
     reader: Reader,
@@ -455,6 +467,7 @@ pub fn lowest_match(
 }
 
 // The lowest node whose path is the given one, for a record that belongs: 14, with the place at which the path breaks, 15.
+#[tactic(auto, using(crate::proofs::LookupLaws::lookup_breaks, crate::proofs::LookupLaws::lookup_at, crate::proofs::LookupLaws::lookup_none))]
 pub fn lookup_of(
     image: &[u8],
     reader: Reader,
@@ -478,6 +491,7 @@ pub fn lookup_of(
 }
 
 // The lowest node whose path is the given one: 24, 14 with the place in the path, 15.
+#[tactic(auto, using(crate::proofs::LookupLaws::lookup_wrong, crate::proofs::LookupLaws::lookup_belongs))]
 pub fn lookup(
     image: &[u8],
     reader: Reader,
