@@ -20,8 +20,8 @@ fn fill(table: &mut [u32], n: usize, value: u32)
 
 // Puts node k before the children of its parent that have higher numbers.
 fn link(parents: &[u32], nodes: usize, k: usize, first: &mut [u32], next: &mut [u32])
-    requires k_nonzero { (0 < k) × (k ≤ nodes) × (nodes ≤ node_limit) × ParentsWithin (parent_in parents.now) nodes }
-    requires nodes_in_bounds { (nodes < length first.old) × (nodes < length next.old) × ChildTables (parent_in parents.now) nodes (k + 1) first.old next.old }
+    requires node_exists { (0 < k) × (k ≤ nodes) × (nodes ≤ node_limit) × ParentsWithin (parent_in parents.now) nodes }
+    requires tables { (nodes < length first.old) × (nodes < length next.old) × ChildTables (parent_in parents.now) nodes (k + 1) first.old next.old }
     ensures { ChildTables (parent_in parents.now) nodes k first.new next.new }
 {
     let p = recorded::place(parents, k);

@@ -4,7 +4,7 @@ ghost use Rattle.aff_listing.specs.ListingOrder.{lists};
 
 use aff_format::Kind;
 
-#[derive(Drop)]
+#[derive(Clone, Copy)]
 pub enum Choice {
     AllNodes,
     NotVoid,

@@ -28,6 +28,7 @@ fn is_listed(image: &[u8], entries: &[u32], choice: Choice, node: usize) -> bool
 }
 
 // How many of the nodes 0 to `nodes` a choice lists. One pass over the nodes.
+#[tactic(auto, using(crate::proofs::KeptLaws::kept_most), unfolding(crate::specs::ListingOrder::kept_below))]
 fn count_listed(image: &[u8], nodes: usize, entries: &[u32], choice: Choice) -> usize
     requires { nodes ≤ node_limit }
     ensures { result ≡ kept_below (is_listed image.now entries.now choice) (nodes + 1) }
@@ -56,6 +57,7 @@ fn copy_parents(image: &[u8], reader: Reader, strings: &[u32], entries: &[u32], 
 }
 
 // Stores a node's number, and returns the place after it.
+#[tactic(auto, using(aff_format::proofs::WrittenLaws::written_one))]
 fn put_number(node: usize, at: usize, out: &mut [u32]) -> usize
     requires { (node < 4294967296) × (at < length out.old) }
     ensures { Written at (node ∷ []) out.old out.new result }
@@ -67,6 +69,7 @@ fn put_number(node: usize, at: usize, out: &mut [u32]) -> usize
 // Stores a node and its subtree from a place on, at most `depth` levels, and returns where they end. It calls the loop over the node's children, which
 // calls it for each of them: remaining depth and children fall. The parents are passed for the contract: the tables are of them.
 #[cycle(list_children_list_node)]
+#[tactic(auto, using(crate::proofs::ListingLaws::preorder_ended, crate::proofs::ListingLaws::below_fits, aff_format::proofs::WrittenLaws::written_none))]
 fn list_node(
     parents: &[u32; 2049],
     first: &[u32; 2049],
@@ -77,8 +80,8 @@ fn list_node(
     at: usize,
     order: &mut [u32; 2049],
 ) -> usize
-    requires nodes_le_node_limit { (nodes ≤ node_limit) × (node ≤ nodes) × ChildTables (parent_in parents.now) nodes 1 first.now next.now }
-    requires node_in_bounds { at + length (preorder every (parent_in parents.now) (nodes + 1) depth node) ≤ length order.old }
+    requires tables { (nodes ≤ node_limit) × (node ≤ nodes) × ChildTables (parent_in parents.now) nodes 1 first.now next.now }
+    requires fits { at + length (preorder every (parent_in parents.now) (nodes + 1) depth node) ≤ length order.old }
     ensures { Written at (preorder every (parent_in parents.now) (nodes + 1) depth node) order.old order.new result }
 {
     if depth == 0 {
@@ -90,6 +93,7 @@ fn list_node(
 
 // Stores the subtrees of a node's children, in number order. One step a child, besides the subtrees.
 #[cycle(list_children_list_node)]
+#[tactic(auto, using(crate::proofs::ListingLaws::sibling_fits))]
 fn list_children(
     parents: &[u32; 2049],
     first: &[u32; 2049],
@@ -100,8 +104,8 @@ fn list_children(
     at: usize,
     order: &mut [u32; 2049],
 ) -> usize
-    requires nodes_le_node_limit { (nodes ≤ node_limit) × (node ≤ nodes) × ChildTables (parent_in parents.now) nodes 1 first.now next.now }
-    requires nodes_in_bounds { at + length (children_to (preorder every (parent_in parents.now) (nodes + 1) depth) (parent_in parents.now) node (nodes + 1)) ≤ length order.old }
+    requires tables { (nodes ≤ node_limit) × (node ≤ nodes) × ChildTables (parent_in parents.now) nodes 1 first.now next.now }
+    requires fits { at + length (children_to (preorder every (parent_in parents.now) (nodes + 1) depth) (parent_in parents.now) node (nodes + 1)) ≤ length order.old }
     ensures { Written at (children_to (preorder every (parent_in parents.now) (nodes + 1) depth) (parent_in parents.now) node (nodes + 1)) order.old order.new result }
 {
     let mut end = at;
@@ -134,6 +138,7 @@ fn full_order(
 }
 
 // Stores a number where the choice lists that node, and returns the place after it.
+#[tactic(auto, using(aff_format::proofs::WrittenLaws::written_one, aff_format::proofs::WrittenLaws::written_none), unfolding(crate::specs::ListingOrder::own))]
 fn put_listed(
     image: &[u8],
     entries: &[u32],
@@ -154,6 +159,7 @@ fn put_listed(
 
 // Stores the first `count` nodes of an order at the front of an output, without those that the choice does not list. Returns how many it stored. One pass
 // over these nodes.
+#[tactic(auto, using(aff_format::proofs::WrittenLaws::written_none), unfolding(crate::specs::ListingOrder::kept))]
 fn put_all_listed(
     image: &[u8],
     entries: &[u32],
@@ -196,6 +202,7 @@ pub fn listing_of(
 
 // Writes the numbers of the nodes that a choice lists, in listing order, at the front of an output; the rest of it stays: 24, 21. Returns how many it
 // wrote.
+#[tactic(auto, unfolding(crate::specs::ListingOrder::listing_answer))]
 pub fn listing(
     image: &[u8],
     reader: Reader,

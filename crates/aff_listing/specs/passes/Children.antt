@@ -5,7 +5,7 @@ use Rattle.std.specs.Prelude.{◌≡◌, List, ℕ, ◌+◌, ◌≤◌, ◌<◌,
 pub record NextChild (parent : ℕ → ℕ) (nodes n from j : ℕ) : Type 0 where
   pub least : from ≤ j
   pub most : j ≤ nodes + 1
-  pub is_child_is : j ≤ nodes → parent j ≡ n
+  pub is_child : j ≤ nodes → parent j ≡ n
   pub none_between : (i : ℕ) → from ≤ i → i < j → parent i ≡ n → ⊥
 
 -- Of the nodes from `from` on, `first` has each node's lowest child, and `next` the next sibling of each.
