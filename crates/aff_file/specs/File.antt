@@ -1,6 +1,6 @@
 -- The bytes of a finished file by what is in it: document 01, 'Layout of a file' and 'Writing keys'. Header, data, strings, entries, one after the other. No
 -- writer, area or record is part of it.
-use Rattle.std.specs.Prelude.{◌≡◌, Bool, true, false, cond, List, [], ◌∷◌, ◌++◌, map, ℕ, ◌+◌, ◌-◌, ◌*◌, ◌≤◌, ◌<◌, length, get_or}
+use Rattle.std.specs.Prelude.{◌≡◌, false, cond, List, [], ◌++◌, map, ℕ, ◌+◌, ◌-◌, ◌*◌, ◌≤◌, ◌<◌, length, get_or}
 use Rattle.aff_format.specs.Bytes.{part}
 use Rattle.aff_format.specs.Edition.{header_size}
 use Rattle.aff_format.specs.Entry.{Storable}
