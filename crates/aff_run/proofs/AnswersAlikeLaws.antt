@@ -122,7 +122,7 @@ stopped_closed e size end tree [] answers h = refl
 stopped_closed e size end tree (c ∷ cs) [] h = refl
 stopped_closed e size end tree (c ∷ cs) (a ∷ answers) h =
     let z : is_accepted a ≡ false = ap is_accepted h.0 in
-    rw z (stopped_closed e size _ _ cs answers h.1)
+    rw z (stopped_closed e size (call_end end c (is_accepted a)) (apply_call tree c (is_accepted a)) cs answers h.1)
 
 -- So where one is accepted, the call before it is not 23.
 not_spent : (a : Answer ℕ) (c : Call) (e : Edition) (size end : ℕ) (tree : Tree) (cs : List Call) (answers : List (Answer ℕ)) → AnswersFromTree e size (stops c a) end tree cs answers

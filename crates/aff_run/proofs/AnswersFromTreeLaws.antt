@@ -310,17 +310,17 @@ module _ (run : Run) where
 -- ---- The answers by computation.
 
 abbrev pub expected : Edition → ℕ → Bool → ℕ → Tree → List Call → List (Answer ℕ)
-expected e size asleep end tree [] = []
-expected e size asleep end tree (c ∷ cs) =
-    let a = cond asleep (refused (refusal 22)) (call_answer e size end tree c) in
-    a ∷ expected e size (asleep || stops c a) (call_end end c (is_accepted a)) (apply_call tree c (is_accepted a)) cs
+expected e size resting end tree [] = []
+expected e size resting end tree (c ∷ cs) =
+    let a = cond resting (refused (refusal 22)) (call_answer e size end tree c) in
+    a ∷ expected e size (resting || stops c a) (call_end end c (is_accepted a)) (apply_call tree c (is_accepted a)) cs
 
-pub answers_expected : (cs : List Call) (e : Edition) (size : ℕ) (asleep : Bool) (end : ℕ) (tree : Tree) (answers : List (Answer ℕ)) → length answers ≡ length cs
-    → AnswersFromTree e size asleep end tree cs answers → answers ≡ expected e size asleep end tree cs
-answers_expected [] e size asleep end tree [] n h = refl
-answers_expected [] e size asleep end tree (a ∷ answers) n h = absurd (omega arith)
-answers_expected (c ∷ cs) e size asleep end tree [] n h = absurd h
-answers_expected (c ∷ cs) e size asleep end tree (a ∷ answers) n h =
+pub answers_expected : (cs : List Call) (e : Edition) (size : ℕ) (resting : Bool) (end : ℕ) (tree : Tree) (answers : List (Answer ℕ)) → length answers ≡ length cs
+    → AnswersFromTree e size resting end tree cs answers → answers ≡ expected e size resting end tree cs
+answers_expected [] e size resting end tree [] n h = refl
+answers_expected [] e size resting end tree (a ∷ answers) n h = absurd (omega arith)
+answers_expected (c ∷ cs) e size resting end tree [] n h = absurd h
+answers_expected (c ∷ cs) e size resting end tree (a ∷ answers) n h =
     ap₂ (λ (x : Answer ℕ) (xs : List (Answer ℕ)). x ∷ xs) h.0
-    (answers_expected cs e size (asleep || stops c a) (call_end end c (is_accepted a)) (apply_call tree c (is_accepted a)) answers (omega arith) h.1
-    ∙ ap (λ (x : Answer ℕ). expected e size (asleep || stops c x) (call_end end c (is_accepted x)) (apply_call tree c (is_accepted x)) cs) h.0)
+    (answers_expected cs e size (resting || stops c a) (call_end end c (is_accepted a)) (apply_call tree c (is_accepted a)) answers (omega arith) h.1
+    ∙ ap (λ (x : Answer ℕ). expected e size (resting || stops c x) (call_end end c (is_accepted x)) (apply_call tree c (is_accepted x)) cs) h.0)
