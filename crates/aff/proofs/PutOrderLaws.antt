@@ -367,7 +367,7 @@ module _ (run : Run) (o : TwoOrders) where
   -- ---- The lengths agree.
 
   last_by : (a : Answer ℕ) → (run_begin run).answer ≡ a → AllAccepted puts_of_one → AllAccepted puts_of_other → LengthsAgree o → o.later_one ≡ o.later_other → last_one ≡ last_other
-  last_by (accepted n) h ok ok_other agree same =
+  last_by (accepted n) h ok taken_other agree same =
       let e = edition_by run.edition in
       let size = length run.buffer in
       let asleep = stopped_before run (one_parts o) in
@@ -377,8 +377,8 @@ module _ (run : Run) (o : TwoOrders) where
       ∙ (λ i. expected e size asleep (end_reordered shared_layout.end o.puts_one o.puts_other_is o.reordered agree i) (same_tree ok i) (same i))
       ∙ sym
       (answers_expected o.later_other e size asleep (end_all shared_layout.end o.puts_other_is) (put_all shared_tree o.puts_other_is) last_other (count _ o.later_other)
-      (made run (other_parts o) h ok_other).rest)
-  last_by (refused t) h ok ok_other agree same =
+      (made run (other_parts o) h taken_other).rest)
+  last_by (refused t) h ok _ agree same =
       let z = asleep run t h in
       let still : (cs : List Call) → state_after (state_after (run_start run) o.before) cs ≡ run_start run =
       λ cs. ap (λ (s : State). state_after s cs) (asleep_after (run_start run) z o.before) ∙ asleep_after (run_start run) z cs in

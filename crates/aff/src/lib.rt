@@ -1,4 +1,5 @@
 // The AFF library as its users see it. specs/ states its demands, proofs/ proves them.
+#![tactic(auto)]
 
 // Opening an image, and the record of an opened one.
 pub use aff_open::{Opening, form_for, open};
