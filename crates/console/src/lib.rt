@@ -1,104 +1,135 @@
-// What the programs share: text, numbers, refusals and elements on standard output, and, for tests, images on standard input.
-ghost use Rattle.std.specs.Prelude.{◌≤◌, length};
+// What the programs share: text, numbers, refusals and elements to a writer, and bytes and images from a reader. Where the writer says what it holds, and
+// the reader what it has left, the contracts say what is written and what is read; standard output and input say neither.
+#![tactic(auto)]
+
+ghost use Rattle.std.specs.Prelude.{◌≡◌, List, ℕ, IsTrue, ◌∷◌, ◌++◌, ◌<◌, ◌≤◌, codes, length, take, IfOk, OnOk};
+ghost use Rattle.std.specs.Fmt.{decimal as decimal_text, signed_decimal};
+ghost use Rattle.std.specs.Io.KnownBytes.{Appends, Consumes, IsAtEnd};
+ghost use Rattle.aff_format.specs.Number.{be_of};
+ghost use Rattle.aff_format.specs.Refusal.{number_of, place_of, second_of};
 
 use aff_format::{Element, ElementAnswer, Refusal, number};
-use libc::{STDIN_FILENO, STDOUT_FILENO};
+use std::io;
+use std::io::{Read, Write};
 
-pub fn text(bytes: &[u8]) {
-    io::write_all(STDOUT_FILENO, bytes);
+pub fn text<W: Write>(out: &mut W, bytes: &[u8]) -> io::Result<()>
+    ensures { OnOk result (Appends (W.contents out.old) (W.contents out.new) bytes.now) }
+{
+    out.write_all(bytes)
 }
 
 // The first bytes of a run; nothing where it has fewer.
-pub fn front(bytes: &[u8], size: usize) {
+pub fn front<W: Write>(out: &mut W, bytes: &[u8], size: usize) -> io::Result<()>
+    ensures { OnOk result (size ≤ length bytes.now → Appends (W.contents out.old) (W.contents out.new) (take size bytes.now)) }
+{
     if bytes.len() < size {
-        return;
+        return Ok(());
     }
-    text(&bytes[..size]);
+    text(out, &bytes[..size])
 }
 
-pub fn decimal(n: u64) {
-    io::print_decimal(STDOUT_FILENO, n);
+pub fn decimal<W: Write>(out: &mut W, n: u64) -> io::Result<()>
+    ensures { OnOk result (Appends (W.contents out.old) (W.contents out.new) (decimal_text n)) }
+{
+    write!(out, "{n}")
 }
 
 // `refused N P`.
-pub fn refusal(refusal: Refusal) {
-    text(b"refused ");
-    decimal(refusal.number() as u64);
-    text(b" ");
-    decimal(refusal.place() as u64);
+pub fn refusal<W: Write>(out: &mut W, why: Refusal) -> io::Result<()>
+    ensures { OnOk result (Appends (W.contents out.old) (W.contents out.new)
+        (codes "refused " ++ (decimal_text (number_of why) ++ (32 ∷ decimal_text (place_of why))))) }
+{
+    let number = why.number();
+    let place = why.place();
+    write!(out, "refused {number} {place}")
 }
 
 // `refused N P S`; S is the second number, 0 for every number but 10.
-pub fn refusal_in_full(why: Refusal) {
-    refusal(why);
-    text(b" ");
-    decimal(why.second_place() as u64);
+pub fn refusal_in_full<W: Write>(out: &mut W, why: Refusal) -> io::Result<()>
+    ensures { OnOk result (Appends (W.contents out.old) (W.contents out.new)
+        (codes "refused " ++ (decimal_text (number_of why) ++ (32 ∷ (decimal_text (place_of why) ++ (32 ∷ decimal_text (second_of why))))))) }
+{
+    let number = why.number();
+    let place = why.place();
+    let second = why.second_place();
+    write!(out, "refused {number} {place} {second}")
 }
 
 // A double by its bits in hexadecimal. The bits of a NaN are not those of the file.
-pub fn real(x: f64) {
+pub fn real<W: Write>(out: &mut W, x: f64) -> io::Result<()> {
     if x == x {
-        io::print_hex(STDOUT_FILENO, f64::to_bits(x), 16);
-        return;
+        let bits = x.to_bits();
+        return write!(out, "{bits:016x}");
     }
-    text(b"nan");
+    text(out, b"nan")
 }
 
-pub fn int(n: i32) {
-    if n < 0 {
-        text(b"-");
-        decimal((-1 - n) as u64 + 1);
-        return;
-    }
-    decimal(n as u64);
+pub fn int<W: Write>(out: &mut W, n: i32) -> io::Result<()>
+    ensures { OnOk result (Appends (W.contents out.old) (W.contents out.new) (signed_decimal n)) }
+{
+    write!(out, "{n}")
 }
 
 // An element, or the refusal, after a space.
-pub fn element(answer: ElementAnswer) {
-    text(b" ");
+pub fn element<W: Write>(out: &mut W, answer: ElementAnswer) -> io::Result<()> {
+    text(out, b" ")?;
     match answer {
         ElementAnswer::Value(element) => match element {
-            Element::Byte(n) => decimal(n as u64),
-            Element::Int(n) => int(n),
-            Element::Real(x) => real(x),
+            Element::Byte(n) => decimal(out, n as u64),
+            Element::Int(n) => int(out, n),
+            Element::Real(x) => real(out, x),
             Element::Pair(x, y) => {
-                real(x);
-                text(b",");
-                real(y);
+                real(out, x)?;
+                text(out, b",")?;
+                real(out, y)
             }
         },
-        ElementAnswer::Refused(why) => refusal(why),
+        ElementAnswer::Refused(why) => refusal(out, why),
     }
 }
 
 // Whether there was one more image, and its length.
-#[derive(Drop)]
+#[derive(Clone, Copy)]
 pub struct Next {
     pub found: bool,
     pub size: usize,
 }
 
-// Fills an area from standard input; false where that ends before.
-fn whole(area: &mut [u8]) -> bool {
-    io::read_full(STDIN_FILENO, area) == area.len()
+// Fills an area from its front, as far as the input goes, and returns how many bytes there were.
+pub fn read_full<R: Read>(input: &mut R, area: &mut [u8]) -> io::Result<usize>
+    ensures inside { IfOk result (λ n. n ≤ length area.new) }
+    ensures bytes { IfOk result (λ n. Consumes (R.remaining input.old) (R.remaining input.new) (take n area.new)) }
+    ensures end { IfOk result (λ n. n < length area.new → IsAtEnd (R.remaining input.new)) }
+{
+    let mut done: usize = 0;
+    while done < area.len() {
+        let n = input.read(&mut area[done..])?;
+        if n == 0 {
+            break;
+        }
+        done += n;
+    }
+    Ok(done)
 }
 
-// Reads the next image of standard input, which comes after its length in 4 bytes, into the front of an area.
-pub fn next_image(area: &mut [u8]) -> Next
-    ensures { result.size ≤ length area.new }
+// Reads the next image of an input, which comes after its length in 4 bytes, into the front of an area.
+pub fn next_image<R: Read>(input: &mut R, area: &mut [u8]) -> io::Result<Next>
+    ensures inside { IfOk result (λ next. next.size ≤ length area.new) }
+    ensures bytes { IfOk result (λ next. IsTrue next.found → ((head : List ℕ) × (length head ≡ 4) × (be_of head ≡ next.size)
+        × Consumes (R.remaining input.old) (R.remaining input.new) (head ++ take next.size area.new))) }
 {
     let mut head = [0u8; 4];
     let none = Next {
         found: false,
         size: 0,
     };
-    if io::read_full(STDIN_FILENO, &mut head) < 4 {
-        return none;
+    if read_full(input, &mut head)? < 4 {
+        return Ok(none);
     }
     let size = number::be32(&head, 0) as usize;
     if area.len() < size {
-        return none;
+        return Ok(none);
     }
-    let found = whole(&mut area[..size]);
-    Next { found, size }
+    let found = read_full(input, &mut area[..size])? == size;
+    Ok(Next { found, size })
 }

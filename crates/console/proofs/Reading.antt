@@ -1,0 +1,24 @@
+-- What a reader's known bytes lose by one read after others.
+use Rattle.std.proofs.Common.{Option, ◌≡◌, ℕ, ◌+◌, ◌≤◌, List, ◌++◌, None, Some, sym, ap, ◌∙◌, subst, append_assoc, length, take, length-take-le}
+use Rattle.std.proofs.lemmas.List.{take-append-le}
+use Rattle.std.proofs.Math.Seq.{take-append-add}
+use Rattle.std.specs.Io.KnownBytes.{Consumes}
+use borrow.Rule.Slice.PartMut.{put_mid, post_of}
+
+joined : (a b c : Option (List ℕ)) (bs cs : List ℕ) → Consumes a b bs → Consumes b c cs → Consumes a c (bs ++ cs)
+joined None b c bs cs p q = tt
+joined (Some x) None c bs cs p q = absurd p
+joined (Some x) (Some y) None bs cs p q = absurd q
+joined (Some x) (Some y) (Some z) bs cs p q = p ∙ ap (λ l. bs ++ l) q ∙ sym (append_assoc bs cs z)
+
+filled : (at k n : ℕ) (area part : List ℕ) → at ≤ length area → n ≤ length part → take at area ++ take n part ≡ take (at + n) (put_mid at k area part)
+filled at k n area part inside fits =
+    let front = take at area in
+    let rest = post_of at k area in
+    ap (λ l. front ++ l) (sym (take-append-le n part rest fits)) ∙ sym (take-append-add front (part ++ rest) n)
+    ∙ ap (λ m. take (m + n) (front ++ (part ++ rest))) (length-take-le at area inside)
+
+-- After bytes in the first `at` places, n more that a read puts into the part behind them.
+pub read_on : (a b c : Option (List ℕ)) (at k n : ℕ) (area part : List ℕ) → at ≤ length area → n ≤ length part → Consumes a b (take at area)
+    → Consumes b c (take n part) → Consumes a c (take (at + n) (put_mid at k area part))
+read_on a b c at k n area part inside fits p q = subst (Consumes a c) (filled at k n area part inside fits) (joined a b c _ _ p q)
