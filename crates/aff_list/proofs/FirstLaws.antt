@@ -74,7 +74,7 @@ module _ (image : List ℕ) (choice : Choice) (strings entries numbers : List �
       → Starts image o.reader ss es (printed choice image) ns o.lines 0 used before after
   unfolding lines_after
   first_refused q h w =
-      let z : o.lines ≡ 0 = b.1.1.0 ∙ ap (lines_by image _ _ choice) (sym (reported_is (Refused q) h)) in
+      let z : o.lines ≡ 0 = b.1.1.0 ∙ ap (lines_by image (strings_after image (form_for image) strings entries) (entries_after image (form_for image) strings entries) choice) (sym (reported_is (Refused q) h)) in
       rw (printed_is (Refused q) h) (starts_whole z w)
 
   pub first_accepted : o.verdict ≡ Accepted → {next used : ℕ} {before after : List ℕ}

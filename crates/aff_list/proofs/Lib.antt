@@ -8,3 +8,4 @@ pub mod FillLaws
 pub mod PrintedLaws
 pub mod FirstLaws
 pub mod LineAnswerLaws
+pub mod OutputLaws

@@ -42,7 +42,7 @@ fn measure(
 
 // What is decided before the first line: opening's verdict or 21, the record, and how many lines there are. The record of a refusal is all zero, and it
 // has no lines.
-#[derive(Drop)]
+#[derive(Clone, Copy)]
 pub struct Prepared {
     pub verdict: Verdict,
     pub reader: Reader,
@@ -149,7 +149,7 @@ fn put_row(
 }
 
 // Where a filled block ends: the place in the order of the line that comes next, and the bytes filled.
-#[derive(Drop)]
+#[derive(Clone, Copy)]
 pub struct Filled {
     pub next: usize,
     pub used: usize,
@@ -186,7 +186,7 @@ pub fn fill(
 
 // Where the first block ends: the record of the opening, how many lines there are in all, the place in listing order of the line that comes next, and the
 // bytes filled. Where the next place is the number of lines there is no further block.
-#[derive(Drop)]
+#[derive(Clone, Copy)]
 pub struct First {
     pub reader: Reader,
     pub lines: usize,

@@ -29,6 +29,7 @@ fn put_word(kind: Kind, out: &mut [u8]) -> usize
 }
 
 // What follows the path in a line: a space, the type word, a space, the count.
+#[tactic(auto, using(crate::proofs::LineLaws::word_length))]
 fn put_tail(kind: Kind, count: u32, out: &mut [u8]) -> usize
     requires { 19 ≤ length out.old }
     ensures { Written 0 (32 ∷ (kind_word kind ++ (32 ∷ decimal 10 count))) out.old out.new result }
@@ -90,6 +91,7 @@ pub fn line_of(
 }
 
 // Writes a node's line at the front of an output; the rest of it stays: 24, 15, 21. Returns the line's length.
+#[tactic(auto, using(aff_nodes::proofs::JudgeLaws::judge_belongs, aff_nodes::proofs::JudgeLaws::judge_refuses, aff_nodes::proofs::JudgeLaws::judge_answers), unfolding(crate::specs::Line::line_answer))]
 pub fn line(
     image: &[u8],
     reader: Reader,

@@ -1,14 +1,19 @@
-// The programs `list` and `listall`. No contract can say what is read or written: `first_block` and `fill` promise that the blocks, one after another, are the
-// text that is to be printed of the input (`in_order` of `Printing`), and the functions here write them in that order.
-ghost use Rattle.std.specs.Prelude.{◌≤◌, ◌<◌, length};
-ghost use Rattle.aff_list.specs.Lister.{input_limit};
+// The programs `list` and `listall`, over a reader and a writer. Where the reader says which bytes it has left, and the writer which it holds, the contracts
+// say that what is written is the text of what is read (`printed`). Standard input and output say neither.
+ghost use Rattle.std.specs.Prelude.{◌≡◌, ◌≤◌, ◌<◌, length, take, IfOk, IfSome, OnOk};
+ghost use Rattle.std.specs.Io.KnownBytes.{Appends};
+ghost use Rattle.aff_listing.specs.declared.choice.Choice.{Choice};
+ghost use Rattle.aff_list.specs.Lister.{input_limit, printed};
 
 use crate::blocks;
 use aff_listing::Choice;
-use libc::STDIN_FILENO;
+use std::io;
+use std::io::{Read, Write};
 
 // Prints the text of an input, block by block.
-fn print(input: &[u8], choice: Choice) {
+fn print<W: Write>(out: &mut W, input: &[u8], choice: Choice) -> io::Result<()>
+    ensures { OnOk result (Appends (W.contents out.old) (W.contents out.new) (printed choice input.now)) }
+{
     let mut strings = [0u32; 2048];
     let mut entries = [0u32; 2048];
     let mut order = [0u32; 2049];
@@ -24,31 +29,37 @@ fn print(input: &[u8], choice: Choice) {
     let reader = first.reader;
     let lines = first.lines;
     let used = first.used;
-    console::text(&block[..used]);
+    console::text(out, &block[..used])?;
     let mut next = first.next;
     while next < lines {
         let filled = blocks::fill(
             input, reader, &strings, &entries, &order, lines, next, &mut block,
         );
         let used = filled.used;
-        console::text(&block[..used]);
+        console::text(out, &block[..used])?;
         next = filled.next;
     }
+    Ok(())
 }
 
-// Reads standard input to its end, or until the buffer is full, and returns the number of bytes. A buffer above the limit shows that an input is too
+// Reads an input to its end, or until the buffer is full, and returns the number of bytes. A buffer above the limit shows that an input is too
 // long, and no more of it decides (`front` of `Printing`).
-fn read_input(buffer: &mut [u8]) -> usize
+fn read_input<R: Read>(input: &mut R, buffer: &mut [u8]) -> io::Result<usize>
     requires { input_limit < length buffer.old }
-    ensures { result ≤ length buffer.new }
+    ensures inside { IfOk result (λ n. n ≤ length buffer.new) }
+    ensures decides { IfOk result (λ n. IfSome (R.remaining input.old) (λ xs. (choice : Choice) → printed choice (take n buffer.new) ≡ printed choice xs)) }
 {
-    io::read_full(STDIN_FILENO, buffer)
+    let size = console::read_full(input, buffer)?;
+    Ok(size)
 }
 
-// Reads standard input and prints its text: a line for each node that the choice lists, in listing order; or the line `refused N P`; or, for an input
+// Reads an input and prints its text: a line for each node that the choice lists, in listing order; or the line `refused N P`; or, for an input
 // above 65,536 bytes, `too long`.
-pub fn run(choice: Choice) {
-    let mut input = [0u8; 65537];
-    let size = read_input(&mut input);
-    print(&input[..size], choice);
+#[tactic(auto, using(crate::proofs::OutputLaws::read_shown))]
+pub fn run<R: Read, W: Write>(input: &mut R, out: &mut W, choice: Choice) -> io::Result<()>
+    ensures { OnOk result (IfSome (R.remaining input.old) (λ xs. Appends (W.contents out.old) (W.contents out.new) (printed choice xs))) }
+{
+    let mut buffer = [0u8; 65537];
+    let size = read_input(input, &mut buffer)?;
+    print(out, &buffer[..size], choice)
 }

@@ -8,6 +8,7 @@ use crate::decimal;
 use aff_format::{Refusal, bytes};
 
 // Stores a number in decimal and one byte after it, and returns the place after both. A usize has at most 20 digits.
+#[tactic(auto, using(crate::proofs::DigitLaws::length_decimal))]
 fn put_field(number: usize, byte: u8, at: usize, out: &mut [u8]) -> usize
     requires { at + 21 ≤ length out.old }
     ensures { Written at (in_decimal number ++ (byte ∷ [])) out.old out.new result }
@@ -17,6 +18,7 @@ fn put_field(number: usize, byte: u8, at: usize, out: &mut [u8]) -> usize
 }
 
 // Stores the line of a number and a place at the front of a block, and returns its length.
+#[tactic(auto, using(crate::proofs::DigitLaws::place_fits))]
 fn put_line(number: usize, place: usize, block: &mut [u8]) -> usize
     requires { 50 ≤ length block.old }
     ensures { Written 0 (refusal_line number place) block.old block.new result }

@@ -1,0 +1,15 @@
+use Rattle.aff_list.proofs.OutputLaws.{shown_first, shown_more, shown_all, no_more}
+use Rattle.aff_list.proofs.output.print.Goals as goal
+
+pub loop-next-init : goal.loop-next-init
+loop-next-init g c =
+    let s = c.first_block-first.ensures.block in
+    record { few = s.few; ready = s.ready; shown = shown_first s c.in_ok-text.ensures }
+
+pub loop-next-preserved : goal.loop-next-preserved
+loop-next-preserved g c =
+    let i = c.loop-next.invariant in
+    record { few = i.few; ready = λ h. i.ready c.loop-next-test.true; shown = shown_more _ i.shown c.in_ok-text-2.ensures c.fill-filled.ensures.text }
+
+pub returns : goal.returns
+returns g c = shown_all c.loop-next.invariant.shown (no_more _ _ _ _ _ _ _ c.loop-next.invariant.few c.loop-next-test.false)
