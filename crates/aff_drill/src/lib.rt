@@ -1,4 +1,6 @@
 // The cut drill's work: the worked file of document 01 made with one total allowance, handed down from call to call, and then opened.
+#![tactic(auto)]
+
 ghost use Rattle.std.specs.Prelude.{◌≡◌, ◌-◌, replicate};
 ghost use Rattle.aff_format.specs.Answer.{refused};
 ghost use Rattle.aff_format.specs.Limits.{string_limit, node_limit};
