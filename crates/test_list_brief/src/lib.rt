@@ -1,23 +1,24 @@
 // For tests: what `list` or `listall` prints of an image, by the same functions, with a block above 1,024 bytes shown by its length and its MD5 sum.
+#![tactic(auto)]
+
 use aff_format::number;
 use aff_list::blocks;
 use aff_listing::Choice;
-use libc::STDOUT_FILENO;
+use std::io;
+use std::io::Write;
 
-fn brief(block: &[u8]) {
+fn brief(out: &mut impl Write, block: &[u8]) -> io::Result<()> {
     if block.len() <= 1024 {
-        console::text(block);
-        return;
+        return console::text(out, block);
     }
+    let size = block.len();
     let sum = aff_md5::md5(block);
-    console::decimal(block.len() as u64);
-    console::text(b" bytes, MD5 ");
-    io::print_hex(STDOUT_FILENO, number::be64(&sum, 0), 16);
-    io::print_hex(STDOUT_FILENO, number::be64(&sum, 8), 16);
-    console::text(b"\n");
+    let high = number::be64(&sum, 0);
+    let low = number::be64(&sum, 8);
+    writeln!(out, "{size} bytes, MD5 {high:016x}{low:016x}")
 }
 
-pub fn print(image: &[u8], choice: Choice) {
+pub fn print(out: &mut impl Write, image: &[u8], choice: Choice) -> io::Result<()> {
     let mut strings = [0u32; 2048];
     let mut entries = [0u32; 2048];
     let mut order = [0u32; 2049];
@@ -33,14 +34,15 @@ pub fn print(image: &[u8], choice: Choice) {
     let reader = first.reader;
     let lines = first.lines;
     let used = first.used;
-    brief(&block[..used]);
+    brief(out, &block[..used])?;
     let mut next = first.next;
     while next < lines {
         let filled = blocks::fill(
             image, reader, &strings, &entries, &order, lines, next, &mut block,
         );
         let used = filled.used;
-        brief(&block[..used]);
+        brief(out, &block[..used])?;
         next = filled.next;
     }
+    Ok(())
 }
