@@ -1,92 +1,129 @@
-// An image opened and read back on standard output, for tests: every node's answers, and those of the number after the last.
+// An image opened and read back to a writer, for tests: every node's answers, and those of the number after the last.
+#![tactic(auto)]
+
 pub mod show; // numbers, bytes and answers
 
 use aff_format::{NumberAnswer, Verdict};
 use aff_nodes::KindAnswer;
 use aff_reader::Reader;
+use std::io;
+use std::io::Write;
 
 // The elements of a node, and the index after them: 16.
 fn elements(
+    out: &mut impl Write,
     image: &[u8],
     reader: Reader,
     strings: &[u32],
     entries: &[u32],
     node: usize,
     count: usize,
-) {
-    console::text(b"  elements");
-    let mut k: usize = 0;
-    while k < count {
-        console::element(aff_nodes::node::element(image, reader, strings, entries, node, k));
-        k += 1;
+) -> io::Result<()> {
+    console::text(out, b"  elements")?;
+    for k in 0..count {
+        console::element(
+            out,
+            aff_nodes::node::element(image, reader, strings, entries, node, k),
+        )?;
     }
-    console::element(aff_nodes::node::element(image, reader, strings, entries, node, count));
-    console::text(b"\n");
+    console::element(
+        out,
+        aff_nodes::node::element(image, reader, strings, entries, node, count),
+    )?;
+    console::text(out, b"\n")
 }
 
-fn path(image: &[u8], reader: Reader, strings: &[u32], entries: &[u32], node: usize) {
-    let mut out = [0u8; 1024];
-    match aff_read::paths::path(image, reader, strings, entries, node, &mut out) {
-        NumberAnswer::Value(n) => console::front(&out, n),
-        NumberAnswer::Refused(refusal) => console::refusal(refusal),
+fn path(
+    out: &mut impl Write,
+    image: &[u8],
+    reader: Reader,
+    strings: &[u32],
+    entries: &[u32],
+    node: usize,
+) -> io::Result<()> {
+    let mut bytes = [0u8; 1024];
+    match aff_read::paths::path(image, reader, strings, entries, node, &mut bytes) {
+        NumberAnswer::Value(n) => console::front(out, &bytes, n),
+        NumberAnswer::Refused(refusal) => console::refusal(out, refusal),
     }
 }
 
-fn kind(answer: KindAnswer) {
+fn kind(out: &mut impl Write, answer: KindAnswer) -> io::Result<()> {
     match answer {
-        KindAnswer::Value(kind) => console::decimal(kind.code() as u64),
-        KindAnswer::Refused(refusal) => console::refusal(refusal),
+        KindAnswer::Value(kind) => console::decimal(out, kind.code() as u64),
+        KindAnswer::Refused(refusal) => console::refusal(out, refusal),
     }
 }
 
 // Number, path, name, type, count, bytes and elements of a node.
-fn node(image: &[u8], reader: Reader, strings: &[u32], entries: &[u32], k: usize) {
-    console::decimal(k as u64);
-    console::text(b" path ");
-    path(image, reader, strings, entries, k);
-    console::text(b" name ");
-    console::text(aff_nodes::node::name(image, reader, strings, entries, k));
-    console::text(b" type ");
-    kind(aff_nodes::node::kind(image, reader, strings, entries, k));
-    console::text(b" count ");
+fn node(
+    out: &mut impl Write,
+    image: &[u8],
+    reader: Reader,
+    strings: &[u32],
+    entries: &[u32],
+    k: usize,
+) -> io::Result<()> {
+    console::decimal(out, k as u64)?;
+    console::text(out, b" path ")?;
+    path(out, image, reader, strings, entries, k)?;
+    console::text(out, b" name ")?;
+    console::text(
+        out,
+        aff_nodes::node::name(image, reader, strings, entries, k),
+    )?;
+    console::text(out, b" type ")?;
+    kind(
+        out,
+        aff_nodes::node::kind(image, reader, strings, entries, k),
+    )?;
+    console::text(out, b" count ")?;
     let count = aff_nodes::node::count(image, reader, strings, entries, k);
-    show::answer(count);
-    console::text(b" bytes ");
-    show::hex(aff_nodes::node::view(image, reader, strings, entries, k));
-    console::text(b"\n");
+    show::answer(out, count)?;
+    console::text(out, b" bytes ")?;
+    show::hex(
+        out,
+        aff_nodes::node::view(image, reader, strings, entries, k),
+    )?;
+    console::text(out, b"\n")?;
     if let NumberAnswer::Value(n) = count {
-        elements(image, reader, strings, entries, k, n);
+        elements(out, image, reader, strings, entries, k, n)?;
     }
+    Ok(())
 }
 
-fn nodes(image: &[u8], reader: Reader, strings: &[u32], entries: &[u32]) {
-    console::text(b"opened");
-    show::next(reader.edition as u64);
-    show::next(reader.strings as u64);
-    show::next(reader.nodes as u64);
-    show::next(reader.records);
-    console::text(b"\n");
-    let last = show::lesser(reader.nodes, 2048);
-    let mut k: usize = 0;
-    while k <= last {
-        node(image, reader, strings, entries, k);
-        k += 1;
+fn nodes(
+    out: &mut impl Write,
+    image: &[u8],
+    reader: Reader,
+    strings: &[u32],
+    entries: &[u32],
+) -> io::Result<()> {
+    console::text(out, b"opened")?;
+    show::next(out, reader.edition as u64)?;
+    show::next(out, reader.strings as u64)?;
+    show::next(out, reader.nodes as u64)?;
+    show::next(out, reader.records)?;
+    console::text(out, b"\n")?;
+    let end = show::lesser(reader.nodes, 2048) + 1;
+    for k in 0..end {
+        node(out, image, reader, strings, entries, k)?;
     }
-    node(image, reader, strings, entries, k);
+    node(out, image, reader, strings, entries, end)
 }
 
 // Edition, strings, nodes and data record count of an image that opens, and every node; or the refusal.
-pub fn print(image: &[u8]) {
+pub fn print(out: &mut impl Write, image: &[u8]) -> io::Result<()> {
     let mut strings = [0u32; 2048];
     let mut entries = [0u32; 2048];
     let form = aff_open::form_for(image);
     let opening = aff_open::open(image, &form, &mut strings, &mut entries);
     let verdict = opening.verdict;
     match verdict {
-        Verdict::Accepted => nodes(image, opening.reader, &strings, &entries),
+        Verdict::Accepted => nodes(out, image, opening.reader, &strings, &entries),
         Verdict::Refused(refusal) => {
-            console::refusal(refusal);
-            console::text(b"\n");
+            console::refusal(out, refusal)?;
+            console::text(out, b"\n")
         }
     }
 }

@@ -1,8 +1,9 @@
-// Numbers, bytes and answers on standard output.
+// Numbers, bytes and answers to a writer.
 ghost use Rattle.std.specs.Prelude.{◌≤◌};
 
 use aff_format::NumberAnswer;
-use libc::STDOUT_FILENO;
+use std::io;
+use std::io::Write;
 
 pub fn lesser(a: usize, b: usize) -> usize
     ensures { result ≤ b }
@@ -10,32 +11,23 @@ pub fn lesser(a: usize, b: usize) -> usize
     if a < b { a } else { b }
 }
 
-fn wide(x: u8) -> u64 {
-    x as u64
-}
-
 // A space and a number.
-pub fn next(n: u64) {
-    console::text(b" ");
-    console::decimal(n);
+pub fn next(out: &mut impl Write, n: u64) -> io::Result<()> {
+    write!(out, " {n}")
 }
 
 // The bytes, each by two digits.
-pub fn hex(bytes: &[u8]) {
-    let mut i: usize = 0;
-    while i < bytes.len() {
-        io::print_hex(STDOUT_FILENO, wide(bytes[i]), 2);
-        i += 1;
+pub fn hex(out: &mut impl Write, bytes: &[u8]) -> io::Result<()> {
+    for byte in bytes {
+        write!(out, "{byte:02x}")?;
     }
+    Ok(())
 }
 
 // `accepted N` or `refused N P`.
-pub fn answer(answer: NumberAnswer) {
+pub fn answer(out: &mut impl Write, answer: NumberAnswer) -> io::Result<()> {
     match answer {
-        NumberAnswer::Value(n) => {
-            console::text(b"accepted ");
-            console::decimal(n as u64);
-        }
-        NumberAnswer::Refused(refusal) => console::refusal(refusal),
+        NumberAnswer::Value(n) => write!(out, "accepted {n}"),
+        NumberAnswer::Refused(refusal) => console::refusal(out, refusal),
     }
 }
