@@ -1,6 +1,9 @@
 // The program `list` again, run here on one byte above its limit.
-use aff_listing::Choice;
+#![tactic(auto)]
 
-fn main() {
-    aff_list::run(Choice::NotVoid);
+use aff_listing::Choice;
+use std::io;
+
+fn main(rt: HostRuntime) -> io::Result<()> {
+    aff_list::run(&mut rt.reader(), &mut io::writer(&rt), Choice::NotVoid)
 }
