@@ -1,6 +1,9 @@
 // The program `listall` again, run here on an image whose text takes more than one block.
-use aff_listing::Choice;
+#![tactic(auto)]
 
-fn main() {
-    aff_list::run(Choice::AllNodes);
+use aff_listing::Choice;
+use std::io;
+
+fn main(rt: HostRuntime) -> io::Result<()> {
+    aff_list::run(&mut rt.reader(), &mut io::writer(&rt), Choice::AllNodes)
 }
