@@ -1,23 +1,29 @@
 // The cut drill: makes the worked file of document 01 in a buffer of 214 zero bytes with every total allowance K from 0 to 215, and prints a
 // line for each: `K refused 3 0` up to 214, then `215 opened`. The file stdout is from
 // python3 -c "[print(k, 'refused 3 0') for k in range(215)]; print('215 opened')"
-use aff_format::Verdict;
+#![tactic(auto)]
 
-fn line(allowance: usize) {
+use aff_format::Verdict;
+use std::io;
+use std::io::Write;
+
+fn line(out: &mut impl Write, allowance: usize) -> io::Result<()> {
     let mut buffer = [0u8; 214];
-    console::decimal(allowance as u64);
+    console::decimal(out, allowance as u64)?;
     match aff_drill::drill(&mut buffer, allowance) {
         Verdict::Refused(refusal) => {
-            console::text(b" ");
-            console::refusal(refusal);
+            console::text(out, b" ")?;
+            console::refusal(out, refusal)?;
         }
-        Verdict::Accepted => console::text(b" opened"),
+        Verdict::Accepted => console::text(out, b" opened")?,
     }
-    console::text(b"\n");
+    console::text(out, b"\n")
 }
 
-fn main() {
+fn main(rt: HostRuntime) -> io::Result<()> {
+    let mut out = io::writer(&rt);
     for allowance in 0..216 {
-        line(allowance);
+        line(&mut out, allowance)?;
     }
+    Ok(())
 }
