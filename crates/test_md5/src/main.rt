@@ -1,7 +1,10 @@
 // Runs `md5` and writes each digest as a line of hexadecimal digits: the seven messages of RFC 1321, section A.5, and then the messages
 // of every length from 0 to 200 bytes, in which byte i is i modulo 251. The file `stdout` is what the program must write; it was made
 // by another implementation, Python's hashlib.
-use libc::STDOUT_FILENO;
+#![tactic(auto)]
+
+use std::io;
+use std::io::Write;
 
 const DIGITS: [u8; 16] = *b"0123456789abcdef";
 
@@ -10,41 +13,49 @@ fn digit(x: u8) -> u8 {
     DIGITS[(x % 16) as usize]
 }
 
-// Writes a digest to standard output, as 32 hexadecimal digits and the end of the line.
-fn show(d: [u8; 16]) {
+// Writes a digest, as 32 hexadecimal digits and the end of the line.
+fn show(out: &mut impl Write, d: [u8; 16]) -> io::Result<()> {
     let mut line = [b'\n'; 33];
     for i in 0..16 {
         line[2 * i] = digit(d[i] / 16);
         line[2 * i + 1] = digit(d[i]);
     }
-    io::write_all(STDOUT_FILENO, &line);
+    out.write_all(&line)
 }
 
 // The messages of RFC 1321, section A.5.
-fn examples() {
-    show(aff_md5::md5(b""));
-    show(aff_md5::md5(b"a"));
-    show(aff_md5::md5(b"abc"));
-    show(aff_md5::md5(b"message digest"));
-    show(aff_md5::md5(b"abcdefghijklmnopqrstuvwxyz"));
-    show(aff_md5::md5(b"ABCDEFGHIJKLMNOPQRSTUVWXYZabcdefghijklmnopqrstuvwxyz0123456789"));
-    show(aff_md5::md5(
-        b"12345678901234567890123456789012345678901234567890123456789012345678901234567890",
-    ));
+fn examples(out: &mut impl Write) -> io::Result<()> {
+    show(out, aff_md5::md5(b""))?;
+    show(out, aff_md5::md5(b"a"))?;
+    show(out, aff_md5::md5(b"abc"))?;
+    show(out, aff_md5::md5(b"message digest"))?;
+    show(out, aff_md5::md5(b"abcdefghijklmnopqrstuvwxyz"))?;
+    show(
+        out,
+        aff_md5::md5(b"ABCDEFGHIJKLMNOPQRSTUVWXYZabcdefghijklmnopqrstuvwxyz0123456789"),
+    )?;
+    show(
+        out,
+        aff_md5::md5(
+            b"12345678901234567890123456789012345678901234567890123456789012345678901234567890",
+        ),
+    )
 }
 
 // The messages of every length from 0 to 200 bytes.
-fn lengths() {
+fn lengths(out: &mut impl Write) -> io::Result<()> {
     let mut message = [0u8; 200];
     for i in 0..200 {
         message[i] = (i % 251) as u8;
     }
     for n in 0..201 {
-        show(aff_md5::md5(&message[..n]));
+        show(out, aff_md5::md5(&message[..n]))?;
     }
+    Ok(())
 }
 
-fn main() {
-    examples();
-    lengths();
+fn main(rt: HostRuntime) -> io::Result<()> {
+    let mut out = io::writer(&rt);
+    examples(&mut out)?;
+    lengths(&mut out)
 }
