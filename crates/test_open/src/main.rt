@@ -1,119 +1,119 @@
 // Opens each image of standard input, each after its length in 4 bytes, and prints what opening answers: the record's edition, strings,
 // nodes and data record count, or the refusal's number, place and second number; then the sums of the two areas. tests/make_images.py makes images and
 // answers; it shares no code with the library. Last, areas and forms of wrong lengths are passed: nothing changes.
+#![tactic(auto)]
+
 ghost use Rattle.std.specs.Prelude.{◌≤◌};
 
 use aff_format::Verdict;
 use aff_open::Opening;
-
-fn wide(x: u32) -> u64 {
-    x as u64
-}
+use std::io;
+use std::io::{Read, Write};
 
 // The sum of an area.
 fn total(area: &[u32]) -> u64 {
     let mut sum: u64 = 0;
-    let mut i: usize = 0;
-    while i < area.len() {
-        sum = std::num::wrapping_add_u64(sum, wide(area[i]));
-        i += 1;
+    for x in area {
+        sum = sum.wrapping_add(u64::from(*x));
     }
     sum
 }
 
-fn show(opening: Opening) {
+fn show(out: &mut impl Write, opening: Opening) -> io::Result<()> {
     let verdict = opening.verdict;
     match verdict {
         Verdict::Accepted => {
             let reader = opening.reader;
-            console::text(b"opened ");
-            console::decimal(reader.edition as u64);
-            console::text(b" ");
-            console::decimal(reader.strings as u64);
-            console::text(b" ");
-            console::decimal(reader.nodes as u64);
-            console::text(b" ");
-            console::decimal(reader.records);
+            console::text(out, b"opened ")?;
+            console::decimal(out, reader.edition as u64)?;
+            console::text(out, b" ")?;
+            console::decimal(out, reader.strings as u64)?;
+            console::text(out, b" ")?;
+            console::decimal(out, reader.nodes as u64)?;
+            console::text(out, b" ")?;
+            console::decimal(out, reader.records)
         }
-        Verdict::Refused(refusal) => {
-            console::refusal_in_full(refusal);
-        }
+        Verdict::Refused(refusal) => console::refusal_in_full(out, refusal),
     }
 }
 
 // One image, in areas that hold something before.
-fn one(k: usize, image: &[u8]) {
+fn one(out: &mut impl Write, k: usize, image: &[u8]) -> io::Result<()> {
     let mut strings = [7u32; 2048];
     let mut entries = [9u32; 2048];
     let form = aff_open::form_for(image);
     let opening = aff_open::open(image, &form, &mut strings, &mut entries);
-    console::decimal(k as u64);
-    console::text(b" ");
-    show(opening);
-    console::text(b" areas ");
-    console::decimal(total(&strings));
-    console::text(b" ");
-    console::decimal(total(&entries));
-    console::text(b"\n");
+    console::decimal(out, k as u64)?;
+    console::text(out, b" ")?;
+    show(out, opening)?;
+    console::text(out, b" areas ")?;
+    console::decimal(out, total(&strings))?;
+    console::text(out, b" ")?;
+    console::decimal(out, total(&entries))?;
+    console::text(out, b"\n")
 }
 
-// The next image of standard input, number k; false where there is none.
-fn next(k: usize) -> bool {
+// The next image of the input, number k; false where there is none.
+fn next(input: &mut impl Read, out: &mut impl Write, k: usize) -> io::Result<bool> {
     let mut image = [0u8; 65537];
-    let next = console::next_image(&mut image);
+    let next = console::next_image(input, &mut image)?;
     if !next.found {
-        return false;
+        return Ok(false);
     }
     let size = next.size;
-    one(k, &image[..size]);
-    true
+    one(out, k, &image[..size])?;
+    Ok(true)
 }
 
-fn images() {
-    let mut k: usize = 0;
-    while k < 1000 {
-        if !next(k) {
-            return;
+fn images(input: &mut impl Read, out: &mut impl Write) -> io::Result<()> {
+    for k in 0..1000 {
+        if !next(input, out, k)? {
+            break;
         }
-        k += 1;
     }
+    Ok(())
 }
 
 // Areas and a form that are passed, and whether the areas stay as they are.
-fn pass_areas(form: &[u8], strings: &mut [u32], entries: &mut [u32]) {
+fn pass_areas(
+    out: &mut impl Write,
+    form: &[u8],
+    strings: &mut [u32],
+    entries: &mut [u32],
+) -> io::Result<()> {
     let first = total(strings);
     let second = total(entries);
     let opening = aff_open::open(b"", form, strings, entries);
-    console::text(b"passed ");
-    show(opening);
-    if total(strings) == first {
-        if total(entries) == second {
-            console::text(b" unchanged");
-        }
+    console::text(out, b"passed ")?;
+    show(out, opening)?;
+    if total(strings) == first && total(entries) == second {
+        console::text(out, b" unchanged")?;
     }
-    console::text(b"\n");
+    console::text(out, b"\n")
 }
 
 // Areas and a form of some lengths.
-fn lengths(strings: usize, entries: usize, form: usize)
+fn lengths(out: &mut impl Write, strings: usize, entries: usize, form: usize) -> io::Result<()>
     requires { (strings ≤ 2049) × (entries ≤ 2049) × (form ≤ 13) }
 {
     let mut places = [7u32; 2049];
     let mut nodes = [9u32; 2049];
     let bytes = [0u8; 13];
     pass_areas(
+        out,
         &bytes[..form],
         &mut places[..strings],
         &mut nodes[..entries],
-    );
+    )
 }
 
-fn main() {
-    images();
-    lengths(2047, 2048, 12);
-    lengths(2049, 2048, 12);
-    lengths(2048, 2047, 12);
-    lengths(2048, 2049, 12);
-    lengths(2048, 2048, 11);
-    lengths(2048, 2048, 13);
+fn main(rt: HostRuntime) -> io::Result<()> {
+    let mut out = io::writer(&rt);
+    images(&mut rt.reader(), &mut out)?;
+    lengths(&mut out, 2047, 2048, 12)?;
+    lengths(&mut out, 2049, 2048, 12)?;
+    lengths(&mut out, 2048, 2047, 12)?;
+    lengths(&mut out, 2048, 2049, 12)?;
+    lengths(&mut out, 2048, 2048, 11)?;
+    lengths(&mut out, 2048, 2048, 13)
 }
