@@ -1,58 +1,80 @@
 // Runs the writer by the script on standard input, and prints each call's answer with the record after it. tests/make_writes.py makes the
 // script and what must be printed; it shares no code with the library.
+#![tactic(auto)]
+
 mod record; // sums and the record, printed
 mod steps; // the steps of a script
 
 use aff_write::Writer;
+use std::io;
+use std::io::{Read, Write};
 use steps::State;
 
-// A step from standard input; false, with the state as it was, where there is none.
-#[derive(Drop)]
+// A step from the input; false, with the state as it was, where there is none.
+#[derive(Clone, Copy)]
 struct Taken {
     found: bool,
     state: State,
 }
 
-fn next_step(state: State, buffer: &mut [u8], text: &mut [u8], tree: &mut [u8]) -> Taken {
+fn next_step(
+    input: &mut impl Read,
+    out: &mut impl Write,
+    state: State,
+    buffer: &mut [u8],
+    text: &mut [u8],
+    tree: &mut [u8],
+) -> io::Result<Taken> {
     let mut block = [0u8; 65536];
-    let next = console::next_image(&mut block);
+    let next = console::next_image(input, &mut block)?;
     if next.found {
         let size = next.size;
-        let after = steps::run(state, &block[..size], buffer, text, tree);
-        return Taken {
+        let after = steps::run(out, state, &block[..size], buffer, text, tree)?;
+        return Ok(Taken {
             found: true,
             state: after,
-        };
+        });
     }
-    Taken {
+    Ok(Taken {
         found: false,
         state,
-    }
+    })
 }
 
-// The steps of standard input, one after another.
-fn script(buffer: &mut [u8], text: &mut [u8], tree: &mut [u8]) {
+// The steps of the input, one after another.
+fn script(
+    input: &mut impl Read,
+    out: &mut impl Write,
+    buffer: &mut [u8],
+    text: &mut [u8],
+    tree: &mut [u8],
+) -> io::Result<()> {
     let mut state = State {
         writer: Writer::none(),
         buffer: 0,
         text: 0,
         tree: 0,
     };
-    let mut k: usize = 0;
-    while k < 100000 {
-        let next = next_step(state, buffer, text, tree);
+    for _ in 0..100000 {
+        let next = next_step(input, out, state, buffer, text, tree)?;
         if !next.found {
-            return;
+            break;
         }
         state = next.state;
-        k += 1;
     }
+    Ok(())
 }
 
 // The buffer, and the two areas with one byte more than they have to have.
-fn main() {
+fn main(rt: HostRuntime) -> io::Result<()> {
     let mut buffer = [0u8; 65536];
     let mut text = [0u8; 32769];
     let mut tree = [0u8; 51201];
-    script(&mut buffer, &mut text, &mut tree);
+    script(
+        &mut rt.reader(),
+        &mut io::writer(&rt),
+        &mut buffer,
+        &mut text,
+        &mut tree,
+    )
 }

@@ -9,10 +9,12 @@ use crate::record;
 use aff_format::number;
 use aff_listing::Choice;
 use aff_write::{Writer, Writing};
+use std::io;
+use std::io::Write;
 use test_dump::show;
 
 // The record that the next call gets, and how much of buffer and areas is passed to it.
-#[derive(Drop)]
+#[derive(Clone, Copy)]
 pub struct State {
     pub writer: Writer,
     pub buffer: usize,
@@ -21,7 +23,7 @@ pub struct State {
 }
 
 // What a step says besides its bytes.
-#[derive(Drop)]
+#[derive(Clone, Copy)]
 struct Step {
     letter: u8,
     first: u64,
@@ -50,18 +52,18 @@ fn with_writer(state: State, writer: Writer) -> State {
 }
 
 // The state after a call, whose name, answer and record are printed.
-fn report(state: State, letter: u8, done: Writing) -> State {
+fn report(out: &mut impl Write, state: State, letter: u8, done: Writing) -> io::Result<State> {
     match letter {
-        b'b' => console::text(b"begin "),
-        b'm' => console::text(b"make "),
-        b'p' => console::text(b"put "),
-        _ => console::text(b"close "),
+        b'b' => console::text(out, b"begin ")?,
+        b'm' => console::text(out, b"make ")?,
+        b'p' => console::text(out, b"put ")?,
+        _ => console::text(out, b"close ")?,
     }
     let answer = done.answer;
     let writer = done.writer;
-    show::answer(answer);
-    record::print(writer);
-    with_writer(state, writer)
+    show::answer(out, answer)?;
+    record::print(out, writer)?;
+    Ok(with_writer(state, writer))
 }
 
 fn chosen(field: u64, own: u64, value: u64, old: usize) -> usize {
@@ -100,10 +102,9 @@ fn altered(writer: Writer, field: u64, value: u64) -> Writer {
 }
 
 fn fill(area: &mut [u8], byte: u64) {
-    let mut i: usize = 0;
-    while i < area.len() {
-        area[i] = (byte % 256) as u8;
-        i += 1;
+    let low = (byte % 256) as u8;
+    for place in area.iter_mut() {
+        *place = low;
     }
 }
 
@@ -115,12 +116,12 @@ fn poke(area: &mut [u8], at: u64, byte: u64) {
 }
 
 // The sums of what is passed.
-fn sums(buffer: &[u8], text: &[u8], tree: &[u8]) {
-    console::text(b"sums");
-    record::sum(buffer);
-    record::sum(text);
-    record::sum(tree);
-    console::text(b"\n");
+fn sums(out: &mut impl Write, buffer: &[u8], text: &[u8], tree: &[u8]) -> io::Result<()> {
+    console::text(out, b"sums")?;
+    record::sum(out, buffer)?;
+    record::sum(out, text)?;
+    record::sum(out, tree)?;
+    console::text(out, b"\n")
 }
 
 // A call of the writer.
@@ -144,73 +145,89 @@ fn call(
 }
 
 // What is printed between calls, or changed without the writer.
-fn aside(step: Step, bytes: &[u8], buffer: &mut [u8], text: &mut [u8], tree: &mut [u8]) {
+fn aside(
+    out: &mut impl Write,
+    step: Step,
+    bytes: &[u8],
+    buffer: &mut [u8],
+    text: &mut [u8],
+    tree: &mut [u8],
+) -> io::Result<()> {
     let letter = step.letter;
     match letter {
         b'#' => {
-            console::text(bytes);
-            console::text(b"\n");
+            console::text(out, bytes)?;
+            console::text(out, b"\n")?;
         }
         b'f' => fill(buffer, step.first),
         b'R' => poke(buffer, step.first, step.second),
         b'S' => poke(text, step.first, step.second),
         b'T' => poke(tree, step.first, step.second),
-        b's' => sums(buffer, text, tree),
+        b's' => sums(out, buffer, text, tree)?,
         b'x' => {
-            show::hex(buffer);
-            console::text(b"\n");
+            show::hex(out, buffer)?;
+            console::text(out, b"\n")?;
         }
-        b'l' => test_list_brief::print(buffer, Choice::AllNodes),
-        b'o' => test_dump::print(buffer),
+        b'l' => test_list_brief::print(out, buffer, Choice::AllNodes)?,
+        b'o' => test_dump::print(out, buffer)?,
         _ => {}
     }
+    Ok(())
 }
 
 // One step, with as much passed as the state says.
 fn act(
+    out: &mut impl Write,
     state: State,
     step: Step,
     bytes: &[u8],
     buffer: &mut [u8],
     text: &mut [u8],
     tree: &mut [u8],
-) -> State {
+) -> io::Result<State> {
     let letter = step.letter;
     let writer = state.writer;
     match letter {
         b'b' | b'm' | b'p' | b'c' => {
-            report(state, letter, call(writer, step, bytes, buffer, text, tree))
+            report(
+                out,
+                state,
+                letter,
+                call(writer, step, bytes, buffer, text, tree),
+            )
         }
-        b'a' => with_writer(state, altered(writer, step.first, step.second)),
-        b'=' => State {
+        b'a' => Ok(with_writer(state, altered(writer, step.first, step.second))),
+        b'=' => Ok(State {
             writer,
             buffer: step.first as usize,
             text: step.second as usize,
             tree: step.third as usize,
-        },
+        }),
         _ => {
-            aside(step, bytes, buffer, text, tree);
-            state
+            aside(out, step, bytes, buffer, text, tree)?;
+            Ok(state)
         }
     }
 }
 
 // Runs the step that a block holds. A block that is too short for one is passed over.
 pub fn run(
+    out: &mut impl Write,
     state: State,
     block: &[u8],
     buffer: &mut [u8],
     text: &mut [u8],
     tree: &mut [u8],
-) -> State {
+) -> io::Result<State> {
     if block.len() < 25 {
-        return state;
+        return Ok(state);
     }
     let step = step_of(block);
     let a = show::lesser(state.buffer, buffer.len());
     let b = show::lesser(state.text, text.len());
     let c = show::lesser(state.tree, tree.len());
     act(
+        out,
         state,
         step,
         &block[25..],
