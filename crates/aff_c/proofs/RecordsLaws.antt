@@ -69,16 +69,16 @@ module _ (image form strings entries output : List ℕ) {r : Reader} (long : 13 
   opened_placed = rw (le-leb 13 (length output) long, h)
 
 -- No edition has the number 0.
-no_writer_lem : (size : ℕ) (l form text tree : List ℕ) → 4294967295 < get_or l 2 0 → WriterBelongs size (writer_in l form) text tree → ⊥
+no_wide_writer : (size : ℕ) (l form text tree : List ℕ) → 4294967295 < get_or l 2 0 → WriterBelongs size (writer_in l form) text tree → ⊥
 unfolding writer_in
-no_writer_lem size l form text tree h b =
+no_wide_writer size l form text tree h b =
     let (e, is, w) = b.edition_written in
     let low = ((edition_numbers 0).0 (e, is ∙ wide (get_or l 2 0) h)).0 in
     omega (arith, low)
 
-no_reader_lem : (image l strings entries : List ℕ) → 4294967295 < get_or l 2 0 → ReaderBelongs image (reader_in l) strings entries → ⊥
+no_wide_reader : (image l strings entries : List ℕ) → 4294967295 < get_or l 2 0 → ReaderBelongs image (reader_in l) strings entries → ⊥
 unfolding reader_in
-no_reader_lem image l strings entries h b =
+no_wide_reader image l strings entries h b =
     let is = number_of_edition (edition_number_in (get_or l 2 0)) b.edition_recorded in
     let low = ((edition_numbers 0).0 (b.edition, is ∙ wide (get_or l 2 0) h)).0 in
     omega (arith, low)
@@ -92,6 +92,6 @@ records_in_c =
       none_zero = all_zero;
       end_at = end_placed;
       opened_edition_at = opened_placed;
-      edition_wide = no_writer_lem;
-      opened_edition_wide = no_reader_lem;
+      edition_wide = no_wide_writer;
+      opened_edition_wide = no_wide_reader;
     }

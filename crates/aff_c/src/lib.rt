@@ -1,6 +1,8 @@
 // The library for programs in C and Rust that link the static library of this crate. include/aff.h declares and documents every function: a slice is
 // passed as two arguments, a pointer and a length. The caller sees to it that the pointers are valid for the lengths and that what is written
 // overlaps nothing else that is passed.
+#![tactic(auto)]
+
 pub mod opening; // opening an image
 pub mod reading; // lookup, listing, what a node is, elements
 pub mod writing; // begin, make, put, close

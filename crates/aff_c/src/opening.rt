@@ -22,6 +22,7 @@ fn code_of(opening: Opening) -> RefusalCode
     }
 }
 
+#[tactic(auto, unfolding(crate::specs::Opening::numbers_of))]
 fn numbers(code: RefusalCode, reader: Reader) -> [u64; 13]
     ensures { result ≡ numbers_of code reader }
 {
@@ -73,6 +74,7 @@ fn put_bytes(output: &mut [u8], bytes: [u8; 12])
 // numbers into the record: the place that a refusal reports, or 0; of an accepted image, else zeros, its length, its edition, offset and
 // size of the symbol, the tree and the data section, how many strings and how many nodes it has, and the data section's record count; and last the
 // second number of 10, or 0. Where the record has fewer than 13 numbers, it opens nothing, changes nothing and returns 255.
+#[tactic(auto, unfolding(crate::specs::Opening::number_returned, crate::specs::Opening::record_left, crate::specs::Opening::strings_left, crate::specs::Opening::entries_left))]
 #[unsafe(no_mangle)]
 pub extern "C" fn aff_open_image(
     image: &[u8],
@@ -98,6 +100,7 @@ pub extern "C" fn aff_open_image(
 
 // Writes the 12 bytes that our programs expect after the signature text of an image into the first 12 bytes of the output, and returns
 // true. Where the output has fewer bytes, it writes nothing and returns false.
+#[tactic(auto, unfolding(crate::specs::Opening::with_form))]
 #[unsafe(no_mangle)]
 pub extern "C" fn aff_form_for(image: &[u8], output: &mut [u8]) -> bool
     ensures written { result ≡ leb 12 (length output.old) }
@@ -112,6 +115,7 @@ pub extern "C" fn aff_form_for(image: &[u8], output: &mut [u8]) -> bool
 
 // Writes the 12 bytes of an edition, as our programs expect them after the signature text, into the first 12 bytes of the output, and returns true.
 // Where there is no such edition, or the output has fewer bytes, it writes nothing and returns false.
+#[tactic(auto, unfolding(crate::specs::Opening::with_form_of))]
 #[unsafe(no_mangle)]
 pub extern "C" fn aff_form(edition: u32, output: &mut [u8]) -> bool
     ensures written { result ≡ has_form_of edition output.old }

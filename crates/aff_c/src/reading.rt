@@ -18,6 +18,7 @@ use aff_nodes::{KindAnswer, PartAnswer};
 use aff_reader::{Reader, Span};
 
 // The number of an edition in a record; 0, which is no edition, where it has more than 32 bits.
+#[tactic(auto, unfolding(crate::specs::Reading::edition_number_in))]
 pub fn edition_of(number: u64) -> u32
     ensures { result ≡ edition_number_in number }
 {
@@ -27,6 +28,7 @@ pub fn edition_of(number: u64) -> u32
     number as u32
 }
 
+#[tactic(auto, unfolding(crate::specs::Reading::reader_in))]
 fn reader_of(numbers: &[u64; 12]) -> Reader
     ensures { result ≡ reader_in numbers.now }
 {
@@ -333,6 +335,7 @@ pub extern "C" fn aff_element(
 }
 
 // One element of data that the caller holds, as `aff_format::element::decode` reports; 255 where no kind has the code.
+#[tactic(auto, unfolding(crate::specs::Reading::decoded_answer))]
 #[unsafe(no_mangle)]
 pub extern "C" fn aff_decode(
     kind: u64,

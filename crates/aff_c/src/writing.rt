@@ -14,6 +14,7 @@ use crate::reading;
 use aff_format::{NumberAnswer, Refusal};
 use aff_write::{Writer, Writing};
 
+#[tactic(auto, unfolding(crate::specs::Writing::writer_in))]
 fn writer_of(numbers: &[u64; 8], kept: &[u8; 12]) -> Writer
     ensures { result ≡ writer_in numbers.now kept.now }
 {
@@ -36,6 +37,7 @@ fn flag(live: bool) -> u64
     if live { 1 } else { 0 }
 }
 
+#[tactic(auto, unfolding(crate::specs::Writing::numbers_by))]
 fn numbers_by(reported: usize, writer: Writer) -> [u64; 8]
     ensures { result ≡ numbers_by reported writer }
 {
@@ -138,6 +140,7 @@ pub extern "C" fn aff_begin(
 }
 
 // Makes a child, as `aff_make::make` does.
+#[tactic(auto, unfolding(crate::specs::Writing::numbers_made, crate::specs::Writing::text_made, crate::specs::Writing::tree_made))]
 #[unsafe(no_mangle)]
 pub extern "C" fn aff_make(
     buffer: &[u8],
@@ -159,6 +162,7 @@ pub extern "C" fn aff_make(
 }
 
 // Puts data into a node, as `aff_write::put` does.
+#[tactic(auto, unfolding(crate::specs::Writing::numbers_put, crate::specs::Writing::buffer_put, crate::specs::Writing::tree_put))]
 #[unsafe(no_mangle)]
 pub extern "C" fn aff_put(
     buffer: &mut [u8],
@@ -191,6 +195,7 @@ pub extern "C" fn aff_put(
 }
 
 // Closes the file, as `aff_write::close` does.
+#[tactic(auto, unfolding(crate::specs::Writing::numbers_closed, crate::specs::Writing::buffer_closed))]
 #[unsafe(no_mangle)]
 pub extern "C" fn aff_close(
     buffer: &mut [u8],
