@@ -1,11 +1,11 @@
 #!/usr/bin/env python3
-"""The speed of crates/md5 beside the machine's md5sum, in one run, on one file of 64 MiB that is in the page cache.
+"""The speed of crates/aff_md5 beside the machine's md5sum, in one run, on one file of 64 MiB that is in the page cache.
 
 Elapsed times of alternating runs, the least of three in a round:
 - the digest alone: the call of our function, beside md5sum's time less that of a program that only reads the file as md5sum does.
 - whole programs: process start, the file, and the digest. Ours maps the file or reads it into newly allocated memory, md5sum reads it.
 
-Then the size of the compiled function: the bytes of code and of constants that `size -A` reports of target/staticlib/libmd5_c.a.
+Then the size of the compiled function: the bytes of code and of constants that `size -A` reports of crates/md5_c/out/libmd5_c.a.
 
 The run fails where the two digests differ. Use, from anywhere: bench/md5.py [ROUNDS].
 It needs rt, a C compiler as cc, size (binutils), md5sum, and Linux on x86-64.

@@ -19,15 +19,17 @@ LONG_SAMPLE = 0.1
 
 def build(*words, folder=ROOT, **environment):
     """Runs a command that builds something; what it prints is shown only where it fails."""
-    done = subprocess.run(words, cwd=folder, env={**os.environ, **environment}, stdout=subprocess.PIPE, stderr=subprocess.STDOUT, text=True)
+    streams = {"stdin": subprocess.DEVNULL, "stdout": subprocess.PIPE, "stderr": subprocess.STDOUT}
+    done = subprocess.run(words, cwd=folder, env={**os.environ, **environment}, text=True, **streams)
     if done.returncode:
         sys.exit(f"{done.stdout}\n{' '.join(words)} failed")
 
 
 @functools.cache
 def library(crate):
-    build("rt", "staticlib", crate)
-    return os.path.join(ROOT, "target", "staticlib", f"lib{crate}.a")
+    folder = os.path.join(ROOT, "crates", crate)
+    build("rt", "lib", folder=folder)
+    return os.path.join(folder, "out", f"lib{crate}.a")
 
 
 @functools.cache
@@ -41,9 +43,10 @@ def program(name):
 
 @functools.cache
 def lister(name):
-    """The program `list` or `listall`."""
-    build("rt", "check", name)
-    return os.path.join(ROOT, "target", "bin", name)
+    """The program `list` or `listall`, which `rt run` also runs, here on no byte at all."""
+    folder = os.path.join(ROOT, "crates", name)
+    build("rt", "run", folder=folder)
+    return os.path.join(folder, "out", name)
 
 
 @functools.cache

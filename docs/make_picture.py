@@ -1,7 +1,7 @@
 #!/usr/bin/env python3
 """Draws docs/worked.svg: the layout of the worked file, and what each of its 216 stopping points leaves.
 
-    rt check cut_drill && target/bin/cut_drill | python3 docs/make_picture.py samples/worked.aff > docs/worked.svg
+    (cd crates/cut_drill && rt run) | python3 docs/make_picture.py samples/worked.aff > docs/worked.svg
 
 The file's parts are read off its own header, the outcomes are the lines of `cut_drill`. Nothing of the library is used.
 """

@@ -1,6 +1,6 @@
 // aff.h - AFF files in C and C++: opening, reading, writing.
 //
-// Link with target/staticlib/libaff_c.a, which `rt staticlib aff_c` builds (x86-64). samples/read.c and samples/write.c are complete programs.
+// Link with crates/aff_c/out/libaff_c.a, which `rt lib` in crates/aff_c builds (Linux on x86-64-v2). samples/read.c and samples/write.c are complete programs.
 //
 // The format has three editions: 1, 2 and 3 are read, 2 and 3 are written. In editions 1 and 2 few characters are allowed in names; in edition 3 all bytes
 // but '/' and zero are. The comment at aff_make has both rules.

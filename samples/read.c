@@ -1,5 +1,6 @@
 // Reads one key of an AFF file: `read FILE PATH` prints a line for each element of the node with that path.
-//     rt staticlib aff_c && cc -I include samples/read.c target/staticlib/libaff_c.a -o target/read
+//     (cd crates/aff_c && rt lib) && mkdir -p target
+//     cc -I include samples/read.c crates/aff_c/out/libaff_c.a -o target/read
 //     target/read samples/worked.aff /a/n
 //     target/read samples/aligned.aff /b
 #include "aff.h"

@@ -1,5 +1,6 @@
 // Writes an AFF file: `write FILE EDITION` makes a file of edition 2 or 3 with two nodes, /a, which is Void, and /a/n, one Int.
-//     rt staticlib aff_c && cc -I include samples/write.c target/staticlib/libaff_c.a -o target/write
+//     (cd crates/aff_c && rt lib) && mkdir -p target
+//     cc -I include samples/write.c crates/aff_c/out/libaff_c.a -o target/write
 //     target/write target/new.aff 3
 #define _POSIX_C_SOURCE 200112L
 #include "aff.h"

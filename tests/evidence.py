@@ -9,7 +9,7 @@ numbers of images, runs, pairs of runs and kills, for a short try. The last line
 1. docs/EVIDENCE.md says what is compared.
 
 It needs rt, cargo, a C compiler as cc, a C++ compiler as c++, and Linux on x86-64, and works below target/. The listers and the library are proved
-again where their proofs are not up to date.
+and built, in the out/ of their crates, where these are not up to date.
 """
 import argparse
 import os
@@ -25,7 +25,9 @@ ROOT = os.path.dirname(os.path.dirname(os.path.abspath(__file__)))
 TARGET = os.path.join(ROOT, "target")
 FOLDER = os.path.join(TARGET, "evidence")
 SECOND = os.path.join(TARGET, "second_reader", "release", "second_reader")
-LIBRARY = os.path.join(TARGET, "staticlib", "libaff_c.a")
+CRATES = os.path.join(ROOT, "crates")
+LIBRARY = os.path.join(CRATES, "aff_c", "out", "libaff_c.a")
+LISTERS = ("list", "listall")
 WORKED_FILE, WORKED3_FILE, UNTERMINATED_FILE, WIDE_FILE, ALIGNED_FILE = (
     os.path.join(ROOT, "samples", f"{name}.aff") for name in ("worked", "worked3", "unterminated", "wide_names", "aligned"))
 WARNINGS = ["-Wall", "-Wextra", "-pedantic", "-Werror", "-Wconversion", "-Wshadow", "-I", os.path.join(ROOT, "include")]
@@ -33,7 +35,7 @@ WARNINGS = ["-Wall", "-Wextra", "-pedantic", "-Werror", "-Wconversion", "-Wshado
 # What is compared by the second reader, the command, how many, and what follows these on the command line.
 COMPARED = [
     ("images in memory: opening, every reading call, altered memory", "agree", 20_000, []),
-    ("images through the programs `list` and `listall`", "lists", 500, [os.path.join(TARGET, "bin", name) for name in ("list", "listall")]),
+    ("images through the programs `list` and `listall`", "lists", 500, [os.path.join(CRATES, name, "out", name) for name in LISTERS]),
     ("runs of the writer, whole and cut, altered memory", "writes", 5_000, []),
     ("runs of the writer with puts in different orders", "orders", 100_000, []),
     ("processes killed while they write into a mapped file", "kills", 2_000, [FOLDER]),
@@ -64,21 +66,22 @@ WIDE_PATHS = [
 ]
 
 
-def built(command, **more):
+def built(command, folder, **more):
     """Runs a command that builds something; what it printed is shown where it fails."""
-    done = subprocess.run(command, cwd=ROOT, stdout=subprocess.PIPE, stderr=subprocess.STDOUT, text=True, **more)
+    done = subprocess.run(command, cwd=folder, stdin=subprocess.DEVNULL, stdout=subprocess.PIPE, stderr=subprocess.STDOUT, text=True, **more)
     if done.returncode:
         sys.exit(f"{done.stdout}\n{' '.join(command)} failed")
 
 
 def build():
     """The listers, the static library, and the second reader with it."""
-    built(["rt", "check", "list", "listall"])
-    built(["rt", "staticlib", "aff_c"])
-    manifest = os.path.join(ROOT, "tests", "second_reader", "Cargo.toml")
-    folders = {"CARGO_TARGET_DIR": os.path.join(TARGET, "second_reader"), "AFF_LIBRARY": os.path.join(TARGET, "staticlib")}
-    cargo = ["cargo", "build", "--release", "--offline", "--features", "library", "--manifest-path", manifest]
-    built(cargo, env={**os.environ, **folders})
+    # `rt run` also runs a lister, here on no byte at all.
+    for name in LISTERS:
+        built(["rt", "run"], os.path.join(CRATES, name))
+    built(["rt", "lib"], os.path.join(CRATES, "aff_c"))
+    folders = {"CARGO_TARGET_DIR": os.path.join(TARGET, "second_reader"), "AFF_LIBRARY": os.path.dirname(LIBRARY)}
+    cargo = ["cargo", "build", "--release", "--offline", "--features", "library"]
+    built(cargo, os.path.join(ROOT, "tests", "second_reader"), env={**os.environ, **folders})
 
 
 def program(name, *more, language="c", standard="c99"):

@@ -1,5 +1,5 @@
 #!/usr/bin/env python3
-"""Runs target/bin/list or target/bin/listall over a folder of images NAME.aff, and compares what it prints, byte for byte.
+"""Runs the program `list` or `listall` over a folder of images NAME.aff, and compares what it prints, byte for byte.
 
     tests/run_vectors.py PROGRAM FOLDER [CHANGED]
 
@@ -10,8 +10,8 @@ CHANGED is a file of the outputs that requests have changed since the folder was
 PROGRAM is then list, listall or both; ' | ' is between two lines of an OUTPUT; where there is no OUTPUT, nothing is printed. For the sample images made
 elsewhere it is tests/vectors_changed.txt.
 
-`rt check list listall` builds the programs. The last line is 'N agree, M differ'; the exit status is 0 only if there is an image, each NAME of CHANGED is
-one, and none differs.
+`rt run` in crates/list and in crates/listall builds the programs. The last line is 'N agree, M differ'; the exit status is 0 only if there is an image, each
+NAME of CHANGED is one, and none differs.
 """
 import argparse
 import os
@@ -19,7 +19,7 @@ import subprocess
 import sys
 
 PROGRAMS = ("list", "listall")
-BIN = os.path.join(os.path.dirname(os.path.abspath(__file__)), "..", "target", "bin")
+CRATES = os.path.join(os.path.dirname(os.path.abspath(__file__)), "..", "crates")
 
 
 def changes(path):
@@ -58,11 +58,11 @@ def main():
     parser.add_argument("folder", metavar="FOLDER")
     parser.add_argument("changed", metavar="CHANGED", nargs="?")
     given = parser.parse_args()
-    program = os.path.join(BIN, given.program)
+    program = os.path.join(CRATES, given.program, "out", given.program)
     if not os.path.isdir(given.folder):
         parser.error(f"{given.folder} is no folder")
     if not os.path.exists(program):
-        parser.error(f"there is no target/bin/{given.program}: run `rt check {given.program}`")
+        parser.error(f"there is no crates/{given.program}/out/{given.program}: run `rt run` in crates/{given.program}")
     changed = changes(given.changed) if given.changed else []
     names = sorted(f[:-4] for f in os.listdir(given.folder) if f.endswith(".aff"))
     if not {name for name, _, _ in changed} <= set(names):

@@ -1,5 +1,5 @@
 //! With the feature `library`: links libaff_c.a from the folder that the environment variable AFF_LIBRARY names, else from the
-//! repository's target/staticlib, where `rt staticlib aff_c` puts it.
+//! repository's crates/aff_c/out, where `rt lib` in crates/aff_c puts it.
 
 use std::env;
 use std::path::PathBuf;
@@ -10,7 +10,7 @@ fn main() {
         return;
     }
     let here = PathBuf::from(env::var_os("CARGO_MANIFEST_DIR").expect("set by cargo"));
-    let usual = here.join("../../target/staticlib");
+    let usual = here.join("../../crates/aff_c/out");
     let folder = env::var_os("AFF_LIBRARY").map_or(usual, PathBuf::from);
     println!(
         "cargo:rerun-if-changed={}",
