@@ -34,6 +34,10 @@ module _ (tree : List ℕ) where
   unfolding entry_sizes
   entry_sizes_more n = ap (entry_sizes tree) (add-one n)
 
+  pub data_nodes_more : (n : ℕ) → data_nodes tree (n + 1) ≡ data_nodes tree n + cond (is_void (slot_entry tree (n + 1)).kind) 0 1
+  unfolding data_nodes
+  data_nodes_more n = ap (data_nodes tree) (add-one n)
+
   pub entries_out_more : (n : ℕ) → entries_out tree (n + 1) ≡ entries_out tree n ++ entry_part tree (n + 1)
   unfolding entries_out
   entries_out_more n = ap (entries_out tree) (add-one n)

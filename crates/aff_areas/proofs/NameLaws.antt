@@ -7,18 +7,19 @@ use Prim.Native.Nat.{ℕ, zero, suc, ◌+◌, ◌-◌, ◌≤◌, ◌<◌}
 use native.Mathlib.Numerals.{add-one}
 use native.Mathlib.Omega.{arith}
 use lib.Dec.{eqb}
-use lib.ListN.{length, get_or, set, take, drop, length-append, length-drop, length-map, drop_of_length-le}
+use lib.ListN.{length, get_or, set, take, drop, length-append, length-drop, length-map, drop_of_length-le, get_or-eq_default}
 use lib.Seq.{drop-cons, drop-drop, take_all, length-take-le, get_or-take}
 use borrow.Author.Tests.{eq-eqb, ne_eqb, eqb-true}
 use Rattle.aff_format.specs.Bytes.{part, same_bytes, laid_over}
 use Rattle.aff_format.specs.Strings.{strings_of, ends_in_zero, up_to_zero, index_in}
+use Rattle.aff_format.specs.declared.entry.Entry.{Entry}
 use Rattle.aff_format.proofs.StringsLaws.{ends_in_zero_append, ends_in_zero_tail, strings_of_one, up_to_zero_without}
 use Rattle.aff_format.specs.Recorded.{name_from}
 use Rattle.aff_format.proofs.RecordedLaws.{name_part}
 use Rattle.aff_format.proofs.LaidLaws.{Laid, laid_start, laid_store, laid_all, laid_front}
-use Rattle.aff_areas.specs.Areas.{names_in}
+use Rattle.aff_areas.specs.Areas.{names_in, slot_entry}
 use Rattle.aff_areas.specs.Belongs.{WriterBelongs}
-use Rattle.aff_areas.specs.passes.Marks.{mark_of, marks_of, first_mark}
+use Rattle.aff_areas.specs.passes.Marks.{mark_of, marks_of, first_mark, is_marked}
 use Rattle.aff_areas.specs.declared.writer.Writer.{Writer}
 
 -- Marks and strings.
@@ -142,6 +143,17 @@ module _ (marks : List ℕ) (count i : ℕ) (few : count ≤ length marks) where
   first_end h =
       let l : length (take count marks) ≤ i = omega (arith, front) in
       rw (drop_of_length-le (take count marks) l) (omega arith)
+
+-- A node that is a child and marked, from its entry.
+module _ (marks tree : List ℕ) (parent node : ℕ) (e : Entry) (is : e ≡ slot_entry tree node) where
+  pub not_child : (e.parent ≡ parent → ⊥) → false ≡ is_marked marks tree parent node
+  not_child n = rw (← is, ne_eqb e.parent parent n)
+
+  pub past_marks : e.parent ≡ parent → length marks ≤ e.string → false ≡ is_marked marks tree parent node
+  past_marks p h = rw (← is, eq-eqb e.parent parent p, get_or-eq_default marks 0 h)
+
+  pub marked_by : e.parent ≡ parent → {b : Bool} → b ≡ eqb (get_or marks e.string 0) 1 → b ≡ is_marked marks tree parent node
+  marked_by p h = rw (← is, eq-eqb e.parent parent p) h
 
 -- Marks of a writer's strings.
 module _ {size : ℕ} {writer : Writer} {text tree : List ℕ} (b : WriterBelongs size writer text tree) (name : List ℕ) (marks₀ marks : List ℕ)

@@ -1,4 +1,7 @@
--- The proofs of what specs/ states of the calls: Withdrawn, Places and Records.
+-- Laws that several proofs cite.
+mod OpeningLaws
+mod ReadingLaws
+mod WritingLaws
 mod WithdrawnLaws
 mod PlacesLaws
 mod RecordsLaws

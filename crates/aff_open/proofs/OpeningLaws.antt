@@ -5,16 +5,21 @@ use Prim.Native.Nat.{ℕ, ◌+◌}
 use lib.ListN.{length, replicate, length-replicate}
 use Rattle.aff_format.specs.Answer.{Answer, accepted, refused, first_wrong}
 use Rattle.aff_format.specs.Bytes.{laid_over}
+use Rattle.aff_format.specs.Recorded.{recorded_string}
 use Rattle.aff_format.specs.Refusal.{code_of_refusal}
 use Rattle.aff_format.specs.declared.section.Section.TheVariants.{Symbol, Data}
 use Rattle.aff_format.specs.declared.edition.Edition.{Edition}
 use Rattle.aff_format.specs.declared.refusal.Refusal.{Refusal}
 use Rattle.aff_format.specs.declared.refusal.RefusalCode.{RefusalCode}
+use Rattle.aff_format.specs.declared.verdict.Verdict.{Verdict}
+use Rattle.aff_format.specs.declared.verdict.Verdict.TheVariants.{Accepted, Refused}
 use Rattle.aff_format.proofs.AnswerLaws.{refused_before, passed_before}
 use Rattle.aff_format.proofs.LaidLaws.{length_laid}
 use Rattle.aff_tables.specs.Nodes.{recorded_contents, node_checks}
+use Rattle.aff_tables.specs.passes.Distinct.{Places}
+use Rattle.aff_tables.specs.passes.Results.{AllDistinct}
 use Rattle.aff_tables.proofs.NodeLaws.{checked_alike}
-use Rattle.aff_open.specs.Opening.{up_to_tables, open_checks, nodes_checked, open_answer, answer_of_opening, span_of, reader_for, reader_after, tables_answer, sizes_in, string_places, node_places, strings_filled, entries_filled, strings_after, entries_after, area_filled}
+use Rattle.aff_open.specs.Opening.{up_to_tables, open_checks, nodes_checked, open_answer, verdict_of, answer_of_opening, span_of, reader_for, reader_with, reader_after, tables_answer, sizes_in, string_places, node_places, strings_filled, entries_filled, strings_after, entries_after, area_filled}
 use Rattle.aff_open.specs.passes.Opening.{Readable, StringsLaid, EntriesLaid, refused_opening, kept_or_cleared}
 use Rattle.aff_open.specs.Sections.{edition_in}
 use Rattle.aff_open.specs.declared.opening.Opening.{Opening}
@@ -33,12 +38,38 @@ refused_answers o q answer is e = (ap answer_of_opening is ∙ sym e, ap (λ (x 
 -- Strings and entries laid into the areas: the checks by them are the image's.
 module _ {e : Edition} {image strings entries : List ℕ} {n m : ℕ} (ss : StringsLaid e image strings n) (es : EntriesLaid e image entries m)
     (t u : Span) (is : t ≡ span_of e Symbol image) (iu : u ≡ span_of e Data image) where
+  pub places_by : Places image (t.offset + t.size) strings n
+  places_by = rw is ss.placed
+
+  pub distinct_by : AllDistinct n (recorded_string image (t.offset + t.size) strings)
+  distinct_by = rw is (λ i j hi hj h. ss.distinct i j hi hj (sym (ss.are i hi) ∙ h ∙ ss.are j hj))
+
   pub checked_by : {A : Type 0} (v : A)
       → first_wrong (node_checks e u.offset u.size (recorded_contents image (t.offset + t.size) strings n entries m)) v ≡ first_wrong (nodes_checked e image) v
   checked_by v =
       rw (is, iu)
       (checked_alike e (span_of e Data image).offset (span_of e Data image).size
       (record { strings = ss.counted; nodes = es.counted; string = ss.are; entry = es.are }) v)
+
+  pub reader_by : reader_with e image n m ≡ reader_for e image
+  reader_by = rw (ss.counted, es.counted)
+
+-- What the areas are after the nodes were asked: an accepted opening keeps them, a refused one clears them.
+pub kept_areas : (o : Opening) (strings entries : List ℕ) → o.verdict ≡ Accepted
+    → (strings ≡ kept_or_cleared (answer_of_opening o) strings) × (entries ≡ kept_or_cleared (answer_of_opening o) entries)
+kept_areas o strings entries v =
+    let t : answer_of_opening o ≡ accepted o.reader = ap (λ (x : Verdict). verdict_of x o.reader) v in
+    (rw t, rw t)
+
+pub cleared_areas : (w o : Opening) {answer : Answer Reader} (q : Refusal) (strings₀ strings entries₀ entries : List ℕ) → w.verdict ≡ Refused q → o ≡ refused_opening q
+    → answer_of_opening w ≡ answer → strings ≡ replicate (length strings₀) 0 → entries ≡ replicate (length entries₀) 0
+    → (answer_of_opening o ≡ answer) × ((o.reader ≡ reader_after (answer_of_opening o))
+    × ((strings ≡ kept_or_cleared (answer_of_opening o) strings₀) × (entries ≡ kept_or_cleared (answer_of_opening o) entries₀)))
+cleared_areas w o {answer} q strings₀ strings entries₀ entries v is reported zs ze =
+    let u : answer_of_opening w ≡ refused (code_of_refusal q) = ap (λ (x : Verdict). verdict_of x w.reader) v in
+    let f = refused_answers o q answer is (sym reported ∙ u) in
+    let t : answer_of_opening o ≡ refused (code_of_refusal q) = ap answer_of_opening is in
+    (f.0, (f.1, (rw t zs, rw t ze)))
 
 -- ---- The whole opening.
 

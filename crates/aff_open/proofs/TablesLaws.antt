@@ -11,19 +11,24 @@ use borrow.Author.Tests.{eqb-true, ltb-false, not-false}
 use Rattle.aff_format.specs.Answer.{Answer, accepted, refused, first_wrong, Clear}
 use Rattle.aff_format.specs.Bytes.{part, laid_over}
 use Rattle.aff_format.specs.Edition.{header_size}
+use Rattle.aff_format.specs.Refusal.{code_of_refusal}
 use Rattle.aff_format.specs.Strings.{strings_of}
 use Rattle.aff_format.specs.declared.section.Section.{Section}
 use Rattle.aff_format.specs.declared.section.Section.TheVariants.{Symbol, Tree}
 use Rattle.aff_format.specs.declared.edition.Edition.{Edition}
+use Rattle.aff_format.specs.declared.refusal.Refusal.{Refusal}
 use Rattle.aff_format.specs.declared.refusal.Refusal.TheVariants.{WrongLength}
-use Rattle.aff_format.proofs.AnswerLaws.{passed, passed_value, passed_before, clear_both, clear_accepts}
+use Rattle.aff_format.proofs.AnswerLaws.{not_both, passed, passed_value, refused_before, passed_before, clear_both, clear_accepts}
 use Rattle.aff_format.proofs.TestLaws.{or_false}
 use Rattle.aff_tables.specs.Tables.{entries_in}
+use Rattle.aff_tables.specs.declared.symbols.Symbols.{Symbols}
+use Rattle.aff_tables.specs.declared.tree.TreeTable.{TreeTable}
+use Rattle.aff_tables.specs.passes.Results.{answer_of_symbols, answer_of_tree}
 use Rattle.aff_tables.proofs.LinkLaws.{distinct_by_repeats}
-use Rattle.aff_tables.proofs.SymbolLaws.{places_inside, string_recorded, symbols_clear}
-use Rattle.aff_tables.proofs.TreeTableLaws.{entries_few, entries_are}
+use Rattle.aff_tables.proofs.SymbolLaws.{SymbolTable, places_inside, string_recorded, symbols_reported, symbols_clear}
+use Rattle.aff_tables.proofs.TreeTableLaws.{TableOfTree, entries_few, entries_are}
 use Rattle.aff_open.specs.Opening.{lengths_wrong, header_checks, section_checks, symbols_checked, tree_checked, table_checks, body_checks, up_to_tables, span_of, sizes_in, tables_answer, answer_of_tables, area_filled, string_places, node_places, strings_filled, entries_filled}
-use Rattle.aff_open.specs.passes.Opening.{Readable, StringsLaid, EntriesLaid}
+use Rattle.aff_open.specs.passes.Opening.{Readable, StringsLaid, EntriesLaid, symbols_in}
 use Rattle.aff_open.specs.Sections.{edition_in, section_offset, section_size, section_records, section_bytes, ends_past, strings_in, nodes_in}
 use Rattle.aff_reader.specs.declared.reader.Span.{Span}
 use Rattle.aff_open.specs.declared.tables.OpenedTables.{OpenedTables}
@@ -46,6 +51,20 @@ pub readable_by : (e : Edition) (image : List ℕ) → header_size e ≤ length 
 readable_by e image whole short h = record { whole = whole; inside = λ s. (section_clear image (tt {0}) e h s).0; short = short }
 
 -- ---- The tables of the two sections.
+
+module _ (e : Edition) (image : List ℕ) {t : Span} {records : ℕ} (area₀ area : List ℕ) where
+  pub symbols_by : t ≡ span_of e Symbol image → records ≡ section_records e Symbol image → (r : Symbols)
+      → SymbolTable e records image t.offset t.size area₀ area r
+      → (r ≡ symbols_in e image) × ((n : ℕ) → answer_of_symbols r ≡ accepted n → area ≡ laid_over area₀ (string_places e image))
+  unfolding section_bytes
+  symbols_by is ir r h = rw (is, ir) at h
+
+  pub tree_by_lem : t ≡ span_of e Tree image → records ≡ section_records e Tree image → (r : TreeTable)
+      → TableOfTree e records image t.offset t.size area₀ area r
+      → (answer_of_tree r ≡ first_wrong (tree_checked e image) (length (nodes_in e image)))
+      × ((n : ℕ) → answer_of_tree r ≡ accepted n → area ≡ laid_over area₀ (node_places e image))
+  unfolding section_bytes
+  tree_by_lem is ir r h = rw (is, ir) at h
 
 -- An accepted tree table: its entries are laid into the area.
 pub entries_laid : (e : Edition) (image area entries : List ℕ) (n : ℕ) → first_wrong (tree_checked e image) (length (nodes_in e image)) ≡ accepted n
@@ -78,6 +97,20 @@ strings_laid e image area strings n r h long is =
       distinct = λ i j hi hj e. distinct_by_repeats (strings_of l) distinct i j (omega arith) (omega arith) e;
     }
 
+-- What the symbol table reports decides its checks.
+pub symbols_decide : (e : Edition) (image : List ℕ) {s : Symbols} → s ≡ symbols_in e image
+    → first_wrong (symbols_checked e image) (length (strings_in e image)) ≡ answer_of_symbols s
+symbols_decide e image is = sym (ap answer_of_symbols is ∙ symbols_reported e (section_records e Symbol image) (section_bytes e Symbol image))
+
+-- A refused symbol table refuses the opening with its own refusal, and no area is filled.
+pub symbols_refuse : {X : Type 0} (r : Refusal) (e : Edition) (image : List ℕ) {s : Symbols} → s ≡ symbols_in e image → answer_of_symbols s ≡ refused (code_of_refusal r)
+    → (answer_of_tables (tables.Refused r) ≡ first_wrong (table_checks e image) (sizes_in e image))
+    × ((a : TableSizes) → answer_of_tables (tables.Refused r) ≡ accepted a → X)
+symbols_refuse r e image is bad = (
+  sym (refused_before (symbols_checked e image) (tree_checked e image) (length (strings_in e image)) (sizes_in e image) (symbols_decide e image is ∙ bad)),
+  λ a q. not_both q,
+)
+
 -- ---- After the header.
 
 -- The image's edition decides; what else holds of the edition found holds of it.
@@ -91,6 +124,10 @@ header_joins image form e o F h reported f =
       subst F (sym q) f,
     )
 
+pub header_whole : (image form : List ℕ) (e : Edition) → first_wrong (header_checks image form) (edition_in image) ≡ accepted e → header_size e ≤ length image
+header_whole image form e h =
+    subst (λ (d : Edition). header_size d ≤ length image) (passed_value (header_checks image form) (edition_in image) h) (header_clear image (edition_in image) form h).1
+
 -- ---- The areas.
 
 -- What is passed has the right lengths.
@@ -102,6 +139,17 @@ lengths_right image form strings entries h =
     let (c, d) = or_false (not (eqb strings 2048)) _ b in
     let (e, f) = or_false (not (eqb entries 2048)) _ d in
     (eqb-true _ _ (not-false _ a), eqb-true _ _ (not-false _ c), eqb-true _ _ (not-false _ e), omega (arith, ltb-false 2147483647 (length image) f))
+
+pub zeros_long : (l : List ℕ) (n : ℕ) → l ≡ replicate n 0 → length l ≡ n → l ≡ replicate (length l) 0
+zeros_long l n is h = is ∙ ap (λ (k : ℕ). replicate k 0) (sym h)
+
+-- An area of zeros that was filled, and one that was cleared again.
+pub filled_area : (area₀ area places : List ℕ) → area₀ ≡ replicate (length area₀) 0 → area ≡ laid_over area₀ places
+    → area ≡ laid_over (replicate (length area₀) 0) places
+filled_area area₀ area places z is = is ∙ ap (λ (l : List ℕ). laid_over l places) z
+
+pub cleared_area : (area₀ s area : List ℕ) → area ≡ replicate (length s) 0 → length s ≡ length area₀ → area ≡ replicate (length area₀) 0
+cleared_area area₀ s area is long = is ∙ ap (λ (k : ℕ). replicate k 0) long
 
 pub area_length : {A : Type 0} (answer : Answer A) (a b places : List ℕ) → length a ≡ length b → area_filled answer a places ≡ area_filled answer b places
 area_length (accepted r) a b places h = rw h

@@ -188,6 +188,9 @@ root_one (x ∷ []) h = go (eqb x 47) refl
 root_one (x ∷ y ∷ path) h = absurd (omega arith)
 
 module _ (image : List ℕ) (reader : Reader) (strings entries path : List ℕ) where
+  pub root_has : (node : ℕ) → node ≡ 0 → same_bytes (47 ∷ []) path ≡ same_bytes (path_at image reader strings entries node) path
+  root_has node z = rw z
+
   pub other_has : (node fit : ℕ) → (node ≡ 0 → ⊥) → fit ≡ fit_at image reader strings entries path node
       → eqb fit (length path + 2) ≡ same_bytes (path_at image reader strings entries node) path
   unfolding fit_at
@@ -218,3 +221,25 @@ climb_left parent zero node p h up e = absurd (let z = eqb-true node 0 e in omeg
 climb_left parent (suc left) node p h up e =
     let s : suc left - 1 ≡ left = omega arith in
     (omega arith, rw (s, up) (sym (reaches_up parent left node (λ q. omega arith)) ∙ e))
+
+module _ {image : List ℕ} {reader : Reader} {strings entries path fits : List ℕ} (s : FitsSettled image reader strings entries path fits) (node : ℕ) where
+  module _ (there : node ≤ reader.nodes) (after : List ℕ) (other-node : 0 < node) (is : after ≡ set fits node (fit_at image reader strings entries path node)) where
+    reported_next : get_or after node 0 ≡ fit_at image reader strings entries path node
+    reported_next = rw is (get_or-set_same fits node (fit_at image reader strings entries path node) 0 (omega (arith, s.wide)))
+
+    kept_next : (k : ℕ) → (k ≡ node → ⊥) → get_or after k 0 ≡ get_or fits k 0
+    kept_next k n = rw is (get_or-set_other fits node k (fit_at image reader strings entries path node) 0 n)
+
+    reported_one : (k : ℕ) → k ≤ reader.nodes → (get_or after k 0 ≡ 0 → ⊥) → (b : Bool) → eqb k node ≡ b → get_or after k 0 ≡ fit_at image reader strings entries path k
+    reported_one k m f true e = rw (eqb-true k node e) reported_next
+    reported_one k m f false e =
+        let q = kept_next k (eqb-false k node e) in
+        q ∙ s.reported k m (λ z. f (q ∙ z))
+
+    pub settled_next : FitsSettled image reader strings entries path after
+    settled_next =
+        record {
+          wide = omega (arith, s.wide, ap length is, length-set fits node (fit_at image reader strings entries path node));
+          root = λ q. s.root (sym (kept_next 0 (λ z. omega arith)) ∙ q);
+          reported = λ k m f. reported_one k m f (eqb k node) refl;
+        }
