@@ -50,7 +50,7 @@ abbrev one_parts : TwoOrders → Parts
 one_parts o = parts_of o.before o.puts_one o.allowance_one o.later_one
 
 abbrev other_parts : TwoOrders → Parts
-other_parts o = parts_of o.before o.puts_other_is o.allowance_other o.later_other
+other_parts o = parts_of o.before o.puts_other o.allowance_other o.later_other
 
 module _ (run : Run) (b : Parts) where
   abbrev it : Run
@@ -221,8 +221,8 @@ module _ (run : Run) (o : TwoOrders) where
   parts_other : run_answers other ≡ shared ++ (puts_of_other ++ last_other)
   parts_other = parts run (other_parts o)
 
-  same_count : length o.puts_one ≡ length o.puts_other_is
-  same_count = length_reordered o.puts_one o.puts_other_is o.reordered
+  same_count : length o.puts_one ≡ length o.puts_other
+  same_count = length_reordered o.puts_one o.puts_other o.reordered
 
   same_puts : length puts_of_one ≡ length puts_of_other
   same_puts =
@@ -234,14 +234,14 @@ module _ (run : Run) (o : TwoOrders) where
   puts_one : PutsAccepted one o → AllAccepted puts_of_one
   puts_one = subst AllAccepted (puts_part run (one_parts o) (length o.puts_one) refl)
 
-  puts_other_is : PutsAccepted other o → AllAccepted puts_of_other
-  puts_other_is = subst AllAccepted (puts_part run (other_parts o) (length o.puts_one) same_count)
+  puts_other : PutsAccepted other o → AllAccepted puts_of_other
+  puts_other = subst AllAccepted (puts_part run (other_parts o) (length o.puts_one) same_count)
 
   fit : AllAccepted puts_of_one → AllFit shared_tree o.puts_one
   fit = fit_by (run_begin run).answer run o.before o.puts_one o.allowance_one o.later_one refl
 
-  same_tree : AllAccepted puts_of_one → put_all shared_tree o.puts_one ≡ put_all shared_tree o.puts_other_is
-  same_tree ok = tree_reordered shared_tree shared_tree o.puts_one o.puts_other_is o.reordered (fit ok)
+  same_tree : AllAccepted puts_of_one → put_all shared_tree o.puts_one ≡ put_all shared_tree o.puts_other
+  same_tree ok = tree_reordered shared_tree shared_tree o.puts_one o.puts_other o.reordered (fit ok)
 
   -- ---- The same calls are accepted.
 
@@ -268,7 +268,7 @@ module _ (run : Run) (o : TwoOrders) where
         tree_is run (one_parts o) ok
         ∙ tree_by_lem (put_all shared_tree o.puts_one) o.later_one last_one
         ∙ (λ i. tree_by (same_tree ok i) (o.later_same i) (alike_last i))
-        ∙ sym (tree_by_lem (put_all shared_tree o.puts_other_is) o.later_other last_other)
+        ∙ sym (tree_by_lem (put_all shared_tree o.puts_other) o.later_other last_other)
         ∙ sym (tree_is run (other_parts o) ok_other)
 
     closed_same : run_closed one ≡ run_closed other
@@ -303,7 +303,7 @@ module _ (run : Run) (o : TwoOrders) where
     one_layout = layout_all shared_layout o.puts_one
 
     abbrev other_layout : DataLayout
-    other_layout = layout_all shared_layout o.puts_other_is
+    other_layout = layout_all shared_layout o.puts_other
 
     -- The layouts of both runs go on from these in the same way.
     abbrev going : DataLayout → DataLayout
@@ -319,7 +319,7 @@ module _ (run : Run) (o : TwoOrders) where
         ∙ sym (λ i. layout_by other_layout (o.later_same i) (alike_last i))
 
     near : Near o.puts_one one_layout other_layout
-    near = near_reordered shared_tree shared_layout o.puts_one o.puts_other_is o.reordered (fit ok)
+    near = near_reordered shared_tree shared_layout o.puts_one o.puts_other o.reordered (fit ok)
 
     puts_later : puts_after one o ≡ puts_by (map without_allowance o.later_one) (accepted_of last_one)
     puts_later =
@@ -348,16 +348,16 @@ module _ (run : Run) (o : TwoOrders) where
           by_lengths = λ h.
               ends_from
               (same_later cs oks one_layout other_layout
-              (end_all_lem shared_layout o.puts_one ∙ end_reordered shared_layout.end o.puts_one o.puts_other_is o.reordered h ∙ sym (end_all_lem shared_layout o.puts_other_is)));
+              (end_all_lem shared_layout o.puts_one ∙ end_reordered shared_layout.end o.puts_one o.puts_other o.reordered h ∙ sym (end_all_lem shared_layout o.puts_other)));
           by_later = λ n. ends_from (ends_meet o.puts_one cs oks one_layout other_layout near (omega (arith, n, puts_later)));
           only_so = λ n h.
               let none : puts_by cs oks ≡ 0 = sym puts_later ∙ n in
-              lengths_agree shared_layout.end o.puts_one o.puts_other_is o.reordered
+              lengths_agree shared_layout.end o.puts_one o.puts_other o.reordered
               (sym (end_all_lem shared_layout o.puts_one)
               ∙ sym (ends_stay cs oks one_layout none)
               ∙ ends_to h
               ∙ ends_stay cs oks other_layout none
-              ∙ end_all_lem shared_layout o.puts_other_is);
+              ∙ end_all_lem shared_layout o.puts_other);
           elsewhere = λ n lo apart.
               ap (λ (l : DataLayout). get_or l.offsets (n - 1) 0) layout_one
               ∙ after.places n lo apart
@@ -374,9 +374,9 @@ module _ (run : Run) (o : TwoOrders) where
       let count : (s : State) (cs : List Call) → length (answers_of s cs) ≡ length cs = length_answers in
       answers_expected o.later_one e size asleep (end_all shared_layout.end o.puts_one) (put_all shared_tree o.puts_one) last_one (count _ o.later_one)
       (made run (one_parts o) h ok).rest
-      ∙ (λ i. expected e size asleep (end_reordered shared_layout.end o.puts_one o.puts_other_is o.reordered agree i) (same_tree ok i) (same i))
+      ∙ (λ i. expected e size asleep (end_reordered shared_layout.end o.puts_one o.puts_other o.reordered agree i) (same_tree ok i) (same i))
       ∙ sym
-      (answers_expected o.later_other e size asleep (end_all shared_layout.end o.puts_other_is) (put_all shared_tree o.puts_other_is) last_other (count _ o.later_other)
+      (answers_expected o.later_other e size asleep (end_all shared_layout.end o.puts_other) (put_all shared_tree o.puts_other) last_other (count _ o.later_other)
       (made run (other_parts o) h taken_other).rest)
   last_by (refused t) h ok _ agree same =
       let z = asleep run t h in
@@ -384,7 +384,7 @@ module _ (run : Run) (o : TwoOrders) where
       λ cs. ap (λ (s : State). state_after s cs) (asleep_after (run_start run) z o.before) ∙ asleep_after (run_start run) z cs in
       ap (λ (s : State). answers_of s o.later_one) (still (puts_with o.puts_one o.allowance_one))
       ∙ ap (answers_of (run_start run)) same
-      ∙ sym (ap (λ (s : State). answers_of s o.later_other) (still (puts_with o.puts_other_is o.allowance_other)))
+      ∙ sym (ap (λ (s : State). answers_of s o.later_other) (still (puts_with o.puts_other o.allowance_other)))
 
   -- ---- The buffer and the allowances suffice.
 
@@ -395,15 +395,15 @@ module _ (run : Run) (o : TwoOrders) where
       λ ds f later. length-append o.before (puts_with ds f ++ later) ∙ ap (λ (n : ℕ). length o.before + n) (length-append (puts_with ds f) later ∙ ap (λ (n : ℕ). n + length later) (length_puts ds f)) in
       count o.puts_one o.allowance_one o.later_one
       ∙ (λ i. length o.before + (same_count i + length (same i)))
-      ∙ sym (count o.puts_other_is o.allowance_other o.later_other)
+      ∙ sym (count o.puts_other o.allowance_other o.later_other)
 
   -- The most that the calls add is the same.
   most_same : o.later_one ≡ o.later_other → most_added_by one.calls ≡ most_added_by other.calls
   most_same same =
-      most_before o.before (puts_on o.puts_one o.allowance_one o.later_one) (puts_on o.puts_other_is o.allowance_other o.later_other)
+      most_before o.before (puts_on o.puts_one o.allowance_one o.later_one) (puts_on o.puts_other o.allowance_other o.later_other)
       (puts_most o.puts_one o.allowance_one o.later_one
-      ∙ (λ i. sum_reordered (λ d. 7 + length d.bytes + 12) o.puts_one o.puts_other_is o.reordered i + most_added_by (same i))
-      ∙ sym (puts_most o.puts_other_is o.allowance_other o.later_other))
+      ∙ (λ i. sum_reordered (λ d. 7 + length d.bytes + 12) o.puts_one o.puts_other o.reordered i + most_added_by (same i))
+      ∙ sym (puts_most o.puts_other o.allowance_other o.later_other))
 
   module _ (ample : Ample run o) where
     -- No answer of either run is 21.
@@ -421,8 +421,8 @@ module _ (run : Run) (o : TwoOrders) where
         let asleep = stopped_before run (one_parts o) in
         let after : accepted_of (puts_of_one ++ last_one) ≡ accepted_of (puts_of_other ++ last_other) =
         oks_are run (one_parts o) h none_one ample.allowances_one
-        ∙ oks_reordered e asleep shared_tree o.puts_one o.puts_other_is o.allowance_one o.allowance_other o.later_one o.reordered (fit ok)
-        ∙ ap (λ (later : List Call). oks_by e asleep shared_tree (puts_with o.puts_other_is o.allowance_other ++ later)) ample.later
+        ∙ oks_reordered e asleep shared_tree o.puts_one o.puts_other o.allowance_one o.allowance_other o.later_one o.reordered (fit ok)
+        ∙ ap (λ (later : List Call). oks_by e asleep shared_tree (puts_with o.puts_other o.allowance_other ++ later)) ample.later
         ∙ sym (oks_are run (other_parts o) h none_other ample.allowances_other) in
         ap accepted_of parts_one
         ∙ accepted_split shared (puts_of_one ++ last_one)
@@ -444,9 +444,9 @@ module _ (run : Run) (o : TwoOrders) where
       → numbers_by 0 (map without_allowance one.calls) (accepted_of (run_answers one)) ≡ numbers_by 0 (map without_allowance other.calls) (accepted_of (run_answers other))
   numbers_alike alike =
       ap (λ (cs : List Call). numbers_by 0 cs (accepted_of (run_answers one))) (calls_without o.before o.puts_one o.allowance_one o.later_one)
-      ∙ numbers_same (map without_allowance o.before) o.puts_one o.puts_other_is (λ k. 0) (λ k. 0) (map without_allowance o.later_one) same_count 0 (accepted_of (run_answers one))
-      ∙ (λ i. numbers_by 0 (map without_allowance o.before ++ (puts_with o.puts_other_is (λ k. 0) ++ o.later_same i)) (alike i))
-      ∙ ap (λ (cs : List Call). numbers_by 0 cs (accepted_of (run_answers other))) (sym (calls_without o.before o.puts_other_is o.allowance_other o.later_other))
+      ∙ numbers_same (map without_allowance o.before) o.puts_one o.puts_other (λ k. 0) (λ k. 0) (map without_allowance o.later_one) same_count 0 (accepted_of (run_answers one))
+      ∙ (λ i. numbers_by 0 (map without_allowance o.before ++ (puts_with o.puts_other (λ k. 0) ++ o.later_same i)) (alike i))
+      ∙ ap (λ (cs : List Call). numbers_by 0 cs (accepted_of (run_answers other))) (sym (calls_without o.before o.puts_other o.allowance_other o.later_other))
 
 -- Of any run.
 no_numbers : (cs : List Call) (answers : List (Answer ℕ)) → AllWrongRecord answers → made_numbers cs answers ≡ numbers_by 0 (map without_allowance cs) (accepted_of answers)
@@ -484,7 +484,7 @@ same_answers : SameAnswers
 same_answers run o alike ok c = answers_by_begin (run_begin run).answer run o refl alike ok c
 
 eights : EightsAgree
-eights run o ok h = eights_agree (shared_tree run o) o.puts_one o.puts_other_is o.reordered (fit run o (puts_one run o ok)) h
+eights run o ok h = eights_agree (shared_tree run o) o.puts_one o.puts_other o.reordered (fit run o (puts_one run o ok)) h
 
 places : OrderPlaces
 places run o alike ok = placed run o alike (puts_one run o ok)
@@ -506,7 +506,7 @@ sizes run o alike ok c =
 later_alike : LaterAlike
 later_alike run o ok ok_other agree same =
     last_part run (one_parts o) (length o.puts_one) refl
-    ∙ last_by run o (run_begin run).answer refl (puts_one run o ok) (puts_other_is run o ok_other) agree same
+    ∙ last_by run o (run_begin run).answer refl (puts_one run o ok) (puts_other run o ok_other) agree same
     ∙ sym (last_part run (other_parts o) (length o.puts_one) (same_count run o))
 
 accepted_alike : AcceptedAlike

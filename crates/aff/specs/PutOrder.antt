@@ -85,8 +85,8 @@ PutOrderLiteral = (run : Run) (before calls : List Call) (m n t u : ℕ) (b c : 
 pub record TwoOrders : Type 0 where
   pub before : List Call
   pub puts_one : List PutData
-  pub puts_other_is : List PutData
-  pub reordered : Reordered puts_one puts_other_is
+  pub puts_other : List PutData
+  pub reordered : Reordered puts_one puts_other
   pub allowance_one : ℕ → ℕ
   pub later_one : List Call
   pub allowance_other : ℕ → ℕ
@@ -101,7 +101,7 @@ abbrev pub run_one : Run → TwoOrders → Run
 run_one run o = with_calls run (o.before ++ puts_on o.puts_one o.allowance_one o.later_one)
 
 abbrev pub run_other : Run → TwoOrders → Run
-run_other run o = with_calls run (o.before ++ puts_on o.puts_other_is o.allowance_other o.later_other)
+run_other run o = with_calls run (o.before ++ puts_on o.puts_other o.allowance_other o.later_other)
 
 -- Two puts are a case of it: with this the calls are `one_order` and `other_order`.
 abbrev pub as_orders : TwoPuts → TwoOrders
@@ -109,7 +109,7 @@ as_orders p =
     record {
       before = p.before;
       puts_one = p.left ∷ p.right ∷ [];
-      puts_other_is = p.right ∷ p.left ∷ [];
+      puts_other = p.right ∷ p.left ∷ [];
       reordered = (p.right ∷ [], [], refl, ([], [], refl, refl));
       allowance_one = λ k. get_or (p.left_one ∷ p.right_one ∷ []) k 0;
       later_one = p.later_one;
@@ -141,7 +141,7 @@ SameAnswers = (run : Run) (o : TwoOrders) → SameAccepted (run_one run o) (run_
 
 -- The last put of the one order and that of the other agree in length modulo 8. Of two puts these are the two.
 abbrev pub LengthsAgree : TwoOrders → Type 0
-LengthsAgree o = last_length o.puts_one % 8 ≡ last_length o.puts_other_is % 8
+LengthsAgree o = last_length o.puts_one % 8 ≡ last_length o.puts_other % 8
 
 -- So do accepted puts of Doubles and Complex numbers, in any number.
 abbrev pub EightsAgree : Type 0
@@ -187,7 +187,7 @@ LaterAlike = (run : Run) (o : TwoOrders) → PutsAccepted (run_one run o) o → 
 pub record Ample (run : Run) (o : TwoOrders) : Type 0 where
   pub buffer : header_size (edition_by run.edition) + most_added_by (run_one run o).calls ≤ length run.buffer
   pub allowances_one : AmplePuts (puts_on o.puts_one o.allowance_one o.later_one)
-  pub allowances_other : AmplePuts (puts_on o.puts_other_is o.allowance_other o.later_other)
+  pub allowances_other : AmplePuts (puts_on o.puts_other o.allowance_other o.later_other)
   pub later : o.later_one ≡ o.later_other
 
 -- Where the puts are then accepted in the one order, the same calls are accepted in both. Nothing is assumed of the answers of the other.

@@ -57,8 +57,8 @@ fn with_nodes(
     nodes: usize,
 ) -> Opening
     requires { Readable edition image.now × StringsLaid edition image.now strings.now count × EntriesLaid edition image.now entries.now nodes }
-    ensures value { answer_of_opening result ≡ first_wrong (nodes_checked edition image.now) (reader_for edition image.now) }
-    ensures reader_value { result.reader ≡ reader_after (answer_of_opening result) }
+    ensures answer { answer_of_opening result ≡ first_wrong (nodes_checked edition image.now) (reader_for edition image.now) }
+    ensures record { result.reader ≡ reader_after (answer_of_opening result) }
 {
     let symbols = sections::span(image, edition, Section::Symbol);
     let data = sections::span(image, edition, Section::Data);
@@ -85,10 +85,10 @@ fn with_nodes(
 // After sound tables: 10 to 13. A refusal clears both areas.
 fn with_tables(image: &[u8], sizes: TableSizes, strings: &mut [u32], entries: &mut [u32]) -> Opening
     requires { Readable sizes.edition image.now × StringsLaid sizes.edition image.now strings.old sizes.strings × EntriesLaid sizes.edition image.now entries.old sizes.nodes }
-    ensures value { answer_of_opening result ≡ first_wrong (nodes_checked sizes.edition image.now) (reader_for sizes.edition image.now) }
-    ensures reader_value { result.reader ≡ reader_after (answer_of_opening result) }
-    ensures strings_after { strings.new ≡ kept_or_cleared (answer_of_opening result) strings.old }
-    ensures entries_after { entries.new ≡ kept_or_cleared (answer_of_opening result) entries.old }
+    ensures answer { answer_of_opening result ≡ first_wrong (nodes_checked sizes.edition image.now) (reader_for sizes.edition image.now) }
+    ensures record { result.reader ≡ reader_after (answer_of_opening result) }
+    ensures strings { strings.new ≡ kept_or_cleared (answer_of_opening result) strings.old }
+    ensures entries { entries.new ≡ kept_or_cleared (answer_of_opening result) entries.old }
 {
     let edition = sizes.edition;
     let opening = with_nodes(image, edition, strings, sizes.strings, entries, sizes.nodes);

@@ -74,7 +74,7 @@ fn symbol_table(image: &[u8], edition: Edition, strings: &mut [u32]) -> Symbols
 #[tactic(auto, using(crate::proofs::TablesLaws::span_inside_lem), unfolding(crate::specs::Sections::section_bytes))]
 fn tree_table(image: &[u8], edition: Edition, entries: &mut [u32]) -> TreeTable
     requires { Readable edition image.now × (length entries.old ≡ 2048) }
-    ensures value { answer_of_tree result ≡ first_wrong (tree_checked edition image.now) (length (nodes_in edition image.now)) }
+    ensures answer { answer_of_tree result ≡ first_wrong (tree_checked edition image.now) (length (nodes_in edition image.now)) }
     ensures stored { (n : ℕ) → answer_of_tree result ≡ accepted n → entries.new ≡ laid_over entries.old (node_places edition image.now) }
 {
     let span = sections::span(image, edition, Section::Tree);
@@ -85,7 +85,7 @@ fn tree_table(image: &[u8], edition: Edition, entries: &mut [u32]) -> TreeTable
 // After the symbol table: 9.
 fn with_strings(image: &[u8], edition: Edition, strings: usize, entries: &mut [u32]) -> OpenedTables
     requires { Readable edition image.now × (strings ≡ length (strings_in edition image.now)) × (length entries.old ≡ 2048) }
-    ensures value { answer_of_tables result ≡ first_wrong (tree_checked edition image.now) (sizes_in edition image.now) }
+    ensures answer { answer_of_tables result ≡ first_wrong (tree_checked edition image.now) (sizes_in edition image.now) }
     ensures stored { (s : SizesOf) → answer_of_tables result ≡ accepted s → entries.new ≡ laid_over entries.old (node_places edition image.now) }
 {
     match tree_table(image, edition, entries) {
@@ -107,7 +107,7 @@ fn with_sections(
     entries: &mut [u32],
 ) -> OpenedTables
     requires { Readable edition image.now × (length strings.old ≡ 2048) × (length entries.old ≡ 2048) }
-    ensures value { answer_of_tables result ≡ first_wrong (table_checks edition image.now) (sizes_in edition image.now) }
+    ensures answer { answer_of_tables result ≡ first_wrong (table_checks edition image.now) (sizes_in edition image.now) }
     ensures filled { (s : SizesOf) → answer_of_tables result ≡ accepted s → Filled edition image.now strings.old strings.new entries.old entries.new }
 {
     match symbol_table(image, edition, strings) {
@@ -126,7 +126,7 @@ fn with_edition(
     entries: &mut [u32],
 ) -> OpenedTables
     requires { (header_size edition ≤ length image.now) × (length image.now < 2147483648) × (length strings.old ≡ 2048) × (length entries.old ≡ 2048) }
-    ensures value { answer_of_tables result ≡ first_wrong (body_checks edition image.now) (sizes_in edition image.now) }
+    ensures answer { answer_of_tables result ≡ first_wrong (body_checks edition image.now) (sizes_in edition image.now) }
     ensures filled { (s : SizesOf) → answer_of_tables result ≡ accepted s → Filled edition image.now strings.old strings.new entries.old entries.new }
 {
     match sections::sections(image, edition) {
@@ -138,7 +138,7 @@ fn with_edition(
 // All but 1, in areas of the right length.
 fn with_areas(image: &[u8], form: &[u8], strings: &mut [u32], entries: &mut [u32]) -> OpenedTables
     requires { (length image.now < 2147483648) × (length strings.old ≡ 2048) × (length entries.old ≡ 2048) }
-    ensures value { answer_of_tables result ≡ first_wrong (header_checks image.now form.now ++ body_checks (edition_in image.now) image.now) (sizes_in (edition_in image.now) image.now) }
+    ensures answer { answer_of_tables result ≡ first_wrong (header_checks image.now form.now ++ body_checks (edition_in image.now) image.now) (sizes_in (edition_in image.now) image.now) }
     ensures filled { (s : SizesOf) → answer_of_tables result ≡ accepted s → Filled (edition_in image.now) image.now strings.old strings.new entries.old entries.new }
 {
     match header::header(image, form) {
@@ -150,9 +150,9 @@ fn with_areas(image: &[u8], form: &[u8], strings: &mut [u32], entries: &mut [u32
 // All but 1, in cleared areas; a refusal clears them again.
 fn in_cleared(image: &[u8], form: &[u8], strings: &mut [u32], entries: &mut [u32]) -> OpenedTables
     requires { (length image.now < 2147483648) × (length strings.old ≡ 2048) × (length entries.old ≡ 2048) × (strings.old ≡ replicate (length strings.old) 0) × (entries.old ≡ replicate (length entries.old) 0) }
-    ensures value { answer_of_tables result ≡ first_wrong (header_checks image.now form.now ++ body_checks (edition_in image.now) image.now) (sizes_in (edition_in image.now) image.now) }
-    ensures strings_after { strings.new ≡ area_filled (answer_of_tables result) strings.old (string_places (edition_in image.now) image.now) }
-    ensures entries_after { entries.new ≡ area_filled (answer_of_tables result) entries.old (node_places (edition_in image.now) image.now) }
+    ensures answer { answer_of_tables result ≡ first_wrong (header_checks image.now form.now ++ body_checks (edition_in image.now) image.now) (sizes_in (edition_in image.now) image.now) }
+    ensures strings { strings.new ≡ area_filled (answer_of_tables result) strings.old (string_places (edition_in image.now) image.now) }
+    ensures entries { entries.new ≡ area_filled (answer_of_tables result) entries.old (node_places (edition_in image.now) image.now) }
 {
     match with_areas(image, form, strings, entries) {
         OpenedTables::Found(sizes) => OpenedTables::Found(sizes),

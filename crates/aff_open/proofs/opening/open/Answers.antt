@@ -23,5 +23,5 @@ returns-in-Found c =
     let o = c.open_tables in
     let t = c.with_tables in
     let w = found_opens a.image.now a.form.now a.strings.now a.entries.now (sym c.in-Found.ensures.answer)
-    t.result _ _ _ _ t.ensures.value t.ensures.reader_value t.ensures.strings_after t.ensures.entries_after o.ensures.strings o.ensures.entries in
+    t.result _ _ _ _ t.ensures.answer t.ensures.record t.ensures.strings t.ensures.entries o.ensures.strings o.ensures.entries in
     record { answer = w.0; «record» = w.1.0; strings = w.1.1.0; entries = w.1.1.1 }

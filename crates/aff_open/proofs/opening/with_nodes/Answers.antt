@@ -5,8 +5,8 @@ use Rattle.aff_open.specs.Opening.{nodes_checked, reader_for}
 use Rattle.aff_open.proofs.OpeningLaws.{checked_by, refused_answers}
 use Rattle.aff_open.proofs.opening.with_nodes.Goals as goal
 
-pub returns-in-Refused-clause-value : goal.returns-in-Refused-clause-value
-returns-in-Refused-clause-value c =
+pub returns-in-Refused-clause-answer : goal.returns-in-Refused-clause-answer
+returns-in-Refused-clause-answer c =
     let a = c.args in
     let p = c.requires in
     (refused_answers _ _ _ c.refused.ensures

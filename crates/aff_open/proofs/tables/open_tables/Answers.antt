@@ -15,5 +15,5 @@ returns c =
     let o = c.in_cleared in
     let w = cleared_opens a.image.now a.form.now o.result a.strings.now c.clear.new.area o.new.strings
     a.entries.now c.clear-2.new.area o.new.entries (sym c.if-lengths_wrong.ensures)
-    (omega arith) (omega arith) o.ensures.value o.ensures.strings_after o.ensures.entries_after in
+    (omega arith) (omega arith) o.ensures.answer o.ensures.strings o.ensures.entries in
     record { answer = w.0; strings = w.1.0; entries = w.1.1 }

@@ -10,8 +10,8 @@ use Rattle.aff_open.specs.declared.tables.TableSizes.{TableSizes}
 use Rattle.aff_open.proofs.TablesLaws.{header_joins}
 use Rattle.aff_open.proofs.tables.with_areas.Goals as goal
 
-pub returns-in-Refused-clause-value : goal.returns-in-Refused-clause-value
-returns-in-Refused-clause-value c =
+pub returns-in-Refused-clause-answer : goal.returns-in-Refused-clause-answer
+returns-in-Refused-clause-answer c =
     let i = c.args.image.now in
     sym (refused_before (header_checks i c.args.form.now) (body_checks (edition_in i) i) (edition_in i) (sizes_in (edition_in i) i) (sym c.in-Refused.ensures))
 
@@ -21,5 +21,5 @@ returns-in-Found c =
     let r = c.with_edition in
     let w = header_joins a.image.now a.form.now _ r.result
     (λ (x : Edition). (s : TableSizes) → answer_of_tables r.result ≡ accepted s → Filled x a.image.now a.strings.now r.new.strings a.entries.now r.new.entries)
-    (sym c.in-Found.ensures) r.ensures.value r.ensures.filled in
-    record { value = w.0; filled = w.1 }
+    (sym c.in-Found.ensures) r.ensures.answer r.ensures.filled in
+    record { answer = w.0; filled = w.1 }
