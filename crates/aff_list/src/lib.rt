@@ -5,6 +5,6 @@ pub mod decimal; // numbers in decimal digits
 pub mod line; // a node's line
 pub mod refusal_line; // the line `refused N P`
 pub mod blocks; // the text, block by block
-pub mod output; // on standard output
+pub mod output; // from a reader to a writer
 
 pub use output::run;

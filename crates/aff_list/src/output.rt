@@ -1,7 +1,7 @@
 // The programs `list` and `listall`, over a reader and a writer. Where the reader says which bytes it has left, and the writer which it holds, the contracts
 // say that what is written is the text of what is read (`printed`). Standard input and output say neither.
-ghost use Rattle.std.specs.Prelude.{◌≡◌, ◌≤◌, ◌<◌, length, take, IfOk, IfSome, OnOk};
-ghost use Rattle.std.specs.Io.KnownBytes.{Appends};
+ghost use Rattle.std.specs.Prelude.{◌≡◌, List, ℕ, ◌+◌, ◌≤◌, ◌<◌, length, take, IfOk, IfSome, OnOk, OnErr};
+ghost use Rattle.std.specs.Io.KnownBytes.{Appends, Consumes};
 ghost use Rattle.aff_listing.specs.declared.choice.Choice.{Choice};
 ghost use Rattle.aff_list.specs.Lister.{input_limit, printed};
 
@@ -43,21 +43,25 @@ fn print<W: Write>(out: &mut W, input: &[u8], choice: Choice) -> io::Result<()>
 }
 
 // Reads an input to its end, or until the buffer is full, and returns the number of bytes. A buffer above the limit shows that an input is too
-// long, and no more of it decides (`front` of `Printing`).
+// long, and no more of it decides (`front` of `Printing`). After an error the bytes that the input has lost are the first of the buffer.
 fn read_input<R: Read>(input: &mut R, buffer: &mut [u8]) -> io::Result<usize>
     requires { input_limit < length buffer.old }
     ensures inside { IfOk result (λ n. n ≤ length buffer.new) }
+    ensures bytes { IfOk result (λ n. Consumes (R.remaining input.old) (R.remaining input.new) (take n buffer.new)) }
     ensures decides { IfOk result (λ n. IfSome (R.remaining input.old) (λ xs. (choice : Choice) → printed choice (take n buffer.new) ≡ printed choice xs)) }
+    ensures cut { OnErr result ((n : ℕ) × (n ≤ length buffer.new)
+        × Consumes (R.remaining input.old) (R.remaining input.new) (take n buffer.new)) }
 {
     let size = console::read_full(input, buffer)?;
     Ok(size)
 }
 
 // Reads an input and prints its text: a line for each node that the choice lists, in listing order; or the line `refused N P`; or, for an input
-// above 65,536 bytes, `too long`.
+// above 65,536 bytes, `too long`. Whether it succeeds or not, the input has lost at most 65,537 bytes, all from its front.
 #[tactic(auto, using(crate::proofs::OutputLaws::read_shown))]
 pub fn run<R: Read, W: Write>(input: &mut R, out: &mut W, choice: Choice) -> io::Result<()>
-    ensures { OnOk result (IfSome (R.remaining input.old) (λ xs. Appends (W.contents out.old) (W.contents out.new) (printed choice xs))) }
+    ensures text { OnOk result (IfSome (R.remaining input.old) (λ xs. Appends (W.contents out.old) (W.contents out.new) (printed choice xs))) }
+    ensures reads { (bs : List ℕ) × (length bs ≤ input_limit + 1) × Consumes (R.remaining input.old) (R.remaining input.new) bs }
 {
     let mut buffer = [0u8; 65537];
     let size = read_input(input, &mut buffer)?;

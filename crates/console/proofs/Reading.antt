@@ -1,5 +1,5 @@
 -- What a reader's known bytes lose by one read after others.
-use Rattle.std.proofs.Common.{Option, ◌≡◌, ℕ, ◌+◌, ◌≤◌, List, ◌++◌, None, Some, sym, ap, ◌∙◌, subst, append_assoc, length, take, length-take-le}
+use Rattle.std.proofs.Common.{Option, ◌≡◌, ℕ, ◌+◌, ◌≤◌, List, ◌++◌, None, Some, sym, ap, ◌∙◌, subst, append_assoc, length, take, length-append, length-take-le, arith}
 use Rattle.std.proofs.lemmas.List.{take-append-le}
 use Rattle.std.proofs.Math.Seq.{take-append-add}
 use Rattle.std.specs.Io.KnownBytes.{Consumes}
@@ -22,3 +22,10 @@ filled at k n area part inside fits =
 pub read_on : (a b c : Option (List ℕ)) (at k n : ℕ) (area part : List ℕ) → at ≤ length area → n ≤ length part → Consumes a b (take at area)
     → Consumes b c (take n part) → Consumes a c (take (at + n) (put_mid at k area part))
 read_on a b c at k n area part inside fits p q = subst (Consumes a c) (filled at k n area part inside fits) (joined a b c _ _ p q)
+
+-- What a reader lost by a read that failed after one that did not.
+pub lost_on : (a b c : Option (List ℕ)) (room : ℕ) (front part : List ℕ) → length front ≤ 4 → length part ≤ room → Consumes a b front
+    → (n : ℕ) × (n ≤ length part) × Consumes b c (take n part) → (bs : List ℕ) × (length bs ≤ 4 + room) × Consumes a c bs
+lost_on a b c room front part short fits p lost =
+    let more = take lost.0 part in
+    (front ++ more, omega (arith, length-append front more, length-take-le lost.0 part lost.1), joined a b c front more p lost.2)

@@ -1,8 +1,10 @@
 // What the programs share: text, numbers, refusals and elements to a writer, and bytes and images from a reader. Where the writer says what it holds, and
-// the reader what it has left, the contracts say what is written and what is read; standard output and input say neither.
+// the reader what it has left, the contracts say what is written and what is read; standard output and input say neither. `real` and `element` have no
+// contract: nothing is proved of how a double or an element is written. After an error the contracts say what the reader has lost, and nothing of what the
+// writer holds.
 #![tactic(auto)]
 
-ghost use Rattle.std.specs.Prelude.{◌≡◌, List, ℕ, IsTrue, ◌∷◌, ◌++◌, ◌<◌, ◌≤◌, codes, length, take, IfOk, OnOk};
+ghost use Rattle.std.specs.Prelude.{◌≡◌, List, ℕ, IsTrue, ◌∷◌, ◌++◌, ◌+◌, ◌<◌, ◌≤◌, codes, length, take, IfOk, OnOk, OnErr};
 ghost use Rattle.std.specs.Fmt.{decimal as decimal_text, signed_decimal};
 ghost use Rattle.std.specs.Io.KnownBytes.{Appends, Consumes, IsAtEnd};
 ghost use Rattle.aff_format.specs.Number.{be_of};
@@ -95,11 +97,14 @@ pub struct Next {
     pub size: usize,
 }
 
-// Fills an area from its front, as far as the input goes, and returns how many bytes there were.
+// Fills an area from its front, as far as the input goes, and returns how many bytes there were. After an error the bytes that the input has lost are the
+// first of the area.
 pub fn read_full<R: Read>(input: &mut R, area: &mut [u8]) -> io::Result<usize>
     ensures inside { IfOk result (λ n. n ≤ length area.new) }
     ensures bytes { IfOk result (λ n. Consumes (R.remaining input.old) (R.remaining input.new) (take n area.new)) }
     ensures end { IfOk result (λ n. n < length area.new → IsAtEnd (R.remaining input.new)) }
+    ensures cut { OnErr result ((n : ℕ) × (n ≤ length area.new)
+        × Consumes (R.remaining input.old) (R.remaining input.new) (take n area.new)) }
 {
     let mut done: usize = 0;
     while done < area.len() {
@@ -112,11 +117,14 @@ pub fn read_full<R: Read>(input: &mut R, area: &mut [u8]) -> io::Result<usize>
     Ok(done)
 }
 
-// Reads the next image of an input, which comes after its length in 4 bytes, into the front of an area.
+// Reads the next image of an input, which comes after its length in 4 bytes, into the front of an area. After an error the input has lost bytes from its
+// front alone, at most 4 more than the area holds.
 pub fn next_image<R: Read>(input: &mut R, area: &mut [u8]) -> io::Result<Next>
     ensures inside { IfOk result (λ next. next.size ≤ length area.new) }
     ensures bytes { IfOk result (λ next. IsTrue next.found → ((head : List ℕ) × (length head ≡ 4) × (be_of head ≡ next.size)
         × Consumes (R.remaining input.old) (R.remaining input.new) (head ++ take next.size area.new))) }
+    ensures cut { OnErr result ((bs : List ℕ) × (length bs ≤ 4 + length area.new)
+        × Consumes (R.remaining input.old) (R.remaining input.new) bs) }
 {
     let mut head = [0u8; 4];
     let none = Next {
