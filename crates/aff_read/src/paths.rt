@@ -180,7 +180,7 @@ fn put_own(
 }
 
 // Writes what precedes the slash of a node's children, names in a spelling, by the table of a climb: first that of its parent, then a slash and the node's own name. At
-// most `left` steps up. Returns where it ends. Recursion depth is at most 2,048, and a frame is 80 bytes as compiled for x86-64: a level keeps no
+// most `left` steps up. Returns where it ends. Recursion depth is at most 2,048, and a frame is 48 bytes as compiled for x86-64: a level keeps no
 // record, only the spelling and what the table is read with.
 fn write_front(
     spelling: Spelling,
@@ -207,7 +207,7 @@ fn write_front(
 
 // Writes the path of a node in a spelling, for a record that belongs: 21. It measures first, so that at most three times the output's length is read: to measure,
 // to find each name's end, to copy; four times where names are escaped, since a name is then read twice to measure it. The stack holds the table of the climb,
-// 24,588 bytes, and the frames of `write_front`: about 189,000 bytes for a climb of 2,048 nodes.
+// 24,588 bytes, and the frames of `write_front`: about 123,000 bytes for a climb of 2,048 nodes.
 pub fn path_of(
     spelling: Spelling,
     image: &[u8],
