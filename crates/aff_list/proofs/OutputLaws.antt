@@ -3,17 +3,13 @@ use Rattle.std.proofs.Common.{Option, None, Some, IfSome, ◌≡◌, ℕ, ◌≤
 use mathlib.Core.Logic.{⊎_elim}
 use Rattle.std.proofs.lemmas.List.{take_at}
 use Rattle.std.specs.Io.KnownBytes.{Appends, Consumes, IsAtEnd}
+use Rattle.console.specs.Front.{AppendsFront}
+use Rattle.console.proofs.Writing.{appended, front_longer, front_on}
 use Rattle.aff_reader.specs.declared.reader.Reader.{Reader}
 use Rattle.aff_tables.proofs.OrderLaws.{split}
 use Rattle.aff_listing.specs.declared.choice.Choice.{Choice}
 use Rattle.aff_list.specs.Lister.{input_limit, rows_from, Starts, printed}
 use Rattle.aff_list.proofs.PrintedLaws.{printed_front, rows_end}
-
-appended : (a b c : Option (List ℕ)) (bs cs : List ℕ) → Appends a b bs → Appends b c cs → Appends a c (bs ++ cs)
-appended None b c bs cs p q = tt
-appended (Some x) None c bs cs p q = absurd p
-appended (Some x) (Some y) None bs cs p q = absurd q
-appended (Some x) (Some y) (Some z) bs cs p q = q ∙ ap (λ (l : List ℕ). l ++ cs) p ∙ append_assoc x bs cs
 
 -- Of a text, all has been written but what is left.
 pub record Shown (old now : Option (List ℕ)) (text left : List ℕ) : Type 0 where
@@ -33,6 +29,12 @@ pub shown_all : {a b : Option (List ℕ)} {text left : List ℕ} → Shown a b t
 shown_all {a} {b} {text} {left} s e =
     subst (Appends a b) (sym (s.rest ∙ ap (λ (l : List ℕ). s.bytes ++ l) e ∙ append-nil s.bytes)) s.written
 
+-- What is left begins with some bytes, of which a front is written.
+pub shown_cut : {a b : Option (List ℕ)} (c : Option (List ℕ)) {text left : List ℕ} (more bs : List ℕ) → Shown a b text left → AppendsFront b c bs
+    → left ≡ bs ++ more → AppendsFront a c text
+shown_cut {a} {b} c {text} {left} more bs s f e =
+    subst (AppendsFront a c) (sym s.rest) (front_on a b c s.bytes left s.written (subst (AppendsFront b c) (sym e) (front_longer b c bs more f)))
+
 module _ {image : List ℕ} {reader : Reader} {strings entries text numbers : List ℕ} {lines next used : ℕ} {before after : List ℕ}
     (s : Starts image reader strings entries text numbers lines next used before after) where
   size : length (take lines numbers) ≡ lines
@@ -49,6 +51,9 @@ module _ {image : List ℕ} {reader : Reader} {strings entries text numbers : Li
 
   pub shown_first : {a b : Option (List ℕ)} → Appends a b (take used after) → Shown a b text (rows_from image reader strings entries (take lines numbers) next)
   shown_first w = record { bytes = take used after; written = w; rest = starts_text }
+
+  pub cut_first : (a b : Option (List ℕ)) → AppendsFront a b (take used after) → AppendsFront a b text
+  cut_first a b f = subst (AppendsFront a b) (sym starts_text) (front_longer a b (take used after) _ f)
 
 -- No line is left after the last.
 pub no_more : (image : List ℕ) (reader : Reader) (strings entries numbers : List ℕ) (lines next : ℕ) → lines ≤ length numbers → lines ≤ next

@@ -1,12 +1,13 @@
 // What the programs share: text, numbers, refusals and elements to a writer, and bytes and images from a reader. Where the writer says what it holds, and
 // the reader what it has left, the contracts say what is written and what is read; standard output and input say neither. `real` and `element` have no
-// contract: nothing is proved of how a double or an element is written. After an error the contracts say what the reader has lost, and nothing of what the
-// writer holds.
+// contract: nothing is proved of how a double or an element is written. After an error the contracts say what the reader has lost; of the
+// writer, that `text` and `front` have written a front of their bytes, and else nothing.
 #![tactic(auto)]
 
 ghost use Rattle.std.specs.Prelude.{◌≡◌, List, ℕ, IsTrue, ◌∷◌, ◌++◌, ◌+◌, ◌<◌, ◌≤◌, codes, length, take, IfOk, OnOk, OnErr};
 ghost use Rattle.std.specs.Fmt.{decimal as decimal_text, signed_decimal};
 ghost use Rattle.std.specs.Io.KnownBytes.{Appends, Consumes, IsAtEnd};
+ghost use Rattle.console.specs.Front.{AppendsFront};
 ghost use Rattle.aff_format.specs.Number.{be_of};
 ghost use Rattle.aff_format.specs.Refusal.{number_of, place_of, second_of};
 
@@ -14,15 +15,25 @@ use aff_format::{Element, ElementAnswer, Refusal, number};
 use std::io;
 use std::io::{Read, Write};
 
+// Writes some bytes. After an error the writer holds a front of them besides.
 pub fn text<W: Write>(out: &mut W, bytes: &[u8]) -> io::Result<()>
-    ensures { OnOk result (Appends (W.contents out.old) (W.contents out.new) bytes.now) }
+    ensures all { OnOk result (Appends (W.contents out.old) (W.contents out.new) bytes.now) }
+    ensures cut { OnErr result (AppendsFront (W.contents out.old) (W.contents out.new) bytes.now) }
 {
-    out.write_all(bytes)
+    let mut done: usize = 0;
+    while done < bytes.len() {
+        match out.write(&bytes[done..])? {
+            0 => return Err(io::Error::from(io::ErrorKind::WriteZero)),
+            n => done += n,
+        }
+    }
+    Ok(())
 }
 
 // The first bytes of a run; nothing where it has fewer.
 pub fn front<W: Write>(out: &mut W, bytes: &[u8], size: usize) -> io::Result<()>
-    ensures { OnOk result (size ≤ length bytes.now → Appends (W.contents out.old) (W.contents out.new) (take size bytes.now)) }
+    ensures all { OnOk result (size ≤ length bytes.now → Appends (W.contents out.old) (W.contents out.new) (take size bytes.now)) }
+    ensures cut { OnErr result (AppendsFront (W.contents out.old) (W.contents out.new) (take size bytes.now)) }
 {
     if bytes.len() < size {
         return Ok(());
