@@ -3,8 +3,8 @@ use Rattle.std.proofs.Common.{Option, None, Some, IfSome, ◌≡◌, ℕ, ◌≤
 use mathlib.Core.Logic.{⊎_elim}
 use Rattle.std.proofs.lemmas.List.{take_at}
 use Rattle.std.specs.Io.KnownBytes.{Appends, Consumes, IsAtEnd}
-use Rattle.console.specs.Front.{AppendsFront}
-use Rattle.console.proofs.Writing.{appended, front_longer, front_on}
+use Rattle.console.specs.Part.{AppendsPart}
+use Rattle.console.proofs.Writing.{appended, part_longer, part_on}
 use Rattle.aff_reader.specs.declared.reader.Reader.{Reader}
 use Rattle.aff_tables.proofs.OrderLaws.{split}
 use Rattle.aff_listing.specs.declared.choice.Choice.{Choice}
@@ -29,11 +29,11 @@ pub shown_all : {a b : Option (List ℕ)} {text left : List ℕ} → Shown a b t
 shown_all {a} {b} {text} {left} s e =
     subst (Appends a b) (sym (s.rest ∙ ap (λ (l : List ℕ). s.bytes ++ l) e ∙ append-nil s.bytes)) s.written
 
--- What is left begins with some bytes, of which a front is written.
-pub shown_cut : {a b : Option (List ℕ)} (c : Option (List ℕ)) {text left : List ℕ} (more bs : List ℕ) → Shown a b text left → AppendsFront b c bs
-    → left ≡ bs ++ more → AppendsFront a c text
+-- What is left begins with some bytes, of which a part is written.
+pub shown_cut : {a b : Option (List ℕ)} (c : Option (List ℕ)) {text left : List ℕ} (more bs : List ℕ) → Shown a b text left → AppendsPart b c bs
+    → left ≡ bs ++ more → AppendsPart a c text
 shown_cut {a} {b} c {text} {left} more bs s f e =
-    subst (AppendsFront a c) (sym s.rest) (front_on a b c s.bytes left s.written (subst (AppendsFront b c) (sym e) (front_longer b c bs more f)))
+    subst (AppendsPart a c) (sym s.rest) (part_on a b c s.bytes left s.written (subst (AppendsPart b c) (sym e) (part_longer b c bs more f)))
 
 module _ {image : List ℕ} {reader : Reader} {strings entries text numbers : List ℕ} {lines next used : ℕ} {before after : List ℕ}
     (s : Starts image reader strings entries text numbers lines next used before after) where
@@ -52,8 +52,8 @@ module _ {image : List ℕ} {reader : Reader} {strings entries text numbers : Li
   pub shown_first : {a b : Option (List ℕ)} → Appends a b (take used after) → Shown a b text (rows_from image reader strings entries (take lines numbers) next)
   shown_first w = record { bytes = take used after; written = w; rest = starts_text }
 
-  pub cut_first : (a b : Option (List ℕ)) → AppendsFront a b (take used after) → AppendsFront a b text
-  cut_first a b f = subst (AppendsFront a b) (sym starts_text) (front_longer a b (take used after) _ f)
+  pub cut_first : (a b : Option (List ℕ)) → AppendsPart a b (take used after) → AppendsPart a b text
+  cut_first a b f = subst (AppendsPart a b) (sym starts_text) (part_longer a b (take used after) _ f)
 
 -- No line is left after the last.
 pub no_more : (image : List ℕ) (reader : Reader) (strings entries numbers : List ℕ) (lines next : ℕ) → lines ≤ length numbers → lines ≤ next

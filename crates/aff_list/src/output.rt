@@ -1,8 +1,8 @@
 // The programs `list` and `listall`, over a reader and a writer. Where the reader says which bytes it has left, and the writer which it holds, the contracts
 // say that what is written is the text of what is read (`printed`). Standard input and output say neither.
-ghost use Rattle.std.specs.Prelude.{◌≡◌, List, ℕ, ◌+◌, ◌≤◌, ◌<◌, length, take, IfOk, IfSome, OnOk, OnErr};
-ghost use Rattle.std.specs.Io.KnownBytes.{Appends, Consumes};
-ghost use Rattle.console.specs.Front.{AppendsFront};
+ghost use Rattle.std.specs.Prelude.{◌≡◌, List, ℕ, ◌+◌, ◌⊎◌, ◌≤◌, ◌<◌, length, take, IfOk, IfSome, OnOk, OnErr};
+ghost use Rattle.std.specs.Io.KnownBytes.{Appends, Consumes, Keeps};
+ghost use Rattle.console.specs.Part.{AppendsPart};
 ghost use Rattle.aff_listing.specs.declared.choice.Choice.{Choice};
 ghost use Rattle.aff_list.specs.Lister.{input_limit, printed};
 
@@ -11,10 +11,10 @@ use aff_listing::Choice;
 use std::io;
 use std::io::{Read, Write};
 
-// Prints the text of an input, block by block. After an error a front of it is printed.
+// Prints the text of an input, block by block. After an error its first bytes are printed, but not all.
 fn print<W: Write>(out: &mut W, input: &[u8], choice: Choice) -> io::Result<()>
     ensures all { OnOk result (Appends (W.contents out.old) (W.contents out.new) (printed choice input.now)) }
-    ensures cut { OnErr result (AppendsFront (W.contents out.old) (W.contents out.new) (printed choice input.now)) }
+    ensures cut { OnErr result (AppendsPart (W.contents out.old) (W.contents out.new) (printed choice input.now)) }
 {
     let mut strings = [0u32; 2048];
     let mut entries = [0u32; 2048];
@@ -59,12 +59,13 @@ fn read_input<R: Read>(input: &mut R, buffer: &mut [u8]) -> io::Result<usize>
 }
 
 // Reads an input and prints its text: a line for each node that the choice lists, in listing order; or the line `refused N P`; or, for an input
-// above 65,536 bytes, `too long`. After an error a front of this text is printed. Whether it succeeds or not, the input has lost at most 65,537 bytes, all
-// from its front.
+// above 65,536 bytes, `too long`. After an error nothing is printed, or the first bytes of this text, but not all. Whether it succeeds or not,
+// the input has lost at most 65,537 bytes, all from its front.
 #[tactic(auto, using(crate::proofs::OutputLaws::read_shown))]
 pub fn run<R: Read, W: Write>(input: &mut R, out: &mut W, choice: Choice) -> io::Result<()>
     ensures all { OnOk result (IfSome (R.remaining input.old) (λ xs. Appends (W.contents out.old) (W.contents out.new) (printed choice xs))) }
-    ensures cut { OnErr result (IfSome (R.remaining input.old) (λ xs. AppendsFront (W.contents out.old) (W.contents out.new) (printed choice xs))) }
+    ensures cut { OnErr result (IfSome (R.remaining input.old) (λ xs. Keeps (W.contents out.old) (W.contents out.new)
+        ⊎ AppendsPart (W.contents out.old) (W.contents out.new) (printed choice xs))) }
     ensures reads { (bs : List ℕ) × (length bs ≤ input_limit + 1) × Consumes (R.remaining input.old) (R.remaining input.new) bs }
 {
     let mut buffer = [0u8; 65537];

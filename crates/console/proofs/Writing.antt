@@ -3,7 +3,7 @@ use Rattle.std.proofs.Common.{Option, ℕ, ◌+◌, ◌-◌, List, ◌++◌, Non
 use Rattle.std.proofs.lemmas.List.{take-append-le, take_rest}
 use Rattle.std.proofs.Math.Seq.{take-add, take-append-add}
 use Rattle.std.specs.Io.KnownBytes.{Appends}
-use Rattle.console.specs.Front.{AppendsFront}
+use Rattle.console.specs.Part.{AppendsPart}
 
 pub appended : (a b c : Option (List ℕ)) (bs cs : List ℕ) → Appends a b bs → Appends b c cs → Appends a c (bs ++ cs)
 appended None b c bs cs p q = tt
@@ -17,14 +17,14 @@ pub written_on : (a b c : Option (List ℕ)) (at n : ℕ) (bytes : List ℕ) →
 written_on a b c at n bytes p q =
     subst (Appends a c) (sym (take-add at n bytes)) (appended a b c _ _ p (subst (λ l. Appends b c (take n l)) (take_rest bytes at) q))
 
--- A front of a text is one of a longer text.
-pub front_longer : (a b : Option (List ℕ)) (text more : List ℕ) → AppendsFront a b text → AppendsFront a b (text ++ more)
-front_longer a b text more f =
-    (f.0, omega (arith, f.1, length-append text more), subst (Appends a b) (sym (take-append-le f.0 text more f.1)) f.2)
+-- A part of a text is a part of each longer text that begins with it.
+pub part_longer : (a b : Option (List ℕ)) (text more : List ℕ) → AppendsPart a b text → AppendsPart a b (text ++ more)
+part_longer a b text more f =
+    (f.0, omega (arith, f.1, length-append text more), subst (Appends a b) (sym (take-append-le f.0 text more (omega (arith, f.1)))) f.2)
 
--- After some bytes, a front of what is left.
-pub front_on : (a b c : Option (List ℕ)) (bytes text : List ℕ) → Appends a b bytes → AppendsFront b c text → AppendsFront a c (bytes ++ text)
-front_on a b c bytes text p f = (
+-- After some bytes, a part of what is left.
+pub part_on : (a b c : Option (List ℕ)) (bytes text : List ℕ) → Appends a b bytes → AppendsPart b c text → AppendsPart a c (bytes ++ text)
+part_on a b c bytes text p f = (
   length bytes + f.0,
   omega (arith, f.1, length-append bytes text),
   subst (Appends a c) (sym (take-append-add bytes text f.0)) (appended a b c bytes (take f.0 text) p f.2),

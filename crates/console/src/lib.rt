@@ -1,13 +1,13 @@
 // What the programs share: text, numbers, refusals and elements to a writer, and bytes and images from a reader. Where the writer says what it holds, and
 // the reader what it has left, the contracts say what is written and what is read; standard output and input say neither. `real` and `element` have no
-// contract: nothing is proved of how a double or an element is written. After an error the contracts say what the reader has lost; of the
-// writer, that `text` and `front` have written a front of their bytes, and else nothing.
+// contract: nothing is proved of how a double or an element is written. After an error the contracts say what the reader has lost. Of the
+// writer only those of `text` and `front` say anything then: that the first of their bytes were written, maybe none, but not all.
 #![tactic(auto)]
 
 ghost use Rattle.std.specs.Prelude.{◌≡◌, List, ℕ, IsTrue, ◌∷◌, ◌++◌, ◌+◌, ◌<◌, ◌≤◌, codes, length, take, IfOk, OnOk, OnErr};
 ghost use Rattle.std.specs.Fmt.{decimal as decimal_text, signed_decimal};
 ghost use Rattle.std.specs.Io.KnownBytes.{Appends, Consumes, IsAtEnd};
-ghost use Rattle.console.specs.Front.{AppendsFront};
+ghost use Rattle.console.specs.Part.{AppendsPart};
 ghost use Rattle.aff_format.specs.Number.{be_of};
 ghost use Rattle.aff_format.specs.Refusal.{number_of, place_of, second_of};
 
@@ -15,10 +15,10 @@ use aff_format::{Element, ElementAnswer, Refusal, number};
 use std::io;
 use std::io::{Read, Write};
 
-// Writes some bytes. After an error the writer holds a front of them besides.
+// Writes all the bytes. After an error the writer holds the first of them besides, maybe none, but not all.
 pub fn text<W: Write>(out: &mut W, bytes: &[u8]) -> io::Result<()>
     ensures all { OnOk result (Appends (W.contents out.old) (W.contents out.new) bytes.now) }
-    ensures cut { OnErr result (AppendsFront (W.contents out.old) (W.contents out.new) bytes.now) }
+    ensures cut { OnErr result (AppendsPart (W.contents out.old) (W.contents out.new) bytes.now) }
 {
     let mut done: usize = 0;
     while done < bytes.len() {
@@ -33,7 +33,7 @@ pub fn text<W: Write>(out: &mut W, bytes: &[u8]) -> io::Result<()>
 // The first bytes of a run; nothing where it has fewer.
 pub fn front<W: Write>(out: &mut W, bytes: &[u8], size: usize) -> io::Result<()>
     ensures all { OnOk result (size ≤ length bytes.now → Appends (W.contents out.old) (W.contents out.new) (take size bytes.now)) }
-    ensures cut { OnErr result (AppendsFront (W.contents out.old) (W.contents out.new) (take size bytes.now)) }
+    ensures cut { OnErr result (AppendsPart (W.contents out.old) (W.contents out.new) (take size bytes.now)) }
 {
     if bytes.len() < size {
         return Ok(());
