@@ -21,9 +21,8 @@ use Rattle.aff_format.specs.declared.edition.Edition.{Edition}
 use Rattle.aff_format.specs.declared.edition.Edition.TheVariants.{One, Two, Three}
 use Rattle.aff_format.specs.declared.kind.Kind.{Kind}
 use Rattle.aff_format.specs.declared.kind.Kind.TheVariants.{Void, Int}
-use Rattle.aff_format.specs.declared.lowest.Lowest.TheVariants.{At}
+use Rattle.std.specs.Prelude.{Some}
 use Rattle.aff_format.specs.declared.refusal.RefusalCode.{RefusalCode}
-use Rattle.aff_format.specs.declared.subkey.Grammar.TheVariants.{BreaksAt}
 use Rattle.aff_format.proofs.AnswerLaws.{Others, others_both}
 use Rattle.aff_format.proofs.EntryLaws.{length_entry_bytes}
 use Rattle.aff_format.proofs.PathLaws.{path_complete}
@@ -42,15 +41,15 @@ use Rattle.aff.proofs.Demand1Laws.{others_not}
 use Rattle.aff.specs.Cases.{subkey_case, not_subkey_case, entry_case, Holds, EachHolds, case_table, wide_table, LookupIs, MakeIs, Taken, NoName, EntryTakes, passing, NameBytes}
 
 -- A path that breaks in an edition is 14 with its place.
-no_path : (e : Edition) (path : List ℕ) (p : ℕ) → path_grammar e path ≡ BreaksAt p → LookupIs e path (refused (refusal_at 14 p))
+no_path : (e : Edition) (path : List ℕ) (p : ℕ) → path_grammar e path ≡ Some p → LookupIs e path (refused (refusal_at 14 p))
 no_path e path p h image reader strings entries b is = (lookup_malformed image reader strings entries path b p).1 (rw is h)
 
 -- What is no subkey is 14 as a child's name.
-no_child : (e : Edition) (name : List ℕ) (p : ℕ) → subkey_from e 0 name ≡ BreaksAt p → MakeIs e name (refused (refusal_at 14 p))
+no_child : (e : Edition) (name : List ℕ) (p : ℕ) → subkey_from e 0 name ≡ Some p → MakeIs e name (refused (refusal_at 14 p))
 unfolding make_answer
 no_child e name p h size writer text tree parent b is live there = rw (record_belongs b, live, le-ltb writer.nodes parent there, is, h)
 
-no_name : (e : Edition) (name : List ℕ) (p : ℕ) → is_subkey e name ≡ false → subkey_from e 0 name ≡ BreaksAt p → NoName p e name
+no_name : (e : Edition) (name : List ℕ) (p : ℕ) → is_subkey e name ≡ false → subkey_from e 0 name ≡ Some p → NoName p e name
 no_name e name p n h = record { no_subkey = n; as_child = no_child e name p h }
 
 -- A check that finds nothing wrong changes no answer.
@@ -81,7 +80,7 @@ taken e name path is =
     }
 
 -- The root is the lowest node, and has the path `/`.
-root_found : (image : List ℕ) (reader : Reader) (strings entries : List ℕ) → found image reader strings entries (47 ∷ []) ≡ At 0
+root_found : (image : List ℕ) (reader : Reader) (strings entries : List ℕ) → found image reader strings entries (47 ∷ []) ≡ Some 0
 unfolding found lowest_from same_bytes
 root_found image reader strings entries = rw (add-one reader.nodes)
 

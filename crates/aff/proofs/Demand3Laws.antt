@@ -11,8 +11,7 @@ use borrow.Author.Tests.{le-ltb}
 use Rattle.aff_format.specs.Answer.{Answer, accepted, refused, refusal}
 use Rattle.aff_format.specs.Edition.{signature_text, header_size, least_header, is_known, edition_by}
 use Rattle.aff_format.specs.declared.edition.Edition.{Edition}
-use Rattle.aff_format.specs.declared.edition.FoundEdition.{FoundEdition}
-use Rattle.aff_format.specs.declared.edition.FoundEdition.TheVariants.{Known, Unknown}
+use Rattle.std.specs.Prelude.{Option, Some, None}
 use Rattle.aff_format.proofs.EditionLaws.{first_byte, header_least}
 use Rattle.aff_open.proofs.SectionLaws.{text_known}
 use Rattle.aff_format.specs.Limits.{image_limit, string_limit, node_limit}
@@ -50,9 +49,9 @@ no_text (x ∷ image) e l z h =
 unknown_text : (image : List ℕ) → 1 ≤ length image → get_or image 0 0 ≡ 0 → is_known (text_edition image) ≡ false
 unknown_text image l z = go (text_edition image) refl
   where
-    go : (f : FoundEdition) → text_edition image ≡ f → is_known f ≡ false
-    go (Known e) h = absurd (no_text image e l z (text_known e image h))
-    go Unknown h = refl
+    go : (f : Option Edition) → text_edition image ≡ f → is_known f ≡ false
+    go (Some e) h = absurd (no_text image e l z (text_known e image h))
+    go None h = refl
 
 pub zero_refused : (image form : List ℕ) → length form ≡ 12 → least_header ≤ length image → length image ≤ image_limit → get_or image 0 0 ≡ 0
     → open_answer image form string_limit node_limit ≡ refused (refusal 3)

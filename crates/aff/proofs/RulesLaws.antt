@@ -21,10 +21,7 @@ use Rattle.aff_format.specs.Path.{is_path}
 use Rattle.aff_format.specs.Subkey.{is_subkey}
 use Rattle.aff_format.specs.declared.kind.Kind.{Kind}
 use Rattle.aff_format.specs.declared.kind.Kind.TheVariants.{Void, Char, Int, Double, Complex}
-use Rattle.aff_format.specs.declared.kind.FoundKind.{FoundKind}
-use Rattle.aff_format.specs.declared.kind.FoundKind.TheVariants.{Known, Unknown}
-use Rattle.aff_format.specs.declared.lowest.Lowest.{Lowest}
-use Rattle.aff_format.specs.declared.lowest.Lowest.TheVariants.{Nothing, At}
+use Rattle.std.specs.Prelude.{Option, Some, None}
 use Rattle.aff_format.proofs.KindLaws.{kind_of_code, code_of_kind}
 use Rattle.aff_format.proofs.LowestLaws.{none_holds, holds_none, lowest_is, none_at}
 use Rattle.aff_format.proofs.PathLaws.{path_sound, path_complete}
@@ -92,10 +89,10 @@ module _ (image : List ℕ) (r : Reader) (strings entries : List ℕ) where
       has_path : ℕ → Bool
       has_path k = same_bytes (path_at image r strings entries k) path
 
-      go : (l : Lowest) → found image r strings entries path ≡ l
+      go : (l : Option ℕ) → found image r strings entries path ≡ l
           → (not (is_at l) ≡ false) ↔ ((node : ℕ) × (node ≤ r.nodes) × (path_at image r strings entries node ≡ path))
-      go (At n) h = let l = lowest_is has_path (r.nodes + 1) 0 n h in (λ _. (n, omega (arith, l.most), same_eq _ _ l.holds), λ _. refl)
-      go Nothing h = (
+      go (Some n) h = let l = lowest_is has_path (r.nodes + 1) 0 n h in (λ _. (n, omega (arith, l.most), same_eq _ _ l.holds), λ _. refl)
+      go None h = (
         λ e. absurd (true≢false e),
         λ (k, l, e). absurd (same_ne _ _ (none_holds has_path (r.nodes + 1) 0 h k (omega arith) (omega arith)) e),
       )
@@ -192,9 +189,9 @@ data_asks type size = (
   λ (k, c, l, m). rw (sym c, kind_of_code k, codes_data k (rw c l), m),
 )
   where
-    found_fits : (f : FoundKind) → kind_of type ≡ f → wrong_data f size ≡ false → DataFits type size
-    found_fits Unknown e h = absurd (true≢false h)
-    found_fits (Known k) e h =
+    found_fits : (f : Option Kind) → kind_of type ≡ f → wrong_data f size ≡ false → DataFits type size
+    found_fits None e h = absurd (true≢false h)
+    found_fits (Some k) e h =
         let p = or_false (is_void k) (not (eqb (size % element_size k) 0)) h in
         let c = code_of_kind type k e in
         (k, c, omega (arith, c, data_codes k p.0), eqb-true (size % element_size k) 0 (not-false (eqb (size % element_size k) 0) p.1))

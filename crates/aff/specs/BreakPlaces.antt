@@ -2,7 +2,7 @@
 -- in crates/aff_format/specs/Breaks.antt, defines the place for any language: the bytes before it can be continued to a list in the language, and with the byte
 -- there, if there is one, they cannot. `IsSubkey` and `WellFormed`, there in Subkey.antt and Path.antt, are document 01's two rules. (For lookup: `malformed` of
 -- Demand2.)
-use Rattle.std.specs.Prelude.{◌≡◌, true, List, ◌↔◌, ℕ, ◌≤◌}
+use Rattle.std.specs.Prelude.{◌≡◌, true, List, ◌↔◌, ℕ, ◌≤◌, Some}
 use Rattle.aff_format.specs.Answer.{Answer, refused, refusal_at, refusal_with, SecondOf10}
 use Rattle.aff_format.specs.Breaks.{Breaks}
 use Rattle.aff_format.specs.Element.{decoded}
@@ -14,7 +14,6 @@ use Rattle.aff_format.specs.declared.edition.Edition.{Edition}
 use Rattle.aff_format.specs.declared.kind.Kind.{Kind}
 use Rattle.aff_format.specs.declared.refusal.Refusal.{Refusal}
 use Rattle.aff_format.specs.declared.refusal.RefusalCode.{RefusalCode}
-use Rattle.aff_format.specs.declared.subkey.Grammar.TheVariants.{BreaksAt}
 use Rattle.aff_open.specs.Faults.{rules_before10}
 use Rattle.aff_open.specs.Opening.{open_answer}
 use Rattle.aff_open.specs.Rules.{FirstBadLink}
@@ -33,8 +32,8 @@ SecondBy10 A answer = (t : RefusalCode) → answer ≡ refused t → SecondOf10 
 
 pub record BreakPlaces : Type 1 where
   -- The rule for a subkey and the grammar of a path find a fault at p exactly when p is where the bytes break.
-  pub subkey_breaks : (e : Edition) (name : List ℕ) (p : ℕ) → (subkey_from e 0 name ≡ BreaksAt p) ↔ Breaks (IsSubkey e) name p
-  pub path_breaks : (e : Edition) (path : List ℕ) (p : ℕ) → (path_grammar e path ≡ BreaksAt p) ↔ Breaks (WellFormed e) path p
+  pub subkey_breaks : (e : Edition) (name : List ℕ) (p : ℕ) → (subkey_from e 0 name ≡ Some p) ↔ Breaks (IsSubkey e) name p
+  pub path_breaks : (e : Edition) (path : List ℕ) (p : ℕ) → (path_grammar e path ≡ Some p) ↔ Breaks (WellFormed e) path p
   -- What is no subkey, and what is no well-formed path, breaks somewhere; and nothing breaks at two places, whatever the language.
   pub no_subkey : (e : Edition) (name : List ℕ) → (IsSubkey e name → ⊥) → (p : ℕ) × Breaks (IsSubkey e) name p
   pub no_path : (e : Edition) (path : List ℕ) → (WellFormed e path → ⊥) → (p : ℕ) × Breaks (WellFormed e) path p

@@ -1,6 +1,5 @@
 -- Laws of the strings and nodes so far: one node more, and the sizes of the entries. By induction on the nodes. Assumes nothing.
 use mathlib.Core.Path.{◌≡◌, refl, sym, ap, ◌∙◌}
-use mathlib.Core.Bool.{Bool, true, false, cond}
 use mathlib.Core.List.{List, [], ◌∷◌, ◌++◌}
 use Prim.Native.Nat.{ℕ, zero, suc, ◌+◌, ◌*◌, ◌≤◌, ◌<◌}
 use native.Mathlib.Numerals.{add-one}
@@ -8,20 +7,16 @@ use native.Mathlib.Omega.{arith}
 use lib.ListN.{length, set, take, drop, length-append}
 use borrow.Author.Tests.{ne_eqb}
 use Rattle.aff_format.specs.Bytes.{spliced}
-use Rattle.aff_format.specs.Kind.{entry_size, is_void}
+use Rattle.aff_format.specs.Kind.{entry_size}
 use Rattle.aff_format.specs.Limits.{node_limit, tree_area}
 use Rattle.aff_format.proofs.BytesLaws.{length_part, length_spliced, spliced_next, set_spliced}
 use Rattle.aff_format.proofs.KindLaws.{entry_size_bounds}
 use Rattle.aff_format.specs.Entry.{or_none}
-use Rattle.aff_areas.specs.Areas.{slot_at, found_slot, slot_entry, entry_sizes, entries_out, data_nodes}
+use Rattle.aff_areas.specs.Areas.{slot_at, found_slot, slot_entry, entry_sizes, entries_out}
 
 -- The bytes of node k's entry in a file.
 abbrev pub entry_part : List ℕ → ℕ → List ℕ
 entry_part tree k = take (entry_size (slot_entry tree k).kind) (drop (slot_at k) tree)
-
-one_at_most : (b : Bool) → cond b 0 1 ≤ 1
-one_at_most true = omega arith
-one_at_most false = omega arith
 
 module _ (tree : List ℕ) where
   -- The entry of a node is the one found in its slot.
@@ -34,24 +29,15 @@ module _ (tree : List ℕ) where
   unfolding entry_sizes
   entry_sizes_more n = ap (entry_sizes tree) (add-one n)
 
-  pub data_nodes_more : (n : ℕ) → data_nodes tree (n + 1) ≡ data_nodes tree n + cond (is_void (slot_entry tree (n + 1)).kind) 0 1
-  unfolding data_nodes
-  data_nodes_more n = ap (data_nodes tree) (add-one n)
-
   pub entries_out_more : (n : ℕ) → entries_out tree (n + 1) ≡ entries_out tree n ++ entry_part tree (n + 1)
   unfolding entries_out
   entries_out_more n = ap (entries_out tree) (add-one n)
 
-  -- At most 25 bytes a node, and one node with data a node.
+  -- At most 25 bytes a node.
   pub entry_sizes_most : (n : ℕ) → entry_sizes tree n ≤ 25 * n
   unfolding entry_sizes
   entry_sizes_most zero = omega arith
   entry_sizes_most (suc n) = omega (arith, entry_sizes_most n, entry_size_bounds (slot_entry tree (n + 1)).kind)
-
-  pub data_nodes_most : (n : ℕ) → data_nodes tree n ≤ n
-  unfolding data_nodes
-  data_nodes_most zero = omega arith
-  data_nodes_most (suc n) = omega (arith, data_nodes_most n, one_at_most (is_void (slot_entry tree (n + 1)).kind))
 
   -- A slot lies inside the tree area.
   pub length_slot : (k n : ℕ) → 0 < k → k ≤ node_limit → n ≤ 25 → length tree ≡ tree_area → length (take n (drop (slot_at k) tree)) ≡ n

@@ -1,29 +1,22 @@
 -- 24 for the writer: the test in the order of the passes, the test and document 01's clauses (both ways), and what `judge` says to its
 -- callers. Node by node: an entry is lost, or has all that the clauses ask. Assumes nothing.
-use mathlib.Core.Path.{◌≡◌, refl, sym, ap, ◌∙◌}
+use mathlib.Core.Path.{◌≡◌, refl, sym, ◌∙◌}
 use mathlib.Core.Bool.{Bool, true, false, ◌&&◌, and-false, true≢false}
-use mathlib.Core.List.{List, ◌++◌}
+use mathlib.Core.List.{List}
 use Prim.Native.Nat.{ℕ, ◌+◌, ◌-◌, ◌*◌, ◌≤◌, ◌<◌}
 use native.Mathlib.Omega.{arith}
 use lib.Dec.{eqb, leb}
 use lib.ListN.{length}
 use borrow.Author.Tests.{eq-eqb, le-leb, lt-leb, eqb-true, leb-true, leb-false, not-true, not-false}
-use Rattle.aff_format.specs.Answer.{accepted, refused, Check, first_wrong}
+use Rattle.aff_format.specs.Answer.{accepted, first_wrong}
 use Rattle.aff_format.specs.Kind.{element_size, is_void}
 use Rattle.aff_format.specs.Limits.{image_limit, string_limit, node_limit, text_area, tree_area}
 use Rattle.aff_format.specs.Lowest.{lowest_from, none_from}
-use Rattle.aff_format.specs.Refusal.{code_of_refusal}
 use Rattle.aff_format.specs.Strings.{ends_in_zero}
 use Rattle.aff_format.specs.passes.Counts.{zeros_in}
-use Rattle.aff_format.specs.Verdict.{answer_of_verdict}
 use Rattle.aff_format.specs.declared.entry.Entry.{Entry}
-use Rattle.aff_format.specs.declared.entry.FoundEntry.{FoundEntry}
-use Rattle.aff_format.specs.declared.entry.FoundEntry.TheVariants.{Whole, Broken}
-use Rattle.aff_format.specs.declared.lowest.Lowest.TheVariants.{Nothing, At}
-use Rattle.aff_format.specs.declared.refusal.Refusal.{Refusal}
-use Rattle.aff_format.specs.declared.verdict.Verdict.{Verdict}
-use Rattle.aff_format.specs.declared.verdict.Verdict.TheVariants.{Accepted, Refused}
-use Rattle.aff_format.proofs.AnswerLaws.{passed, refused_before, passed_before, others_reported}
+use Rattle.std.specs.Prelude.{Option, Some, None}
+use Rattle.aff_format.proofs.AnswerLaws.{passed}
 use Rattle.aff_format.proofs.LowestLaws.{none_holds, holds_none, none_at}
 use Rattle.aff_format.proofs.StringsLaws.{strings_zeros}
 use Rattle.aff_format.proofs.TestLaws.{both, all_seven, or_false}
@@ -93,13 +86,13 @@ module _ (writer : Writer) (tree : List ℕ) where
   unfolding writer_nodes_belong
   header_decides h = rw (lt-leb (data_place writer) writer.end h)
 
-  pub lost_decides : {k from : ℕ} → from ≡ data_place writer → lowest_from (writer_node_lost writer.strings from (writer.end - from) tree) writer.nodes 1 ≡ At k
+  pub lost_decides : {k from : ℕ} → from ≡ data_place writer → lowest_from (writer_node_lost writer.strings from (writer.end - from) tree) writer.nodes 1 ≡ Some k
       → writer_nodes_belong writer tree ≡ false
   unfolding writer_nodes_belong
   lost_decides p h = rw (← p, h, and-false)
 
   pub size_decides : {from : ℕ} → from ≡ data_place writer → data_place writer ≤ writer.end
-      → lowest_from (writer_node_lost writer.strings from (writer.end - from) tree) writer.nodes 1 ≡ Nothing
+      → lowest_from (writer_node_lost writer.strings from (writer.end - from) tree) writer.nodes 1 ≡ None
       → writer_nodes_belong writer tree ≡ leb (finished_size writer tree) writer.length
   unfolding writer_nodes_belong
   size_decides p l h = rw (le-leb (data_place writer) writer.end l, ← p, h)
@@ -118,27 +111,27 @@ pub record Kept (strings from size k : ℕ) (e : Entry) : Type 0 where
   pub string : e.string < strings
   pub inside : is_void e.kind ≡ false → (from ≤ e.offset) × (e.offset + e.count * element_size e.kind ≤ from + size)
 
-pub kept_slot : (strings from size k : ℕ) (e : Entry) (f : FoundEntry) → f ≡ Whole e → Kept strings from size k e → slot_lost strings from size k f ≡ false
+pub kept_slot : (strings from size k : ℕ) (e : Entry) (f : Option Entry) → f ≡ Some e → Kept strings from size k e → slot_lost strings from size k f ≡ false
 kept_slot strings from size k e f q w =
     rw (q, lt-leb k e.parent w.parent, lt-leb strings e.string w.string) ((data_asks from size e).1 w.inside)
 
-pub slot_kept : (strings from size k : ℕ) (f : FoundEntry) → slot_lost strings from size k f ≡ false
-    → (f ≡ Whole (or_none f)) × Kept strings from size k (or_none f)
-slot_kept strings from size k Broken h = absurd (true≢false h)
-slot_kept strings from size k (Whole e) h =
+pub slot_kept : (strings from size k : ℕ) (f : Option Entry) → slot_lost strings from size k f ≡ false
+    → (f ≡ Some (or_none f)) × Kept strings from size k (or_none f)
+slot_kept strings from size k None h = absurd (true≢false h)
+slot_kept strings from size k (Some e) h =
     let (p, r) = or_false _ _ h in
     let (s, d) = or_false _ _ r in
     (refl, record { parent = leb-false _ _ p; string = leb-false _ _ s; inside = (data_asks from size e).0 d })
 
 -- A node by the content of its slot.
-pub node_judged : (strings from size : ℕ) (tree : List ℕ) (k : ℕ) {f : FoundEntry} {r b : Bool} → f ≡ found_slot tree k → r ≡ slot_lost strings from size k f → r ≡ b
+pub node_judged : (strings from size : ℕ) (tree : List ℕ) (k : ℕ) {f : Option Entry} {r b : Bool} → f ≡ found_slot tree k → r ≡ slot_lost strings from size k f → r ≡ b
     → writer_node_lost strings from size tree k ≡ b
 unfolding writer_node_lost
 node_judged strings from size tree k found t h = rw (← found) (sym t ∙ h)
 
 -- Where the lowest that is lost is none, each entry is whole and has no fault.
-pub nodes_kept : (strings from size nodes : ℕ) (tree : List ℕ) → lowest_from (writer_node_lost strings from size tree) nodes 1 ≡ Nothing → (k : ℕ) → 0 < k → k ≤ nodes
-    → (found_slot tree k ≡ Whole (slot_entry tree k)) × Kept strings from size k (slot_entry tree k)
+pub nodes_kept : (strings from size nodes : ℕ) (tree : List ℕ) → lowest_from (writer_node_lost strings from size tree) nodes 1 ≡ None → (k : ℕ) → 0 < k → k ≤ nodes
+    → (found_slot tree k ≡ Some (slot_entry tree k)) × Kept strings from size k (slot_entry tree k)
 unfolding writer_node_lost
 nodes_kept strings from size nodes tree none k l h =
     rw (slot_found tree k l)
@@ -189,7 +182,7 @@ module _ {size : ℕ} {writer : Writer} {text tree : List ℕ} (b : WriterBelong
   unfolding text_belongs
   text_true = rw b.text_ends (eq-eqb _ _ b.text_strings)
 
-  nodes_none : lowest_from (writer_node_lost writer.strings (data_place writer) (data_size writer) tree) writer.nodes 1 ≡ Nothing
+  nodes_none : lowest_from (writer_node_lost writer.strings (data_place writer) (data_size writer) tree) writer.nodes 1 ≡ None
   unfolding writer_node_lost
   nodes_none =
       holds_none _ writer.nodes 1
@@ -229,20 +222,3 @@ pub judged : {size : ℕ} {writer : Writer} {text tree : List ℕ} → first_wro
 judged {size} {writer} {text} {tree} h =
     let (b, (l, _)) = passed (writer_checks size writer text tree) (tt {0}) h in
     (belongs_record (not-false (writer_belongs size writer text tree) b), not-false writer.live l)
-
-module _ (size : ℕ) (writer : Writer) (text tree : List ℕ) (v : Verdict)
-    (reported : answer_of_verdict v ≡ first_wrong (writer_checks size writer text tree) (tt {0})) where
-  -- Accepted: the record belongs and is live, and the checks after decide.
-  pub judge_belongs : v ≡ Accepted → WriterBelongs size writer text tree × (writer.live ≡ true)
-  judge_belongs e = judged (sym reported ∙ ap answer_of_verdict e)
-
-  pub judge_leaves : {A : Type 0} (more : List Check) (a : A) → v ≡ Accepted → first_wrong more a ≡ first_wrong (writer_checks size writer text tree ++ more) a
-  judge_leaves more a e = sym (passed_before (writer_checks size writer text tree) more (tt {0}) a (sym reported ∙ ap answer_of_verdict e))
-
-  -- Refused: the refusal is the call's, and it is 24 or 22.
-  pub judge_refuses : {A : Type 0} (more : List Check) (a : A) (q : Refusal) → v ≡ Refused q
-      → refused (code_of_refusal q) ≡ first_wrong (writer_checks size writer text tree ++ more) a
-  judge_refuses more a q e = sym (refused_before (writer_checks size writer text tree) more (tt {0}) a (sym reported ∙ ap answer_of_verdict e))
-
-  pub judged_other : (q : Refusal) → v ≡ Refused q → eqb (code_of_refusal q).number 23 ≡ false
-  judged_other q e = others_reported 23 (writer_checks size writer text tree) refl (tt {0}) (sym reported ∙ ap answer_of_verdict e)

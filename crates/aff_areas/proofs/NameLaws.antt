@@ -4,22 +4,22 @@ use mathlib.Core.Path.{◌≡◌, refl, sym, ap, ◌∙◌}
 use mathlib.Core.Bool.{Bool, true, false, cond, true≢false}
 use mathlib.Core.List.{List, [], ◌∷◌, ◌++◌}
 use Prim.Native.Nat.{ℕ, zero, suc, ◌+◌, ◌-◌, ◌≤◌, ◌<◌}
-use native.Mathlib.Numerals.{add-one}
 use native.Mathlib.Omega.{arith}
 use lib.Dec.{eqb}
-use lib.ListN.{length, get_or, set, take, drop, length-append, length-drop, length-map, drop_of_length-le, get_or-eq_default}
-use lib.Seq.{drop-cons, drop-drop, take_all, length-take-le, get_or-take}
-use borrow.Author.Tests.{eq-eqb, ne_eqb, eqb-true}
+use lib.ListN.{length, get_or, set, take, drop, length-append, length-drop, length-map, drop_of_length-le}
+use lib.Seq.{drop-drop, take_all}
+use Rattle.std.proofs.lemmas.List.Recursion.{is_position_or_len}
+use Rattle.std.specs.List.{position_or_len}
+use borrow.Author.Tests.{eqb-true}
 use Rattle.aff_format.specs.Bytes.{part, same_bytes, laid_over}
 use Rattle.aff_format.specs.Strings.{strings_of, ends_in_zero, up_to_zero, index_in}
-use Rattle.aff_format.specs.declared.entry.Entry.{Entry}
 use Rattle.aff_format.proofs.StringsLaws.{ends_in_zero_append, ends_in_zero_tail, strings_of_one, up_to_zero_without}
 use Rattle.aff_format.specs.Recorded.{name_from}
 use Rattle.aff_format.proofs.RecordedLaws.{name_part}
 use Rattle.aff_format.proofs.LaidLaws.{Laid, laid_start, laid_store, laid_all, laid_front}
-use Rattle.aff_areas.specs.Areas.{names_in, slot_entry}
+use Rattle.aff_areas.specs.Areas.{names_in}
 use Rattle.aff_areas.specs.Belongs.{WriterBelongs}
-use Rattle.aff_areas.specs.passes.Marks.{mark_of, marks_of, first_mark, is_marked}
+use Rattle.aff_areas.specs.passes.Marks.{mark_of, marks_of, first_mark}
 use Rattle.aff_areas.specs.declared.writer.Writer.{Writer}
 
 -- Marks and strings.
@@ -119,41 +119,10 @@ module _ {text name marks₀ marks : List ℕ} {at i : ℕ} (m : Marking text na
   unfolding strings_of
   mark_all h = (laid_all (rw (drop_of_length-le text h) at m.laid)).1.1
 
--- The lowest mark, where a loop has passed the first i of `count`.
-module _ (marks : List ℕ) (count i : ℕ) (few : count ≤ length marks) where
-  front : length (take count marks) ≡ count
-  front = length-take-le count marks few
-
-  pub first_here : i < count → get_or marks i 0 ≡ 1 → i + first_mark (drop i (take count marks)) ≡ i
-  unfolding first_mark
-  first_here h e =
-      let l : i < length (take count marks) = omega (arith, front) in
-      let g : get_or (take count marks) i 0 ≡ 1 = get_or-take count marks i 0 h ∙ e in
-      rw (drop-cons (take count marks) i 0 l, eq-eqb _ _ g) (omega arith)
-
-  pub first_on : i < count → (get_or marks i 0 ≡ 1 → ⊥) → i + 1 + first_mark (drop (i + 1) (take count marks)) ≡ i + first_mark (drop i (take count marks))
-  unfolding first_mark
-  first_on h n =
-      let l : i < length (take count marks) = omega (arith, front) in
-      let g : get_or (take count marks) i 0 ≡ get_or marks i 0 = get_or-take count marks i 0 h in
-      rw (add-one, drop-cons (take count marks) i 0 l, ne_eqb (get_or (take count marks) i 0) 1 (λ e. n (sym g ∙ e))) (omega arith)
-
-  pub first_end : count ≤ i → i + first_mark (drop i (take count marks)) ≡ i
-  unfolding first_mark
-  first_end h =
-      let l : length (take count marks) ≤ i = omega (arith, front) in
-      rw (drop_of_length-le (take count marks) l) (omega arith)
-
--- A node that is a child and marked, from its entry.
-module _ (marks tree : List ℕ) (parent node : ℕ) (e : Entry) (is : e ≡ slot_entry tree node) where
-  pub not_child : (e.parent ≡ parent → ⊥) → false ≡ is_marked marks tree parent node
-  not_child n = rw (← is, ne_eqb e.parent parent n)
-
-  pub past_marks : e.parent ≡ parent → length marks ≤ e.string → false ≡ is_marked marks tree parent node
-  past_marks p h = rw (← is, eq-eqb e.parent parent p, get_or-eq_default marks 0 h)
-
-  pub marked_by : e.parent ≡ parent → {b : Bool} → b ≡ eqb (get_or marks e.string 0) 1 → b ≡ is_marked marks tree parent node
-  marked_by p h = rw (← is, eq-eqb e.parent parent p) h
+-- The lowest mark, in std's words.
+pub first_mark_is : (marks : List ℕ) → position_or_len (λ x. eqb x 1) marks ≡ first_mark marks
+unfolding first_mark
+first_mark_is marks = sym (is_position_or_len first_mark (λ x. eqb x 1) refl (λ x ys. ap (cond (eqb x 1) 0) (omega arith)) marks)
 
 -- Marks of a writer's strings.
 module _ {size : ℕ} {writer : Writer} {text tree : List ℕ} (b : WriterBelongs size writer text tree) (name : List ℕ) (marks₀ marks : List ℕ)

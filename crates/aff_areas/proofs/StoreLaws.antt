@@ -2,12 +2,16 @@
 -- Assumes nothing.
 use mathlib.Core.Path.{◌≡◌, refl, sym, ap, ◌∙◌}
 use mathlib.Core.List.{List, [], ◌∷◌, ◌++◌, append_assoc}
-use Prim.Native.Nat.{ℕ, zero, suc, ◌+◌, ◌-◌, ◌≤◌, ◌<◌}
+use Prim.Native.Nat.{ℕ, zero, suc, ◌+◌, ◌-◌, ◌≤◌}
 use native.Mathlib.Nat.{add-zero, sub-zero}
 use native.Mathlib.Numerals.{add-one}
 use native.Mathlib.Omega.{arith}
-use lib.ListN.{length, get_or, set, take, drop, length-set, length-append}
-use lib.Seq.{sets, sets-eq, take-suc, take_all, length-take-le}
+use lib.ListN.{length, set, take, drop, length-set, length-append}
+use borrow.Rule.Slice.PartMut.{put_mid}
+use Rattle.std.specs.Prelude.{min}
+use Rattle.std.proofs.lemmas.List.{take_min}
+use Rattle.aff_format.proofs.StdLaws.{put_mid_spliced}
+use lib.Seq.{sets, sets-eq, length-take-le}
 use Rattle.aff_format.specs.Bytes.{spliced}
 use Rattle.aff_areas.specs.Stores.{Store, apply_stores, stores_from}
 
@@ -74,51 +78,21 @@ length_take_most zero a = omega arith
 length_take_most (suc k) [] = omega arith
 length_take_most (suc k) (x ∷ a) = let h = length_take_most k a in omega arith
 
--- A loop has stored the first i bytes of a run, and was allowed so many.
-pub record Storing (buffer₀ : List ℕ) (at : ℕ) (bytes : List ℕ) (allowance : ℕ) (buffer : List ℕ) (i : ℕ) : Type 0 where
-  pub few : i ≤ length bytes
-  pub allowed : i ≤ allowance
-  pub stored : buffer ≡ apply_stores buffer₀ (stores_from at (take i bytes))
-  pub sized : length buffer ≡ length buffer₀
-
 -- How many, and the buffer.
 abbrev pub Stored : List ℕ → ℕ → List ℕ → ℕ → List ℕ → ℕ → Type 0
 Stored buffer₀ at bytes allowance buffer i =
     (i ≡ length (take allowance bytes)) × (buffer ≡ apply_stores buffer₀ (take allowance (stores_from at bytes)))
 
-pub storing_none : (buffer : List ℕ) (at : ℕ) (bytes : List ℕ) (allowance : ℕ) → Storing buffer at bytes allowance buffer 0
-unfolding apply_stores stores_from
-storing_none buffer at bytes allowance = record { few = omega arith; allowed = omega arith; stored = refl; sized = refl }
-
-module _ {buffer₀ : List ℕ} {at : ℕ} {bytes : List ℕ} {allowance : ℕ} {buffer : List ℕ} {i : ℕ} (s : Storing buffer₀ at bytes allowance buffer i) where
-  one_more : i < length bytes → set buffer (at + i) (get_or bytes i 0) ≡ apply_stores buffer₀ (stores_from at (take (i + 1) bytes))
-  unfolding apply_stores stores_from
-  one_more h =
-      let v = get_or bytes i 0 in
-      let n : length (take i bytes) ≡ i = length-take-le i bytes s.few in
-      let e : take (i + 1) bytes ≡ take i bytes ++ (v ∷ []) = rw add-one (take-suc bytes i 0 h) in
-      ap (λ (r : List ℕ). set r (at + i) v) s.stored
-      ∙ ap (λ (k : ℕ). set (apply_stores buffer₀ (stores_from at (take i bytes))) (at + k) v) (sym n)
-      ∙ sym (apply_append buffer₀ (stores_from at (take i bytes)) (stores_from (at + length (take i bytes)) (v ∷ [])))
-      ∙ ap (apply_stores buffer₀) (sym (stores_from_append at (take i bytes) (v ∷ [])) ∙ ap (stores_from at) (sym e))
-
-  pub storing_next : i < length bytes → i < allowance → Storing buffer₀ at bytes allowance (set buffer (at + i) (get_or bytes i 0)) (i + 1)
-  storing_next h a =
-      record { few = omega arith; allowed = omega arith; stored = one_more h; sized = length-set buffer (at + i) (get_or bytes i 0) ∙ s.sized }
-
-  pub storing_spent : allowance ≤ i → Stored buffer₀ at bytes allowance buffer i
-  storing_spent h =
-      let e : allowance ≡ i = omega (arith, s.allowed) in
-      (rw e (sym (length-take-le i bytes s.few)), s.stored ∙ rw (e, take_stores_from i at bytes))
-
-  pub storing_all : length bytes ≤ i → Stored buffer₀ at bytes allowance buffer i
-  storing_all h =
-      let f = s.few in
-      let a = s.allowed in
-      let e : i ≡ length bytes = omega arith in
-      let n : take allowance bytes ≡ bytes = take_all allowance bytes (omega arith) in
-      let m : take i bytes ≡ bytes = take_all i bytes h in
-      (rw n e, s.stored ∙ rw (take_stores_from allowance at bytes, n, m))
+-- The front of a run that the allowance admits, by one copy.
+pub copied_stores : (at made allowance : ℕ) (bytes buffer : List ℕ) → at + length bytes ≤ length buffer → made ≡ min allowance (length bytes)
+    → put_mid at (at + made - at) buffer (take made bytes) ≡ apply_stores buffer (take allowance (stores_from at bytes))
+copied_stores at made allowance bytes buffer h m =
+    let e : take made bytes ≡ take allowance bytes = rw m (take_min allowance bytes) in
+    let n : length (take made bytes) ≡ made = length-take-le made bytes (omega arith) in
+    put_mid_spliced at (at + made - at) (take made bytes) buffer (omega arith)
+    ∙ ap (λ (r : List ℕ). spliced at r buffer) e
+    ∙ sym (apply_spliced at (take allowance bytes) buffer (omega (arith, ap length e)))
+    ∙ ap (apply_stores buffer) (sym (take_stores_from allowance at bytes))
 
 -- One run and another under one allowance.
 module _ (buffer₀ : List ℕ) (at : ℕ) (bytes : List ℕ) (then : ℕ) (more : List ℕ) (allowance : ℕ) (buffer₁ buffer₂ : List ℕ) (first second : ℕ)

@@ -1,10 +1,9 @@
 -- What the record and the two areas say of the strings and the nodes so far, whatever they hold: document 01, 'Writing keys'.
-use Rattle.std.specs.Prelude.{cond, List, [], ◌++◌, ℕ, zero, suc, ◌+◌, ◌-◌, ◌*◌, eqb, get_or, take, drop}
+use Rattle.std.specs.Prelude.{cond, List, [], ◌++◌, ℕ, zero, suc, ◌+◌, ◌-◌, ◌*◌, eqb, get_or, take, drop, Option}
 use Rattle.aff_format.specs.Entry.{entry_of, no_entry, or_none}
 use Rattle.aff_format.specs.Kind.{entry_size, is_void}
 use Rattle.aff_format.specs.Strings.{strings_of}
 use Rattle.aff_format.specs.declared.entry.Entry.{Entry}
-use Rattle.aff_format.specs.declared.entry.FoundEntry.{FoundEntry}
 use Rattle.aff_areas.specs.declared.writer.Writer.{Writer}
 
 -- The used part of the text area, and the strings in it.
@@ -19,7 +18,7 @@ abbrev pub slot_at : ℕ → ℕ
 slot_at k = 25 * (k - 1)
 
 -- Its content.
-abbrev pub found_slot : List ℕ → ℕ → FoundEntry
+abbrev pub found_slot : List ℕ → ℕ → Option Entry
 found_slot tree k = entry_of (drop (slot_at k) tree)
 
 -- The entry of node k; the root has none of its own.

@@ -1,13 +1,12 @@
 -- 24 for the writer: document 01, 'Numbers handed back', the paragraph after the table. All that is recorded is judged, and nothing else.
-use Rattle.std.specs.Prelude.{◌≡◌, Bool, true, false, not, ◌&&◌, ◌||◌, List, [], ◌∷◌, ℕ, ◌+◌, ◌*◌, ◌≤◌, ◌<◌, eqb, leb, length}
+use Rattle.std.specs.Prelude.{◌≡◌, Bool, true, false, not, ◌&&◌, ◌||◌, List, [], ◌∷◌, ℕ, ◌+◌, ◌*◌, ◌≤◌, ◌<◌, eqb, leb, length, Option, Some, None}
 use Rattle.aff_format.specs.Answer.{Check, check, refusal}
 use Rattle.aff_format.specs.Edition.{names_written, NamesWritten}
 use Rattle.aff_format.specs.Kind.{element_size, is_void}
 use Rattle.aff_format.specs.Limits.{image_limit, string_limit, node_limit, text_area, tree_area}
 use Rattle.aff_format.specs.Strings.{ends_in_zero}
-use Rattle.aff_format.specs.declared.entry.FoundEntry.{FoundEntry}
-use Rattle.aff_format.specs.declared.entry.FoundEntry.TheVariants.{Whole, Broken}
 use Rattle.aff_format.specs.Lowest.{none_from}
+use Rattle.aff_format.specs.declared.entry.Entry.{Entry}
 use Rattle.aff_format.specs.Entry.{no_string, outside}
 use Rattle.aff_areas.specs.Areas.{used_text, names_in, found_slot, slot_entry, finished_size}
 use Rattle.aff_areas.specs.Writer.{data_place, data_size}
@@ -30,9 +29,9 @@ unfoldable pub text_belongs : Writer → List ℕ → Bool
 text_belongs writer text = ends_in_zero (used_text writer text) && eqb (length (names_in writer text)) writer.strings
 
 -- The entry of node k: its type does not exist, its parent is not lower, its string does not exist, or its data fall outside what was put.
-abbrev pub slot_lost : ℕ → ℕ → ℕ → ℕ → FoundEntry → Bool
-slot_lost strings from size k Broken = true
-slot_lost strings from size k (Whole e) = leb k e.parent || (no_string strings e || outside from size e)
+abbrev pub slot_lost : ℕ → ℕ → ℕ → ℕ → Option Entry → Bool
+slot_lost strings from size k None = true
+slot_lost strings from size k (Some e) = leb k e.parent || (no_string strings e || outside from size e)
 
 unfoldable pub writer_node_lost : ℕ → ℕ → ℕ → List ℕ → ℕ → Bool
 writer_node_lost strings from size tree k = slot_lost strings from size k (found_slot tree k)
@@ -68,7 +67,7 @@ pub record WriterBelongs (size : ℕ) (writer : Writer) (text tree : List ℕ) :
   -- The data do not end inside the header (request C-22).
   pub end_after_header : data_place writer ≤ writer.end
   -- Each entry has a type that exists, a parent lower than the node, a string that exists, and data inside what was put.
-  pub slot_whole : (k : ℕ) → 0 < k → k ≤ writer.nodes → found_slot tree k ≡ Whole (slot_entry tree k)
+  pub slot_whole : (k : ℕ) → 0 < k → k ≤ writer.nodes → found_slot tree k ≡ Some (slot_entry tree k)
   pub parent_lower : (k : ℕ) → 0 < k → k ≤ writer.nodes → (slot_entry tree k).parent < k
   pub string_exists : (k : ℕ) → 0 < k → k ≤ writer.nodes → (slot_entry tree k).string < writer.strings
   pub data_begins : (k : ℕ) → 0 < k → k ≤ writer.nodes → is_void (slot_entry tree k).kind ≡ false → data_place writer ≤ (slot_entry tree k).offset

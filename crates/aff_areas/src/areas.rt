@@ -1,5 +1,5 @@
 // Strings and nodes so far, by what the record and the two areas say.
-ghost use Rattle.std.specs.Prelude.{◌≡◌, cond, [], ◌∷◌, ◌++◌, ◌+◌, ◌*◌, ◌≤◌, ◌<◌, length, replicate, take, drop};
+ghost use Rattle.std.specs.Prelude.{◌≡◌, cond, [], ◌∷◌, ◌++◌, ◌+◌, ◌*◌, ◌≤◌, ◌<◌, length, take, drop};
 ghost use Rattle.aff_format.specs.Bytes.{spliced};
 ghost use Rattle.aff_format.specs.Entry.{slot_bytes};
 ghost use Rattle.aff_format.specs.Kind.{entry_size, is_void};
@@ -7,11 +7,12 @@ ghost use Rattle.aff_format.specs.Limits.{image_limit, node_limit, text_area, tr
 ghost use Rattle.aff_areas.specs.Areas.{slot_at, found_slot, slot_entry, entry_sizes, entries_out, data_nodes, finished_size};
 
 use crate::writer::Writer;
-use aff_format::{Edition, Entry, FoundEntry, bytes, entry, recorded};
+use aff_format::{Edition, Entry, bytes, entry, recorded};
 
 // The content of the slot of a node that is not the root.
-pub fn found_slot(tree: &[u8], node: usize) -> FoundEntry
-    requires { (0 < node) × (node ≤ node_limit) }
+pub fn found_slot(tree: &[u8], node: usize) -> Option<Entry>
+    requires above_root { 0 < node }
+    requires in_limit { node ≤ node_limit }
     ensures { result ≡ found_slot tree.now node }
 {
     entry::entry_at(tree, Edition::DATA_ENTRY * (node - 1))
@@ -24,7 +25,7 @@ pub fn slot_entry(tree: &[u8], node: usize) -> Entry
     ensures { result ≡ slot_entry tree.now node }
 {
     if node == 0 {
-        return recorded::or_none(FoundEntry::Broken);
+        return recorded::or_none(None);
     }
     recorded::or_none(found_slot(tree, node))
 }
@@ -32,23 +33,21 @@ pub fn slot_entry(tree: &[u8], node: usize) -> Entry
 // Bytes of a node's entry in a file.
 fn entry_size(tree: &[u8], node: usize) -> usize
     requires { node ≤ node_limit }
-    ensures { (result ≡ entry_size (slot_entry tree.now node).kind) × (result ≤ 25) }
+    ensures value { result ≡ entry_size (slot_entry tree.now node).kind }
+    ensures most { result ≤ 25 }
 {
-    let entry = slot_entry(tree, node);
-    let kind = entry.kind;
-    kind.entry_size()
+    slot_entry(tree, node).kind.entry_size()
 }
 
 // Bytes of the entries of the nodes in a file. One pass over the nodes.
 #[tactic(auto, unfolding(crate::specs::Areas::entry_sizes))]
 fn entry_sizes(tree: &[u8], nodes: usize) -> usize
     requires { nodes ≤ node_limit }
-    ensures { (result ≡ entry_sizes tree.now nodes) × (result ≤ 25 * nodes) }
+    ensures value { result ≡ entry_sizes tree.now nodes }
+    ensures most { result ≤ 25 * nodes }
 {
-    let mut size: usize = 0;
-    let mut k: usize = 0;
-    while k < nodes {
-        k += 1;
+    let mut size = 0;
+    for k in 1..=nodes {
         size += entry_size(tree, k);
     }
     size
@@ -56,9 +55,11 @@ fn entry_sizes(tree: &[u8], nodes: usize) -> usize
 
 // Finished size: header and data up to their end, text, entries.
 #[tactic(auto, unfolding(crate::specs::Areas::finished_size))]
-pub fn finished_size(writer: Writer, tree: &[u8]) -> usize
-    requires { (writer.end ≤ image_limit) × (writer.text ≤ text_area) × (writer.nodes ≤ node_limit) }
-    ensures { result ≡ finished_size writer tree.now }
+pub fn finished_size(writer: &Writer, tree: &[u8]) -> usize
+    requires end_allowed { writer.now.end ≤ image_limit }
+    requires text_inside { writer.now.text ≤ text_area }
+    requires few_nodes { writer.now.nodes ≤ node_limit }
+    ensures { result ≡ finished_size writer.now tree.now }
 {
     writer.end + writer.text + entry_sizes(tree, writer.nodes)
 }
@@ -66,10 +67,10 @@ pub fn finished_size(writer: Writer, tree: &[u8]) -> usize
 // 1 for a node that is not Void, else 0.
 fn one_with_data(tree: &[u8], node: usize) -> usize
     requires { node ≤ node_limit }
-    ensures { (result ≡ cond (is_void (slot_entry tree.now node).kind) 0 1) × (result ≤ 1) }
+    ensures value { result ≡ cond (is_void (slot_entry tree.now node).kind) 0 1 }
+    ensures most { result ≤ 1 }
 {
-    let entry = slot_entry(tree, node);
-    let kind = entry.kind;
+    let kind = slot_entry(tree, node).kind;
     if kind.is_void() { 0 } else { 1 }
 }
 
@@ -77,12 +78,11 @@ fn one_with_data(tree: &[u8], node: usize) -> usize
 #[tactic(auto, unfolding(crate::specs::Areas::data_nodes))]
 pub fn data_nodes(tree: &[u8], nodes: usize) -> usize
     requires { nodes ≤ node_limit }
-    ensures { (result ≡ data_nodes tree.now nodes) × (result ≤ nodes) }
+    ensures value { result ≡ data_nodes tree.now nodes }
+    ensures most { result ≤ nodes }
 {
-    let mut count: usize = 0;
-    let mut k: usize = 0;
-    while k < nodes {
-        k += 1;
+    let mut count = 0;
+    for k in 1..=nodes {
         count += one_with_data(tree, k);
     }
     count
@@ -90,7 +90,10 @@ pub fn data_nodes(tree: &[u8], nodes: usize) -> usize
 
 // Puts a node's entry, as a file has it, into an area at a place. It answers where it ends.
 fn put_entry(tree: &[u8], node: usize, at: usize, out: &mut [u8]) -> usize
-    requires { (0 < node) × (node ≤ node_limit) × (length tree.now ≡ tree_area) × (at + 25 ≤ length out.old) }
+    requires above_root { 0 < node }
+    requires in_limit { node ≤ node_limit }
+    requires tree_area_is { length tree.now ≡ tree_area }
+    requires has_room { at + 25 ≤ length out.old }
     ensures size { result ≡ at + entry_size (slot_entry tree.now node).kind }
     ensures area { out.new ≡ spliced at (take (entry_size (slot_entry tree.now node).kind) (drop (slot_at node) tree.now)) out.old }
 {
@@ -104,14 +107,14 @@ fn put_entry(tree: &[u8], node: usize, at: usize, out: &mut [u8]) -> usize
 // nodes.
 #[tactic(auto, using(crate::proofs::AreaLaws::entries_next, crate::proofs::AreaLaws::length_entries_out_more, aff_format::proofs::BytesLaws::spliced_nil), unfolding(crate::specs::Areas::entries_out))]
 pub fn entries_out(tree: &[u8], nodes: usize, out: &mut [u8]) -> usize
-    requires { (nodes ≤ node_limit) × (length tree.now ≡ tree_area) × (length out.old ≡ tree_area) }
+    requires in_limit { nodes ≤ node_limit }
+    requires tree_area_is { length tree.now ≡ tree_area }
+    requires out_area_is { length out.old ≡ tree_area }
     ensures size { result ≡ length (entries_out tree.now nodes) }
     ensures area { out.new ≡ spliced 0 (entries_out tree.now nodes) out.old }
 {
-    let mut at: usize = 0;
-    let mut k: usize = 0;
-    while k < nodes {
-        k += 1;
+    let mut at = 0;
+    for k in 1..=nodes {
         at = put_entry(tree, k, at, out);
     }
     at
@@ -119,11 +122,12 @@ pub fn entries_out(tree: &[u8], nodes: usize, out: &mut [u8]) -> usize
 
 // Stores an entry in its slot.
 pub fn put_slot(tree: &mut [u8], node: usize, entry: Entry)
-    requires { (0 < node) × (node ≤ node_limit) × (length tree.old ≡ tree_area) }
+    requires above_root { 0 < node }
+    requires in_limit { node ≤ node_limit }
+    requires tree_area_is { length tree.old ≡ tree_area }
     ensures { tree.new ≡ spliced (slot_at node) (slot_bytes entry) tree.old }
 {
-    let slot = entry.slot();
-    bytes::put(tree, Edition::DATA_ENTRY * (node - 1), &slot);
+    bytes::put(tree, Edition::DATA_ENTRY * (node - 1), &entry.slot());
 }
 
 // Stores a name and its zero in the text area.
@@ -134,15 +138,4 @@ pub fn put_name(text: &mut [u8], at: usize, name: &[u8])
 {
     bytes::put(text, at, name);
     text[at + name.len()] = 0;
-}
-
-// Stores zeros in a whole area.
-pub fn clear(area: &mut [u8])
-    ensures { area.new ≡ replicate (length area.old) 0 }
-{
-    let mut i: usize = 0;
-    while i < area.len() {
-        area[i] = 0;
-        i += 1;
-    }
 }

@@ -5,17 +5,17 @@ ghost use Rattle.aff_format.specs.Limits.{image_limit, node_limit, text_area};
 ghost use Rattle.aff_format.specs.Lowest.{lowest_from};
 ghost use Rattle.aff_format.specs.Strings.{ends_in_zero};
 ghost use Rattle.aff_format.specs.passes.Counts.{zeros_in};
-ghost use Rattle.aff_format.specs.Verdict.{answer_of_verdict};
+ghost use Rattle.aff_format.specs.Verdict.{answer_of};
 ghost use Rattle.aff_areas.specs.Belongs.{writer_sizes_belong, text_belongs, slot_lost, writer_node_lost, writer_nodes_belong, writer_belongs as belongs_of, writer_checks};
 
 use crate::areas;
 use crate::writer::Writer;
-use aff_format::{Edition, FoundEntry, Lowest, Refusal, Verdict, data, limits};
+use aff_format::{Edition, Entry, Refusal, data, limits};
 
 // The buffer's length, the areas' sizes and the counts.
 #[tactic(auto, unfolding(crate::specs::Belongs::writer_sizes_belong))]
-fn sizes(buffer: &[u8], writer: Writer, text: &[u8], tree: &[u8]) -> bool
-    ensures { result ≡ writer_sizes_belong (length buffer.now) writer text.now tree.now }
+fn sizes(buffer: &[u8], writer: &Writer, text: &[u8], tree: &[u8]) -> bool
+    ensures { result ≡ writer_sizes_belong (length buffer.now) writer.now text.now tree.now }
 {
     if buffer.len() != writer.length {
         return false;
@@ -39,18 +39,11 @@ fn sizes(buffer: &[u8], writer: Writer, text: &[u8], tree: &[u8]) -> bool
 }
 
 // How many bytes are zero. One pass.
+#[tactic(auto, using(aff_format::proofs::StdLaws::zeros_in_is))]
 fn zeros(bytes: &[u8]) -> usize
     ensures { result ≡ zeros_in bytes.now }
 {
-    let mut n: usize = 0;
-    let mut i: usize = 0;
-    while i < bytes.len() {
-        if bytes[i] == 0 {
-            n += 1;
-        }
-        i += 1;
-    }
-    n
+    bytes.iter().filter(|&&b| b == 0).count()
 }
 
 // Whether there is no byte, or the last is zero.
@@ -58,7 +51,7 @@ fn zeros(bytes: &[u8]) -> usize
 fn ends_in_zero(bytes: &[u8]) -> bool
     ensures { result ≡ ends_in_zero bytes.now }
 {
-    if bytes.len() == 0 {
+    if bytes.is_empty() {
         return true;
     }
     bytes[bytes.len() - 1] == 0
@@ -66,25 +59,25 @@ fn ends_in_zero(bytes: &[u8]) -> bool
 
 // Whether the text area holds the recorded number of strings in the recorded length.
 #[tactic(auto, using(crate::proofs::BelongsLaws::unended_decides, crate::proofs::BelongsLaws::zeros_decide))]
-fn text_belongs(writer: Writer, text: &[u8]) -> bool
-    requires { writer.text ≤ length text.now }
-    ensures { result ≡ text_belongs writer text.now }
+fn text_belongs(writer: &Writer, text: &[u8]) -> bool
+    requires { writer.now.text ≤ length text.now }
+    ensures { result ≡ text_belongs writer.now text.now }
 {
-    let used = writer.text;
-    if !ends_in_zero(&text[..used]) {
+    let used = &text[..writer.text];
+    if !ends_in_zero(used) {
         return false;
     }
-    zeros(&text[..used]) == writer.strings
+    zeros(used) == writer.strings
 }
 
 // Whether an entry is not one that node k may have, where there are so many strings, and so many bytes of data from a place on.
-fn slot_lost(found: FoundEntry, strings: usize, from: usize, size: usize, k: usize) -> bool
+fn slot_lost(found: Option<Entry>, strings: usize, from: usize, size: usize, k: usize) -> bool
     requires { from + size < 2147483648 }
     ensures { result ≡ slot_lost strings from size k found }
 {
     match found {
-        FoundEntry::Broken => true,
-        FoundEntry::Whole(entry) => {
+        None => true,
+        Some(entry) => {
             if k as u64 <= entry.parent {
                 return true;
             }
@@ -97,26 +90,26 @@ fn slot_lost(found: FoundEntry, strings: usize, from: usize, size: usize, k: usi
 }
 
 // The lowest node whose entry is not one that it may have. One entry read a node.
-#[tactic(auto, using(aff_format::proofs::LowestLaws::lowest_here, aff_format::proofs::LowestLaws::lowest_on, aff_format::proofs::LowestLaws::lowest_end, crate::proofs::BelongsLaws::node_judged))]
-fn lost_node(tree: &[u8], nodes: usize, strings: usize, from: usize, size: usize) -> Lowest
-    requires { (nodes ≤ node_limit) × (from + size < 2147483648) }
+fn lost_node(tree: &[u8], nodes: usize, strings: usize, from: usize, size: usize) -> Option<usize>
+    requires few_nodes { nodes ≤ node_limit }
+    requires data_end { from + size < 2147483648 }
     ensures { result ≡ lowest_from (writer_node_lost strings from size tree.now) nodes 1 }
 {
-    let mut k: usize = 0;
-    while k < nodes {
-        k += 1;
+    for k in 1..=nodes {
         if slot_lost(areas::found_slot(tree, k), strings, from, size, k) {
-            return Lowest::At(k);
+            return Some(k);
         }
     }
-    Lowest::Nothing
+    None
 }
 
 // Whether the end of data, the nodes and the finished size belong. The end is bounded by the buffer before anything is added to it.
 #[tactic(auto, using(crate::proofs::BelongsLaws::header_decides, crate::proofs::BelongsLaws::end_decides, crate::proofs::BelongsLaws::lost_decides, crate::proofs::BelongsLaws::size_decides))]
-fn nodes_belong(writer: Writer, tree: &[u8]) -> bool
-    requires { (writer.length ≤ image_limit) × (writer.text ≤ text_area) × (writer.nodes ≤ node_limit) }
-    ensures { result ≡ writer_nodes_belong writer tree.now }
+fn nodes_belong(writer: &Writer, tree: &[u8]) -> bool
+    requires length_allowed { writer.now.length ≤ image_limit }
+    requires text_inside { writer.now.text ≤ text_area }
+    requires few_nodes { writer.now.nodes ≤ node_limit }
+    ensures { result ≡ writer_nodes_belong writer.now tree.now }
 {
     let header = writer.data_place();
     if writer.end < header {
@@ -125,22 +118,17 @@ fn nodes_belong(writer: Writer, tree: &[u8]) -> bool
     if writer.length < writer.end {
         return false;
     }
-    match lost_node(
-        tree,
-        writer.nodes,
-        writer.strings,
-        header,
-        writer.end - header,
-    ) {
-        Lowest::At(_) => false,
-        Lowest::Nothing => { areas::finished_size(writer, tree) <= writer.length }
+    let size = writer.end - header;
+    if lost_node(tree, writer.nodes, writer.strings, header, size).is_some() {
+        return false;
     }
+    areas::finished_size(writer, tree) <= writer.length
 }
 
 // Whether a record belongs to buffer and areas.
 #[tactic(auto, using(crate::proofs::BelongsLaws::edition_decides, crate::proofs::BelongsLaws::sizes_decide, crate::proofs::BelongsLaws::text_decides, crate::proofs::BelongsLaws::nodes_decide, crate::proofs::BelongsLaws::sizes_hold))]
-pub fn belongs(buffer: &[u8], writer: Writer, text: &[u8], tree: &[u8]) -> bool
-    ensures { result ≡ belongs_of (length buffer.now) writer text.now tree.now }
+pub fn belongs(buffer: &[u8], writer: &Writer, text: &[u8], tree: &[u8]) -> bool
+    ensures { result ≡ belongs_of (length buffer.now) writer.now text.now tree.now }
 {
     if !Edition::names_written(writer.edition) {
         return false;
@@ -155,14 +143,14 @@ pub fn belongs(buffer: &[u8], writer: Writer, text: &[u8], tree: &[u8]) -> bool
 }
 
 // 24, 22: what make, put and close judge first.
-pub fn judge(buffer: &[u8], writer: Writer, text: &[u8], tree: &[u8]) -> Verdict
-    ensures { answer_of_verdict result ≡ first_wrong (writer_checks (length buffer.now) writer text.now tree.now) tt }
+pub fn judge(buffer: &[u8], writer: &Writer, text: &[u8], tree: &[u8]) -> Result<(), Refusal>
+    ensures { answer_of result ≡ first_wrong (writer_checks (length buffer.now) writer.now text.now tree.now) tt }
 {
     if !belongs(buffer, writer, text, tree) {
-        return Verdict::Refused(Refusal::WrongRecord);
+        return Err(Refusal::WrongRecord);
     }
-    if writer.live {
-        return Verdict::Accepted;
+    if !writer.live {
+        return Err(Refusal::NotOpen);
     }
-    Verdict::Refused(Refusal::NotOpen)
+    Ok(())
 }

@@ -8,4 +8,4 @@ pub mod areas; // strings and nodes so far
 pub mod belongs; // whether a record belongs to buffer and areas
 pub mod names; // the strings that are a name
 
-pub use writer::{Writer, Writing};
+pub use writer::Writer;

@@ -9,21 +9,24 @@ ghost use Rattle.aff_areas.specs.passes.Marks.{mark_of, marks_of, first_mark, is
 use crate::areas;
 use aff_format::{bytes, recorded};
 
+// A mark is a byte and no bool, since `first_mark` and `any_marked` are asked of any bytes.
 fn mark(string: &[u8], name: &[u8]) -> u8
     ensures { result ≡ mark_of name.now string.now }
 {
-    if bytes::same(string, name) { 1 } else { 0 }
+    u8::from(bytes::same(string, name))
 }
 
 // Marks each string of a text: 1 where it is the name, else 0. One pass: the end of each string is searched once, and its bytes are compared
 // only where it is as long as the name.
 #[tactic(auto, using(crate::proofs::NameLaws::mark_buffer, crate::proofs::NameLaws::mark_all))]
 pub fn mark_strings(text: &[u8], name: &[u8], marks: &mut [u8])
-    requires { (ends_in_zero text.now ≡ true) × (length (strings_of text.now) ≤ length marks.old) }
+    requires text_ends { ends_in_zero text.now ≡ true }
+    requires has_room { length (strings_of text.now) ≤ length marks.old }
     ensures { marks.new ≡ laid_over marks.old (marks_of name.now (strings_of text.now)) }
 {
-    let mut at: usize = 0;
-    let mut i: usize = 0;
+    let mut at = 0;
+    let mut i = 0;
+    // From string to string, so that no place is counted.
     while at < text.len() {
         let end = recorded::name_end(text, at, text.len());
         marks[i] = mark(&text[at..end], name);
@@ -33,19 +36,11 @@ pub fn mark_strings(text: &[u8], name: &[u8], marks: &mut [u8])
 }
 
 // The lowest place of a 1 among the first marks; their number where there is none.
-#[tactic(auto, using(crate::proofs::NameLaws::first_here, crate::proofs::NameLaws::first_on, crate::proofs::NameLaws::first_end))]
 pub fn first_mark(marks: &[u8], count: usize) -> usize
     requires { count ≤ length marks.now }
     ensures { result ≡ first_mark (take count marks.now) }
 {
-    let mut i: usize = 0;
-    while i < count {
-        if marks[i] == 1 {
-            return i;
-        }
-        i += 1;
-    }
-    i
+    bytes::find_byte(&marks[..count], 1).unwrap_or(count)
 }
 
 // Whether a node is a child of the parent and its string is marked.
@@ -65,14 +60,11 @@ fn is_marked(marks: &[u8], tree: &[u8], parent: usize, node: usize) -> bool
 }
 
 // Whether some node is a child of the parent and its string is marked. One entry read a node.
-#[tactic(auto, using(aff_format::proofs::LowestLaws::lowest_here, aff_format::proofs::LowestLaws::lowest_on, aff_format::proofs::LowestLaws::lowest_end))]
 pub fn any_marked(marks: &[u8], tree: &[u8], nodes: usize, parent: usize) -> bool
     requires { nodes ≤ node_limit }
     ensures { result ≡ is_at (lowest_from (is_marked marks.now tree.now parent) nodes 1) }
 {
-    let mut k: usize = 0;
-    while k < nodes {
-        k += 1;
+    for k in 1..=nodes {
         if is_marked(marks, tree, parent, k) {
             return true;
         }

@@ -8,15 +8,9 @@ fn store(buffer: &mut [u8], at: usize, bytes: &[u8], allowance: usize) -> usize
     ensures made { result ≡ length (take allowance bytes.now) }
     ensures buffer { buffer.new ≡ apply_stores buffer.old (take allowance (stores_from at bytes.now)) }
 {
-    let mut i: usize = 0;
-    while i < bytes.len() {
-        if allowance <= i {
-            return i;
-        }
-        buffer[at + i] = bytes[i];
-        i += 1;
-    }
-    i
+    let made = allowance.min(bytes.len());
+    buffer[at..at + made].copy_from_slice(&bytes[..made]);
+    made
 }
 
 // Stores one run and then another, at most as many bytes as allowed in all. It answers how many it stored.
@@ -28,7 +22,8 @@ pub fn store_both(
     more: &[u8],
     allowance: usize,
 ) -> usize
-    requires { (at + length bytes.now ≤ length buffer.old) × (then + length more.now ≤ length buffer.old) }
+    requires first_inside { at + length bytes.now ≤ length buffer.old }
+    requires second_inside { then + length more.now ≤ length buffer.old }
     ensures made { result ≡ length (take allowance (stores_from at bytes.now ++ stores_from then more.now)) }
     ensures buffer { buffer.new ≡ apply_stores buffer.old (take allowance (stores_from at bytes.now ++ stores_from then more.now)) }
 {

@@ -2,14 +2,14 @@
 ghost use Rattle.std.specs.Prelude.{◌≡◌, ◌+◌, ◌≤◌, ◌<◌, ◌^◌, length};
 ghost use Rattle.aff_format.specs.Edition.{least_header, most_header};
 ghost use Rattle.aff_format.specs.Limits.{node_limit};
-ghost use Rattle.aff_format.specs.declared.verdict.NumberAnswer.TheVariants as answered;
 ghost use Rattle.aff_areas.specs.Writer.{data_place, no_writer, fresh_writer, stopped};
 
-use aff_format::{Edition, NumberAnswer, Refusal, bytes};
+use aff_format::{Edition, bytes};
 
 // What begin, make and put leave for the next call: the buffer's length, the number of the edition, the 12 bytes of form, how many strings and how many bytes of text,
 // how many nodes, the place where the data end, and whether the file is neither closed nor stopped.
-#[derive(Clone, Copy)]
+// The edition stays a number and `live` a flag, since C hands in any record: 24 and 22 judge both (`writer_checks`).
+#[derive(Clone, Copy, Debug, PartialEq, Eq)]
 pub struct Writer {
     pub length: usize,
     pub edition: u32,
@@ -19,13 +19,6 @@ pub struct Writer {
     pub nodes: usize,
     pub end: usize,
     pub live: bool,
-}
-
-// The answer of a writer's call, and the record after it.
-#[derive(Clone, Copy)]
-pub struct Writing {
-    pub answer: NumberAnswer,
-    pub writer: Writer,
 }
 
 impl Writer {
@@ -50,60 +43,47 @@ impl Writer {
         requires { length form.now ≡ 12 }
         ensures { result ≡ fresh_writer edition size form.now }
     {
-        let bytes = form_of(form);
-        let known = Edition::by_number(edition);
         Writer {
             length: size,
             edition,
-            form: bytes,
-            strings: 0,
-            text: 0,
-            nodes: 0,
-            end: known.header_size(),
+            form: form_of(form),
+            end: Edition::by_number(edition).header_size(),
             live: true,
+            ..Writer::none()
         }
     }
 
     // Where the data of the file begin: after the header of its edition.
-    pub fn data_place(self) -> usize
-        ensures { (result ≡ data_place self) × (least_header ≤ result) × (result ≤ most_header) }
+    pub fn data_place(&self) -> usize
+        ensures value { result ≡ data_place self.now }
+        ensures least { least_header ≤ result }
+        ensures most { result ≤ most_header }
     {
-        let edition = Edition::by_number(self.edition);
-        edition.header_size()
+        Edition::by_number(self.edition).header_size()
     }
 
     // The record, but closed or stopped.
     pub fn stopped(self) -> Writer
         ensures { result ≡ stopped self }
     {
-        let form = self.form;
         Writer {
-            length: self.length,
-            edition: self.edition,
-            form,
-            strings: self.strings,
-            text: self.text,
-            nodes: self.nodes,
-            end: self.end,
             live: false,
+            ..self
         }
     }
 
     // The record with one node more, and so many strings and so many bytes of text.
     pub fn with_child(self, strings: usize, text: usize) -> Writer
-        requires { (self.nodes < node_limit) × (self.strings + strings < 2 ^ 63) × (self.text + text < 2 ^ 63) }
+        requires few_nodes { self.nodes < node_limit }
+        requires strings_fit { self.strings + strings < 2 ^ 63 }
+        requires text_fits { self.text + text < 2 ^ 63 }
         ensures { result ≡ record { length = self.length; edition = self.edition; form = self.form; strings = self.strings + strings; text = self.text + text; nodes = self.nodes + 1; end = self.end; live = self.live } }
     {
-        let form = self.form;
         Writer {
-            length: self.length,
-            edition: self.edition,
-            form,
             strings: self.strings + strings,
             text: self.text + text,
             nodes: self.nodes + 1,
-            end: self.end,
-            live: self.live,
+            ..self
         }
     }
 
@@ -111,27 +91,7 @@ impl Writer {
     pub fn with_end(self, end: usize) -> Writer
         ensures { result ≡ record { length = self.length; edition = self.edition; form = self.form; strings = self.strings; text = self.text; nodes = self.nodes; end = end; live = self.live } }
     {
-        let form = self.form;
-        Writer {
-            length: self.length,
-            edition: self.edition,
-            form,
-            strings: self.strings,
-            text: self.text,
-            nodes: self.nodes,
-            end,
-            live: self.live,
-        }
-    }
-}
-
-// A refusal that hands back a record.
-pub fn refused(refusal: Refusal, writer: Writer) -> Writing
-    ensures { result ≡ record { answer = answered.Refused refusal; writer = writer } }
-{
-    Writing {
-        answer: NumberAnswer::Refused(refusal),
-        writer,
+        Writer { end, ..self }
     }
 }
 
@@ -142,6 +102,6 @@ fn form_of(form: &[u8]) -> [u8; 12]
     ensures { result ≡ form.now }
 {
     let mut out = [0u8; 12];
-    bytes::put(&mut out, 0, form);
+    out.copy_from_slice(form);
     out
 }

@@ -1,7 +1,4 @@
--- Laws that several proofs cite.
-mod OpeningLaws
-mod ReadingLaws
-mod WritingLaws
+-- The proofs of what specs/ states of the calls: Withdrawn, Places and Records.
 mod WithdrawnLaws
 mod PlacesLaws
 mod RecordsLaws

@@ -4,6 +4,7 @@ use mathlib.Core.Bool.{Bool, true, false, cond}
 use mathlib.Core.List.{List}
 use Prim.Native.Nat.{ℕ, ◌≤◌, ◌<◌}
 use native.Mathlib.Omega.{arith}
+use mir.Val.{bool_byte}
 use lib.Dec.{eqb}
 use lib.ListN.{length, get_or, take, replicate}
 use borrow.Author.Tests.{le-leb, lt-ltb, le-ltb}
@@ -30,6 +31,11 @@ narrow n h = rw (le-ltb 4294967295 n h)
 wide : (n : ℕ) → 4294967295 < n → edition_number_in n ≡ 0
 unfolding edition_number_in
 wide n h = rw (lt-ltb 4294967295 n h)
+
+-- A flag is 1 or 0, as `u64::from` makes it.
+pub flag_is : (b : Bool) → bool_byte b ≡ cond b 1 0
+flag_is true = refl
+flag_is false = refl
 
 -- The flag as a number and back.
 flag_kept : (b : Bool) → eqb (cond b 1 0) 1 ≡ b

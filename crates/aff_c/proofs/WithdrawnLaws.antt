@@ -8,9 +8,9 @@ use lib.Dec.{leb}
 use lib.ListN.{length}
 use Rattle.aff_format.specs.Answer.{Answer, accepted, refused}
 use Rattle.aff_format.specs.Kind.{kind_of}
-use Rattle.aff_format.specs.declared.kind.FoundKind.{FoundKind}
-use Rattle.aff_format.specs.declared.kind.FoundKind.TheVariants.{Known, Unknown}
+use Rattle.std.specs.Prelude.{Option, Some, None}
 use Rattle.aff_open.specs.Opening.{open_answer}
+use Rattle.aff_format.specs.declared.kind.Kind.{Kind}
 use Rattle.aff_reader.specs.declared.reader.Reader.{Reader}
 use Rattle.aff_areas.specs.declared.writer.Writer.{Writer}
 use Rattle.aff.specs.Demand1.{NotBy, EachReading, EachWriting}
@@ -51,9 +51,9 @@ decode_number : (code : ℕ) (bytes : List ℕ) (index : ℕ) → OtherReturned 
 unfolding decoded_answer
 decode_number code bytes index = go (kind_of code)
   where
-    go : (found : FoundKind) → OtherReturned _ (decoded_by found bytes index)
-    go Unknown e = omega arith
-    go (Known kind) e = other_number _ (withdrawn.decode kind bytes index) e
+    go : (found : Option Kind) → OtherReturned _ (decoded_by found bytes index)
+    go None e = omega arith
+    go (Some kind) e = other_number _ (withdrawn.decode kind bytes index) e
 
 writing_numbers : (buffer : List ℕ) (w : Writer) (text tree : List ℕ) → EachWriting OtherReturned buffer w text tree
 writing_numbers buffer w text tree =

@@ -1,5 +1,5 @@
 -- What the exported reading functions return, and what they leave in the memory that the caller's references point to. Assumes nothing.
-use Rattle.std.specs.Prelude.{Bool, true, false, cond, List, ℕ, ltb, pos, Float, get_or}
+use Rattle.std.specs.Prelude.{Bool, true, false, cond, List, ℕ, ltb, pos, Float, get_or, Option, Some, None}
 use Rattle.std.specs.Float.{binary64}
 use Rattle.std.specs.Float.Ieee.{of_int}
 use Rattle.aff_format.specs.Answer.{Answer, accepted, refused, refusal}
@@ -7,8 +7,7 @@ use Rattle.aff_format.specs.Element.{decoded}
 use Rattle.aff_format.specs.Kind.{kind_of}
 use Rattle.aff_format.specs.declared.element.Element.{Element}
 use Rattle.aff_format.specs.declared.element.Element.TheVariants.{Byte, Int, Real, Pair}
-use Rattle.aff_format.specs.declared.kind.FoundKind.{FoundKind}
-use Rattle.aff_format.specs.declared.kind.FoundKind.TheVariants.{Known, Unknown}
+use Rattle.aff_format.specs.declared.kind.Kind.{Kind}
 use Rattle.aff_reader.specs.declared.reader.Reader.{Reader}
 use Rattle.aff_listing.specs.declared.choice.Choice.{Choice}
 use Rattle.aff_listing.specs.declared.choice.Choice.TheVariants.{AllNodes, NotVoid}
@@ -65,9 +64,9 @@ imaginary_part (Real x) = of_int binary64 (pos 0)
 imaginary_part (Pair x y) = y
 
 -- An element of a held view whose kind is given by its code: 255 where no kind has it.
-abbrev pub decoded_by : FoundKind → List ℕ → ℕ → Answer Element
-decoded_by (Known kind) bytes index = decoded kind bytes index
-decoded_by Unknown bytes index = refused (refusal 255)
+abbrev pub decoded_by : Option Kind → List ℕ → ℕ → Answer Element
+decoded_by (Some kind) bytes index = decoded kind bytes index
+decoded_by None bytes index = refused (refusal 255)
 
 unfoldable pub decoded_answer : ℕ → List ℕ → ℕ → Answer Element
 decoded_answer code bytes index = decoded_by (kind_of code) bytes index

@@ -1,6 +1,7 @@
 // The library for programs in C and Rust that link the static library of this crate. include/aff.h declares and documents every function: a slice is
 // passed as two arguments, a pointer and a length. The caller sees to it that the pointers are valid for the lengths and that what is written
-// overlaps nothing else that is passed.
+// overlaps nothing else that is passed. The C interface wants numbers for kinds, editions and refusals (255 where no refusal says it), arrays of numbers for
+// records, and a flag for the choice of a listing.
 #![tactic(auto)]
 
 pub mod opening; // opening an image

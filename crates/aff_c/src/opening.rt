@@ -1,27 +1,26 @@
 // Opening for programs in C and Rust: `aff_form`, `aff_form_for` and `aff_open_image` of include/aff.h.
-ghost use Rattle.std.specs.Prelude.{◌≡◌, ◌++◌, ◌≤◌, leb, length, drop};
-ghost use Rattle.aff_open.specs.Opening.{answer_of_opening};
+ghost use Rattle.std.specs.Prelude.{◌≡◌, leb, length};
+ghost use Rattle.aff_format.specs.Verdict.{answer_of};
 ghost use Rattle.aff_c.specs.Opening.{code_of_answer, numbers_of, number_returned, record_left, strings_left, entries_left, with_form, has_form_of, with_form_of};
 
-use aff_format::{Edition, RefusalCode, Verdict};
-use aff_open::Opening;
+use aff_format::{Edition, Refusal, RefusalCode};
 use aff_reader::Reader;
 
 // What an opening reports: zeros for acceptance.
-fn code_of(opening: Opening) -> RefusalCode
-    ensures { result ≡ code_of_answer (answer_of_opening opening) }
+fn code_of(opened: Result<Reader, Refusal>) -> RefusalCode
+    ensures { result ≡ code_of_answer (answer_of opened) }
 {
-    let verdict = opening.verdict;
-    match verdict {
-        Verdict::Accepted => RefusalCode {
+    match opened {
+        Ok(_) => RefusalCode {
             number: 0,
             place: 0,
             second: 0,
         },
-        Verdict::Refused(refusal) => refusal.code(),
+        Err(refusal) => refusal.code(),
     }
 }
 
+// The 13 numbers of the record in C.
 #[tactic(auto, unfolding(crate::specs::Opening::numbers_of))]
 fn numbers(code: RefusalCode, reader: Reader) -> [u64; 13]
     ensures { result ≡ numbers_of code reader }
@@ -32,7 +31,7 @@ fn numbers(code: RefusalCode, reader: Reader) -> [u64; 13]
     [
         code.place as u64,
         reader.length as u64,
-        reader.edition as u64,
+        u64::from(reader.edition),
         symbols.offset as u64,
         symbols.size as u64,
         tree.offset as u64,
@@ -44,30 +43,6 @@ fn numbers(code: RefusalCode, reader: Reader) -> [u64; 13]
         reader.records,
         code.second as u64,
     ]
-}
-
-// Writes 13 numbers to the front of the output, and leaves the others.
-fn put_numbers(output: &mut [u64], numbers: [u64; 13])
-    requires { 13 ≤ length output.old }
-    ensures { output.new ≡ numbers ++ drop 13 output.old }
-{
-    let mut i: usize = 0;
-    while i < 13 {
-        output[i] = numbers[i];
-        i += 1;
-    }
-}
-
-// Writes 12 bytes to the front of the output, and leaves the others.
-fn put_bytes(output: &mut [u8], bytes: [u8; 12])
-    requires { 12 ≤ length output.old }
-    ensures { output.new ≡ bytes ++ drop 12 output.old }
-{
-    let mut i: usize = 0;
-    while i < 12 {
-        output[i] = bytes[i];
-        i += 1;
-    }
 }
 
 // Opens a complete image in memory, as `aff_open::open` does, and returns 0 where it is accepted, else the refusal's number. It writes 13
@@ -91,10 +66,9 @@ pub extern "C" fn aff_open_image(
     if record.len() < 13 {
         return 255;
     }
-    let opening = aff_open::open(image, form, strings, entries);
-    let code = code_of(opening);
-    let reader = opening.reader;
-    put_numbers(record, numbers(code, reader));
+    let opened = aff_open::open(image, form, strings, entries);
+    let code = code_of(opened);
+    record[..13].copy_from_slice(&numbers(code, aff_open::record_left(opened)));
     code.number
 }
 
@@ -109,7 +83,7 @@ pub extern "C" fn aff_form_for(image: &[u8], output: &mut [u8]) -> bool
     if output.len() < 12 {
         return false;
     }
-    put_bytes(output, aff_open::form_for(image));
+    output[..12].copy_from_slice(&aff_open::form_for(image));
     true
 }
 
@@ -127,7 +101,6 @@ pub extern "C" fn aff_form(edition: u32, output: &mut [u8]) -> bool
     if !Edition::exists(edition) {
         return false;
     }
-    let found = Edition::by_number(edition);
-    put_bytes(output, found.number_form());
+    output[..12].copy_from_slice(&Edition::by_number(edition).number_form());
     true
 }

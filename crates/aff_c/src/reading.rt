@@ -2,30 +2,25 @@
 // holds, as include/aff.h declares them. The record is the first 12 numbers that `aff_open_image` writes. Each function returns 0 where the call
 // is accepted, else the refusal's number, and then leaves the caller's memory as it was, except `place` of `aff_lookup`.
 ghost use Rattle.std.specs.Prelude.{◌≡◌, ℕ, length};
-ghost use Rattle.aff_format.specs.Element.{answer_of_element};
 ghost use Rattle.aff_reader.specs.declared.reader.Span.{Span};
 ghost use Rattle.aff_format.specs.Kind.{kind_code};
-ghost use Rattle.aff_format.specs.Verdict.{answer_of_number};
-ghost use Rattle.aff_nodes.specs.Answers.{answer_of_kind, answer_of_part, name_answer, kind_answer, count_answer, view_answer, element_answer};
+ghost use Rattle.aff_format.specs.Verdict.{answer_of};
+ghost use Rattle.aff_nodes.specs.Answers.{name_answer, kind_answer, count_answer, view_answer, element_answer};
 ghost use Rattle.aff_read.specs.Paths.{front_written, path_answer, lookup_answer};
 ghost use Rattle.aff_nodes.specs.Recall.{path_at};
 ghost use Rattle.aff_c.specs.Reading.{edition_number_in, reader_in, number_by, place_by, choice_by, left_by, real_part, imaginary_part, decoded_answer};
 ghost use Rattle.aff_listing.specs.ListingOrder.{listing_order, listing_answer};
 
-use aff_format::{Element, ElementAnswer, FoundKind, Kind, NumberAnswer, element};
+use aff_format::{Element, Kind, Refusal, element};
 use aff_listing::Choice;
-use aff_nodes::{KindAnswer, PartAnswer};
-use aff_reader::{Reader, Span};
+use aff_reader::{Opened, Reader, Span};
 
 // The number of an edition in a record; 0, which is no edition, where it has more than 32 bits.
 #[tactic(auto, unfolding(crate::specs::Reading::edition_number_in))]
 pub fn edition_of(number: u64) -> u32
     ensures { result ≡ edition_number_in number }
 {
-    if 4294967295 < number {
-        return 0;
-    }
-    number as u32
+    u32::try_from(number).unwrap_or(0)
 }
 
 #[tactic(auto, unfolding(crate::specs::Reading::reader_in))]
@@ -53,6 +48,26 @@ fn reader_of(numbers: &[u64; 12]) -> Reader
     }
 }
 
+// What a reading call is passed, with its record by the numbers in C.
+fn opened_of<'a>(
+    image: &'a [u8],
+    numbers: &[u64; 12],
+    strings: &'a [u32],
+    entries: &'a [u32],
+) -> Opened<'a>
+    ensures image { result.image.now ≡ image.now }
+    ensures reader { result.reader ≡ reader_in numbers.now }
+    ensures strings { result.strings.now ≡ strings.now }
+    ensures entries { result.entries.now ≡ entries.now }
+{
+    Opened {
+        image,
+        reader: reader_of(numbers),
+        strings,
+        entries,
+    }
+}
+
 fn real_part(element: Element) -> f64
     ensures { result ≡ real_part element }
 {
@@ -68,76 +83,28 @@ fn imaginary_part(element: Element) -> f64
     ensures { result ≡ imaginary_part element }
 {
     match element {
-        Element::Byte(_) => 0u8 as f64,
-        Element::Int(_) => 0u8 as f64,
-        Element::Real(_) => 0u8 as f64,
+        Element::Byte(_) | Element::Int(_) | Element::Real(_) => 0u8 as f64,
         Element::Pair(_, y) => y,
     }
 }
 
-fn put_element(answer: ElementAnswer, value: &mut f64, imaginary: &mut f64) -> u32
-    ensures number { result ≡ number_by (answer_of_element answer) }
-    ensures value { value.new ≡ left_by real_part value.old (answer_of_element answer) }
-    ensures imaginary { imaginary.new ≡ left_by imaginary_part imaginary.old (answer_of_element answer) }
+// The number that a call returns: 0 where it is accepted, else the refusal's.
+pub fn returned<T>(answer: &Result<T, Refusal>) -> u32
+    ensures { result ≡ number_by (answer_of answer.now) }
 {
     match answer {
-        ElementAnswer::Value(element) => {
-            *value = real_part(element);
-            *imaginary = imaginary_part(element);
-            0
-        }
-        ElementAnswer::Refused(refusal) => refusal.number(),
-    }
-}
-
-fn put_number(answer: NumberAnswer, number: &mut u64) -> u32
-    ensures number { result ≡ number_by (answer_of_number answer) }
-    ensures value { number.new ≡ left_by (λ (n : ℕ). n) number.old (answer_of_number answer) }
-{
-    match answer {
-        NumberAnswer::Value(value) => {
-            *number = value as u64;
-            0
-        }
-        NumberAnswer::Refused(refusal) => refusal.number(),
-    }
-}
-
-fn put_span(answer: PartAnswer, offset: &mut u64, size: &mut u64) -> u32
-    ensures number { result ≡ number_by (answer_of_part answer) }
-    ensures offset { offset.new ≡ left_by (λ (s : Span). s.offset) offset.old (answer_of_part answer) }
-    ensures size { size.new ≡ left_by (λ (s : Span). s.size) size.old (answer_of_part answer) }
-{
-    match answer {
-        PartAnswer::At(span) => {
-            *offset = span.offset as u64;
-            *size = span.size as u64;
-            0
-        }
-        PartAnswer::Refused(refusal) => refusal.number(),
-    }
-}
-
-fn put_kind(answer: KindAnswer, kind: &mut u64) -> u32
-    ensures number { result ≡ number_by (answer_of_kind answer) }
-    ensures kind { kind.new ≡ left_by kind_code kind.old (answer_of_kind answer) }
-{
-    match answer {
-        KindAnswer::Value(value) => {
-            *kind = value.code() as u64;
-            0
-        }
-        KindAnswer::Refused(refusal) => refusal.number(),
+        Ok(_) => 0,
+        Err(refusal) => refusal.number(),
     }
 }
 
 // The place that a refusal reports; 0 where the call is accepted.
-fn place_of(answer: NumberAnswer) -> u64
-    ensures { result ≡ place_by (answer_of_number answer) }
+fn place_of(answer: Result<usize, Refusal>) -> u64
+    ensures { result ≡ place_by (answer_of answer) }
 {
     match answer {
-        NumberAnswer::Value(_) => 0,
-        NumberAnswer::Refused(refusal) => refusal.place() as u64,
+        Ok(_) => 0,
+        Err(refusal) => refusal.place() as u64,
     }
 }
 
@@ -156,9 +123,13 @@ pub extern "C" fn aff_lookup(
     ensures node { node.new ≡ left_by (λ (n : ℕ). n) node.old (lookup_answer image.now (reader_in «record».now) strings.now entries.now path.now) }
     ensures place { place.new ≡ place_by (lookup_answer image.now (reader_in «record».now) strings.now entries.now path.now) }
 {
-    let answer = aff_read::paths::lookup(image, reader_of(record), strings, entries, path);
+    let opened = opened_of(image, record, strings, entries);
+    let answer = aff_read::paths::lookup(&opened, path);
     *place = place_of(answer);
-    put_number(answer, node)
+    if let Ok(found) = answer {
+        *node = found as u64;
+    }
+    returned(&answer)
 }
 
 // Where the name of a node is in the image, as `aff_nodes::node::name_bounds` reports.
@@ -176,14 +147,13 @@ pub extern "C" fn aff_name(
     ensures offset { offset.new ≡ left_by (λ (s : Span). s.offset) offset.old (name_answer image.now (reader_in «record».now) strings.now entries.now node) }
     ensures size { size.new ≡ left_by (λ (s : Span). s.size) size.old (name_answer image.now (reader_in «record».now) strings.now entries.now node) }
 {
-    let answer = aff_nodes::node::name_bounds(
-        image,
-        reader_of(record),
-        strings,
-        entries,
-        node as usize,
-    );
-    put_span(answer, offset, size)
+    let opened = opened_of(image, record, strings, entries);
+    let answer = aff_nodes::node::name_bounds(&opened, node as usize);
+    if let Ok(span) = answer {
+        *offset = span.offset as u64;
+        *size = span.size as u64;
+    }
+    returned(&answer)
 }
 
 // The code of a node's kind, as `aff_nodes::node::kind` reports.
@@ -199,8 +169,12 @@ pub extern "C" fn aff_kind(
     ensures number { result ≡ number_by (kind_answer image.now (reader_in «record».now) strings.now entries.now node) }
     ensures kind { kind.new ≡ left_by kind_code kind.old (kind_answer image.now (reader_in «record».now) strings.now entries.now node) }
 {
-    let answer = aff_nodes::node::kind(image, reader_of(record), strings, entries, node as usize);
-    put_kind(answer, kind)
+    let opened = opened_of(image, record, strings, entries);
+    let answer = aff_nodes::node::kind(&opened, node as usize);
+    if let Ok(found) = answer {
+        *kind = u64::from(found.code());
+    }
+    returned(&answer)
 }
 
 // How many elements a node has, as `aff_nodes::node::count` reports.
@@ -216,8 +190,12 @@ pub extern "C" fn aff_count(
     ensures number { result ≡ number_by (count_answer image.now (reader_in «record».now) strings.now entries.now node) }
     ensures count { count.new ≡ left_by (λ (n : ℕ). n) count.old (count_answer image.now (reader_in «record».now) strings.now entries.now node) }
 {
-    let answer = aff_nodes::node::count(image, reader_of(record), strings, entries, node as usize);
-    put_number(answer, count)
+    let opened = opened_of(image, record, strings, entries);
+    let answer = aff_nodes::node::count(&opened, node as usize);
+    if let Ok(elements) = answer {
+        *count = elements as u64;
+    }
+    returned(&answer)
 }
 
 // Writes a node's path at the front of an output, as `aff_read::paths::path` does, and reports its length.
@@ -235,15 +213,12 @@ pub extern "C" fn aff_path(
     ensures output { output.new ≡ front_written (path_answer image.now (reader_in «record».now) strings.now entries.now node (length output.old)) (path_at image.now (reader_in «record».now) strings.now entries.now node) output.old }
     ensures size { size.new ≡ left_by (λ (n : ℕ). n) size.old (path_answer image.now (reader_in «record».now) strings.now entries.now node (length output.old)) }
 {
-    let answer = aff_read::paths::path(
-        image,
-        reader_of(record),
-        strings,
-        entries,
-        node as usize,
-        output,
-    );
-    put_number(answer, size)
+    let opened = opened_of(image, record, strings, entries);
+    let answer = aff_read::paths::path(&opened, node as usize, output);
+    if let Ok(written) = answer {
+        *size = written as u64;
+    }
+    returned(&answer)
 }
 
 // The choice of a listing by a flag: true for all nodes, false for those that are not Void.
@@ -251,9 +226,10 @@ fn choice_of(all: bool) -> Choice
     ensures { result ≡ choice_by all }
 {
     if all {
-        return Choice::AllNodes;
+        Choice::AllNodes
+    } else {
+        Choice::NotVoid
     }
-    Choice::NotVoid
 }
 
 // Writes listing order at the front of an output, as `aff_listing::listing::listing` does, and reports how many numbers it wrote.
@@ -271,15 +247,12 @@ pub extern "C" fn aff_listing(
     ensures output { output.new ≡ front_written (listing_answer image.now (reader_in «record».now) strings.now entries.now (choice_by all) (length output.old)) (listing_order image.now (reader_in «record».now) strings.now entries.now (choice_by all)) output.old }
     ensures count { count.new ≡ left_by (λ (n : ℕ). n) count.old (listing_answer image.now (reader_in «record».now) strings.now entries.now (choice_by all) (length output.old)) }
 {
-    let answer = aff_listing::listing::listing(
-        image,
-        reader_of(record),
-        strings,
-        entries,
-        choice_of(all),
-        output,
-    );
-    put_number(answer, count)
+    let opened = opened_of(image, record, strings, entries);
+    let answer = aff_listing::listing::listing(&opened, choice_of(all), output);
+    if let Ok(written) = answer {
+        *count = written as u64;
+    }
+    returned(&answer)
 }
 
 // Where the data of a node are in the image, as `aff_nodes::node::view_bounds` reports.
@@ -297,14 +270,13 @@ pub extern "C" fn aff_view(
     ensures offset { offset.new ≡ left_by (λ (s : Span). s.offset) offset.old (view_answer image.now (reader_in «record».now) strings.now entries.now node) }
     ensures size { size.new ≡ left_by (λ (s : Span). s.size) size.old (view_answer image.now (reader_in «record».now) strings.now entries.now node) }
 {
-    let answer = aff_nodes::node::view_bounds(
-        image,
-        reader_of(record),
-        strings,
-        entries,
-        node as usize,
-    );
-    put_span(answer, offset, size)
+    let opened = opened_of(image, record, strings, entries);
+    let answer = aff_nodes::node::view_bounds(&opened, node as usize);
+    if let Ok(span) = answer {
+        *offset = span.offset as u64;
+        *size = span.size as u64;
+    }
+    returned(&answer)
 }
 
 // One element of a node's data, as `aff_nodes::node::element` reports.
@@ -323,15 +295,13 @@ pub extern "C" fn aff_element(
     ensures value { value.new ≡ left_by real_part value.old (element_answer image.now (reader_in «record».now) strings.now entries.now node index) }
     ensures imaginary { imaginary.new ≡ left_by imaginary_part imaginary.old (element_answer image.now (reader_in «record».now) strings.now entries.now node index) }
 {
-    let answer = aff_nodes::node::element(
-        image,
-        reader_of(record),
-        strings,
-        entries,
-        node as usize,
-        index as usize,
-    );
-    put_element(answer, value, imaginary)
+    let opened = opened_of(image, record, strings, entries);
+    let answer = aff_nodes::node::element(&opened, node as usize, index as usize);
+    if let Ok(element) = answer {
+        *value = real_part(element);
+        *imaginary = imaginary_part(element);
+    }
+    returned(&answer)
 }
 
 // One element of data that the caller holds, as `aff_format::element::decode` reports; 255 where no kind has the code.
@@ -348,12 +318,13 @@ pub extern "C" fn aff_decode(
     ensures value { value.new ≡ left_by real_part value.old (decoded_answer kind bytes.now index) }
     ensures imaginary { imaginary.new ≡ left_by imaginary_part imaginary.old (decoded_answer kind bytes.now index) }
 {
-    match Kind::from_code(kind) {
-        FoundKind::Known(known) => put_element(
-            element::decode(known, bytes, index as usize),
-            value,
-            imaginary,
-        ),
-        FoundKind::Unknown => 255,
+    let Some(known) = Kind::from_code(kind) else {
+        return 255;
+    };
+    let answer = element::decode(known, bytes, index as usize);
+    if let Ok(element) = answer {
+        *value = real_part(element);
+        *imaginary = imaginary_part(element);
     }
+    returned(&answer)
 }

@@ -2,27 +2,26 @@
 // form. The numbers are what the last call returned (the bytes stored, the new node, or a refusal's place), the buffer's length, the edition, strings, bytes of
 // text, nodes, end of data, and 1 while the file is neither closed nor stopped. Each function returns 0 where the call is accepted, else the
 // refusal's number.
-ghost use Rattle.std.specs.Prelude.{◌≡◌, cond};
+ghost use Rattle.std.specs.Prelude.{◌≡◌};
 ghost use Rattle.aff_format.specs.Refusal.{code_of_refusal};
-ghost use Rattle.aff_format.specs.Verdict.{answer_of_number};
+ghost use Rattle.aff_format.specs.Verdict.{answer_of};
 ghost use Rattle.aff_areas.specs.Stores.{buffer_after};
 ghost use Rattle.aff_write.specs.Begin.{begin_stores, begin_area};
 ghost use Rattle.aff_c.specs.Reading.{number_by};
 ghost use Rattle.aff_c.specs.Writing.{writer_in, numbers_by, reported_number, numbers_refused, numbers_left, begin_returned, begin_record, make_returned, numbers_made, text_made, tree_made, put_returned, numbers_put, buffer_put, tree_put, close_returned, numbers_closed, buffer_closed};
 
-use crate::reading;
-use aff_format::{NumberAnswer, Refusal};
-use aff_write::{Writer, Writing};
+use crate::reading::{self, returned};
+use aff_format::Refusal;
+use aff_write::Writer;
 
 #[tactic(auto, unfolding(crate::specs::Writing::writer_in))]
 fn writer_of(numbers: &[u64; 8], kept: &[u8; 12]) -> Writer
     ensures { result ≡ writer_in numbers.now kept.now }
 {
-    let form = *kept;
     Writer {
         length: numbers[1] as usize,
         edition: reading::edition_of(numbers[2]),
-        form,
+        form: *kept,
         strings: numbers[3] as usize,
         text: numbers[4] as usize,
         nodes: numbers[5] as usize,
@@ -31,86 +30,51 @@ fn writer_of(numbers: &[u64; 8], kept: &[u8; 12]) -> Writer
     }
 }
 
-fn flag(live: bool) -> u64
-    ensures { result ≡ cond live 1 0 }
-{
-    if live { 1 } else { 0 }
-}
-
-#[tactic(auto, unfolding(crate::specs::Writing::numbers_by))]
+// What a call reported and a record, as the 8 numbers in C.
 fn numbers_by(reported: usize, writer: Writer) -> [u64; 8]
     ensures { result ≡ numbers_by reported writer }
 {
     [
         reported as u64,
         writer.length as u64,
-        writer.edition as u64,
+        u64::from(writer.edition),
         writer.strings as u64,
         writer.text as u64,
         writer.nodes as u64,
         writer.end as u64,
-        flag(writer.live),
+        u64::from(writer.live),
     ]
 }
 
-fn number_by(answer: NumberAnswer) -> u32
-    ensures { result ≡ number_by (answer_of_number answer) }
+// What a call reports: its value, or the refusal's place.
+fn reported_number(answer: Result<usize, Refusal>) -> usize
+    ensures { result ≡ reported_number (answer_of answer) }
 {
-    match answer {
-        NumberAnswer::Value(_) => 0,
-        NumberAnswer::Refused(refusal) => refusal.number(),
-    }
-}
-
-fn reported_number(answer: NumberAnswer) -> usize
-    ensures { result ≡ reported_number (answer_of_number answer) }
-{
-    match answer {
-        NumberAnswer::Value(n) => n,
-        NumberAnswer::Refused(refusal) => refusal.place(),
-    }
-}
-
-// Stores what begin returned and its record: all zero after 1, 3 and 21, stopped after 23.
-fn leave(done: Writing, numbers: &mut [u64; 8]) -> u32
-    ensures number { result ≡ number_by (answer_of_number done.answer) }
-    ensures numbers { numbers.new ≡ numbers_by (reported_number (answer_of_number done.answer)) done.writer }
-{
-    let answer = done.answer;
-    let writer = done.writer;
-    *numbers = numbers_by(reported_number(answer), writer);
-    number_by(answer)
+    answer.unwrap_or_else(Refusal::place)
 }
 
 // Stores what a refusal leaves: after 23 the record, which is stopped; after any other refusal only its place, in numbers[0].
-fn leave_refused(refusal: Refusal, writer: Writer, numbers: &mut [u64; 8]) -> u32
-    ensures number { result ≡ (code_of_refusal refusal).number }
-    ensures numbers { numbers.new ≡ numbers_refused numbers.old (code_of_refusal refusal) writer }
+fn leave_refused(refusal: Refusal, writer: Writer, numbers: &mut [u64; 8])
+    ensures { numbers.new ≡ numbers_refused numbers.old (code_of_refusal refusal) writer }
 {
-    let number = refusal.number();
     let place = refusal.place();
-    if number == 23 {
+    if refusal.number() == 23 {
         *numbers = numbers_by(place, writer);
-        return number;
+    } else {
+        numbers[0] = place as u64;
     }
-    numbers[0] = place as u64;
-    number
 }
 
 // Stores what a make, put or close leaves: what it returned and its record where it is accepted, else what the refusal leaves.
-fn leave_next(done: Writing, numbers: &mut [u64; 8]) -> u32
-    ensures number { result ≡ number_by (answer_of_number done.answer) }
-    ensures numbers { numbers.new ≡ numbers_left numbers.old (answer_of_number done.answer) done.writer done.writer }
+fn leave_next(answer: Result<usize, Refusal>, writer: Writer, numbers: &mut [u64; 8]) -> u32
+    ensures number { result ≡ number_by (answer_of answer) }
+    ensures numbers { numbers.new ≡ numbers_left numbers.old (answer_of answer) writer writer }
 {
-    let answer = done.answer;
-    let writer = done.writer;
     match answer {
-        NumberAnswer::Value(n) => {
-            *numbers = numbers_by(n, writer);
-            0
-        }
-        NumberAnswer::Refused(refusal) => leave_refused(refusal, writer, numbers),
+        Ok(value) => *numbers = numbers_by(value, writer),
+        Err(refusal) => leave_refused(refusal, writer, numbers),
     }
+    returned(&answer)
 }
 
 // Begins a file in a buffer, as `aff_write::begin` does, and leaves the record's numbers and form.
@@ -132,11 +96,19 @@ pub extern "C" fn aff_begin(
     ensures text { text.new ≡ begin_area (begin_returned edition buffer.old form.now text.old tree.old allowance) text.old }
     ensures tree { tree.new ≡ begin_area (begin_returned edition buffer.old form.now text.old tree.old allowance) tree.old }
 {
-    let done = aff_write::begin(edition, buffer, form, text, tree, allowance as usize);
-    let writer = done.writer;
-    let bytes = writer.form;
-    *kept = bytes;
-    leave(done, numbers)
+    let mut writer = Writer::none();
+    let answer = aff_write::begin(
+        edition,
+        buffer,
+        form,
+        text,
+        tree,
+        allowance as usize,
+        &mut writer,
+    );
+    *kept = writer.form;
+    *numbers = numbers_by(reported_number(answer), writer);
+    returned(&answer)
 }
 
 // Makes a child, as `aff_make::make` does.
@@ -156,9 +128,9 @@ pub extern "C" fn aff_make(
     ensures text { text.new ≡ text_made buffer.now numbers.old kept.now text.old tree.old parent name.now }
     ensures tree { tree.new ≡ tree_made buffer.now numbers.old kept.now text.old tree.old parent name.now }
 {
-    let writer = writer_of(numbers, kept);
-    let done = aff_make::make(buffer, writer, text, tree, parent as usize, name);
-    leave_next(done, numbers)
+    let mut writer = writer_of(numbers, kept);
+    let answer = aff_make::make(buffer, &mut writer, text, tree, parent as usize, name);
+    leave_next(answer, writer, numbers)
 }
 
 // Puts data into a node, as `aff_write::put` does.
@@ -180,10 +152,10 @@ pub extern "C" fn aff_put(
     ensures buffer { buffer.new ≡ buffer_put buffer.old numbers.old kept.now text.now tree.old node kind bytes.now allowance }
     ensures tree { tree.new ≡ tree_put buffer.old numbers.old kept.now text.now tree.old node kind bytes.now allowance }
 {
-    let writer = writer_of(numbers, kept);
-    let done = aff_write::put(
+    let mut writer = writer_of(numbers, kept);
+    let answer = aff_write::put(
         buffer,
-        writer,
+        &mut writer,
         text,
         tree,
         node as usize,
@@ -191,7 +163,7 @@ pub extern "C" fn aff_put(
         bytes,
         allowance as usize,
     );
-    leave_next(done, numbers)
+    leave_next(answer, writer, numbers)
 }
 
 // Closes the file, as `aff_write::close` does.
@@ -209,7 +181,7 @@ pub extern "C" fn aff_close(
     ensures numbers { numbers.new ≡ numbers_closed buffer.old numbers.old kept.now text.now tree.now allowance }
     ensures buffer { buffer.new ≡ buffer_closed buffer.old numbers.old kept.now text.now tree.now allowance }
 {
-    let writer = writer_of(numbers, kept);
-    let done = aff_write::close(buffer, writer, text, tree, allowance as usize);
-    leave_next(done, numbers)
+    let mut writer = writer_of(numbers, kept);
+    let answer = aff_write::close(buffer, &mut writer, text, tree, allowance as usize);
+    leave_next(answer, writer, numbers)
 }

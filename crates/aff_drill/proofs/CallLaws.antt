@@ -6,11 +6,9 @@ use Prim.Native.Nat.{ℕ, ◌-◌, min}
 use native.Mathlib.Omega.{arith}
 use lib.ListN.{length}
 use lib.Seq.{take-nil}
-use borrow.Author.Tests.{eq-eqb, ne_eqb}
 use Rattle.aff_format.specs.Edition.{edition_number}
 use Rattle.aff_format.specs.declared.edition.Edition.TheVariants.{Two}
 use Rattle.aff_format.specs.Answer.{Answer, accepted, refused}
-use Rattle.aff_format.specs.declared.refusal.RefusalCode.{RefusalCode}
 use Rattle.aff_areas.specs.Stores.{apply_stores, stores_reported, buffer_after}
 use Rattle.aff_areas.specs.Writer.{writer_after, area_after}
 use Rattle.aff_areas.specs.declared.writer.Writer.{Writer}
@@ -23,14 +21,6 @@ use Rattle.aff_run.specs.Run.{Call, make, put, close, State, next, begin_step, a
 use Rattle.aff_run.proofs.CutLaws.{make_stores, put_reports, begin_reports}
 use Rattle.aff.specs.Worked.{name_a, name_n, minus_seventy, worked_calls}
 use Rattle.aff_drill.specs.Drill.{state_of, named, last_calls, CutFrom, drill_run, CutRun}
-
--- ---- The stores reported.
-
-pub reported_spent : (t u : RefusalCode) → t ≡ u → t.number ≡ 23 → t.place ≡ stores_reported (refused u)
-reported_spent t u e n = rw (← e, eq-eqb t.number 23 n)
-
-pub reported_none : (t u : RefusalCode) → t ≡ u → (t.number ≡ 23 → ⊥) → 0 ≡ stores_reported (refused u)
-reported_none t u e n = rw (← e, ne_eqb t.number 23 n)
 
 -- ---- The makes.
 

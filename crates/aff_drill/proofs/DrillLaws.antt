@@ -13,12 +13,10 @@ use Rattle.aff_format.specs.declared.edition.Edition.TheVariants.{Two}
 use Rattle.aff_format.specs.Answer.{accepted, refused, refusal, Check, first_wrong}
 use Rattle.aff_format.proofs.EditionLaws.{length_number_form}
 use Rattle.aff_format.specs.Limits.{string_limit, node_limit, text_area, tree_area}
-use Rattle.aff_format.specs.Verdict.{answer_of_verdict}
-use Rattle.aff_format.specs.declared.verdict.Verdict.{Verdict}
-use Rattle.aff_format.specs.declared.verdict.Verdict.TheVariants.{Accepted, Refused}
+use Rattle.aff_format.specs.Verdict.{answer_of}
+use Rattle.std.specs.Prelude.{Result, Ok, Err}
 use Rattle.aff_format.proofs.AnswerLaws.{passed, clear_accepts, same_refusal}
-use Rattle.aff_open.specs.Opening.{open_checks, open_answer, verdict_of, answer_of_opening}
-use Rattle.aff_open.specs.declared.opening.Opening.{Opening}
+use Rattle.aff_open.specs.Opening.{open_checks, open_answer}
 use Rattle.aff_reader.specs.declared.reader.Reader.{Reader}
 use Rattle.aff_areas.specs.Stores.{apply_stores}
 use Rattle.aff_run.specs.Run.{Run, run_stores}
@@ -27,11 +25,17 @@ use Rattle.aff.specs.Worked.{worked_form, worked_file, WorkedRun}
 use Rattle.aff.proofs.Demand3Laws.{zero_refused, demand3, demand3_cut}
 use Rattle.aff.proofs.WorkedLaws.{worked}
 use Rattle.aff_drill.specs.Drill.{drill_run, CutRun, CutDrill, reopened, drilled}
+use Rattle.aff_format.specs.declared.refusal.Refusal.{Refusal}
 
--- A verdict, from what opening reports.
-verdict_reported : (checks : List Check) (v : Verdict) (r reader : Reader) → verdict_of v r ≡ first_wrong checks reader → answer_of_verdict v ≡ first_wrong checks (tt {0})
-verdict_reported checks Accepted r reader h = sym (clear_accepts checks tt (passed checks reader (sym h)))
-verdict_reported checks (Refused q) r reader h = sym (same_refusal checks reader tt (sym h))
+-- What the drill makes of an opening.
+abbrev pub opened : Result Reader Refusal → Result (Unit {0}) Refusal
+opened (Ok r) = Ok tt
+opened (Err q) = Err q
+
+opened_reported : (checks : List Check) (o : Result Reader Refusal) (reader : Reader) → answer_of o ≡ first_wrong checks reader
+    → answer_of (opened o) ≡ first_wrong checks (tt {0})
+opened_reported checks (Ok r) reader h = sym (clear_accepts checks tt (passed checks reader (sym h)))
+opened_reported checks (Err q) reader h = sym (same_refusal checks reader tt (sym h))
 
 -- Any buffer of 214 bytes with a zero at place 0, and any areas of their lengths.
 module _ (buffer text tree : List ℕ) (r : length buffer ≡ 214) (z : get_or buffer 0 0 ≡ 0) (x : length text ≡ text_area) (t : length tree ≡ tree_area) (k : ℕ) where
@@ -76,20 +80,20 @@ module _ (buffer text tree : List ℕ) (r : length buffer ≡ 214) (z : get_or b
     reopened_is = ap reopened after_is ∙ by_count (ltb k 215) refl
 
 -- What the drill leaves and answers, in any buffer of 214 bytes.
-module _ (buffer after form : List ℕ) (n : length buffer ≡ 214) (k : ℕ) (o : Opening) (f : form ≡ (worked_form Two))
-    (h : CutRun buffer form (replicate text_area 0) (replicate tree_area 0) k after) (reported : answer_of_opening o ≡ open_answer after form string_limit node_limit) where
+module _ (buffer after form : List ℕ) (n : length buffer ≡ 214) (k : ℕ) (o : Result Reader Refusal) (f : form ≡ (worked_form Two))
+    (h : CutRun buffer form (replicate text_area 0) (replicate tree_area 0) k after) (reported : answer_of o ≡ open_answer after form string_limit node_limit) where
   cut : CutDrill buffer k after
   cut = subst (λ (l : List ℕ). CutRun buffer l (replicate text_area 0) (replicate tree_area 0) k after) f h
 
-  answer : answer_of_verdict o.verdict ≡ reopened after
+  answer : answer_of (opened o) ≡ reopened after
   answer =
-      verdict_reported (open_checks after form string_limit node_limit) o.verdict o.reader _ reported
+      opened_reported (open_checks after form string_limit node_limit) o _ reported
       ∙ ap (λ (l : List ℕ). first_wrong (open_checks after l string_limit node_limit) tt) f
 
-  from_zeros : buffer ≡ replicate 214 0 → answer_of_verdict o.verdict ≡ drilled k
+  from_zeros : buffer ≡ replicate 214 0 → answer_of (opened o) ≡ drilled k
   from_zeros z =
       let e : get_or buffer 0 0 ≡ 0 = ap (λ (l : List ℕ). get_or l 0 0) z in
       answer ∙ reopened_is buffer (replicate text_area 0) (replicate tree_area 0) n e (length-replicate {A = ℕ} text_area 0) (length-replicate {A = ℕ} tree_area 0) k after cut
 
-  pub drill_reported : CutDrill buffer k after × ((answer_of_verdict o.verdict ≡ reopened after) × (buffer ≡ replicate 214 0 → answer_of_verdict o.verdict ≡ drilled k))
+  pub drill_reported : CutDrill buffer k after × ((answer_of (opened o) ≡ reopened after) × (buffer ≡ replicate 214 0 → answer_of (opened o) ≡ drilled k))
   drill_reported = (cut, (answer, from_zeros))

@@ -19,8 +19,7 @@ use Rattle.aff_format.specs.Breaks.{Viable, Breaks}
 use Rattle.aff_format.proofs.PathLaws.{path_exact}
 use Rattle.aff_format.specs.declared.edition.Edition.{Edition}
 use Rattle.aff_format.specs.declared.edition.Edition.TheVariants.{One, Two, Three}
-use Rattle.aff_format.specs.declared.subkey.Grammar.{Grammar}
-use Rattle.aff_format.specs.declared.subkey.Grammar.TheVariants.{Sound, BreaksAt}
+use Rattle.std.specs.Prelude.{Option, Some, None}
 
 -- A list breaks at one place at most: the beginnings of a viable list are viable.
 not_later : (In : List ℕ → Type 0) (l : List ℕ) (p q : ℕ) → Breaks In l p → Breaks In l q → p < q → ⊥
@@ -39,30 +38,30 @@ breaks_once In l p q b c =
     omega arith
 
 -- A verdict on l is right: l is in the language, or it breaks at the place found, counted from place at.
-abbrev Judged : (List ℕ → Type 0) → ℕ → List ℕ → Grammar → Type 0
-Judged In at l Sound = In l
-Judged In at l (BreaksAt place) = (p : ℕ) × (place ≡ at + p) × Breaks In l p
+abbrev Judged : (List ℕ → Type 0) → ℕ → List ℕ → Option ℕ → Type 0
+Judged In at l None = In l
+Judged In at l (Some place) = (p : ℕ) × (place ≡ at + p) × Breaks In l p
 
 -- What follows from a right verdict. It is right for every language with the same lists.
 module _ (In : List ℕ → Type 0) (l : List ℕ) where
-  sound_exact : (g : Grammar) → Judged In 0 l g → (is_sound g ≡ true) ↔ In l
-  sound_exact Sound h = (λ s. h, λ i. refl)
-  sound_exact (BreaksAt place) (p, e, b) = (λ s. absurd (true≢false (sym s)), λ i. absurd (b.not_in i))
+  sound_exact : (g : Option ℕ) → Judged In 0 l g → (is_sound g ≡ true) ↔ In l
+  sound_exact None h = (λ s. h, λ i. refl)
+  sound_exact (Some place) (p, e, b) = (λ s. absurd (true≢false (sym s)), λ i. absurd (b.not_in i))
 
-  breaks_exact : (p : ℕ) (g : Grammar) → Judged In 0 l g → (g ≡ BreaksAt p) ↔ Breaks In l p
-  breaks_exact p Sound h = (λ s. absurd (true≢false (ap is_sound s)), λ b. absurd (b.not_in h))
-  breaks_exact p (BreaksAt place) (q, e, b) = (
+  breaks_exact : (p : ℕ) (g : Option ℕ) → Judged In 0 l g → (g ≡ Some p) ↔ Breaks In l p
+  breaks_exact p None h = (λ s. absurd (true≢false (ap is_sound s)), λ b. absurd (b.not_in h))
+  breaks_exact p (Some place) (q, e, b) = (
     λ s. let k : place ≡ p = cc in let n : q ≡ p = omega arith in rw n at b,
     λ c. let n : q ≡ p = breaks_once In l q p b c in let k : place ≡ p = omega arith in rw k,
   )
 
-  not_in_breaks : (g : Grammar) → Judged In 0 l g → (In l → ⊥) → (p : ℕ) × Breaks In l p
-  not_in_breaks Sound h n = absurd (n h)
-  not_in_breaks (BreaksAt place) (p, e, b) n = (p, b)
+  not_in_breaks : (g : Option ℕ) → Judged In 0 l g → (In l → ⊥) → (p : ℕ) × Breaks In l p
+  not_in_breaks None h n = absurd (n h)
+  not_in_breaks (Some place) (p, e, b) n = (p, b)
 
-  judged_same : (In' : List ℕ → Type 0) → ((k : List ℕ) → In k ↔ In' k) → (at : ℕ) (g : Grammar) → Judged In at l g → Judged In' at l g
-  judged_same In' same at Sound h = (same l).0 h
-  judged_same In' same at (BreaksAt place) (p, e, b) = (
+  judged_same : (In' : List ℕ → Type 0) → ((k : List ℕ) → In k ↔ In' k) → (at : ℕ) (g : Option ℕ) → Judged In at l g → Judged In' at l g
+  judged_same In' same at None h = (same l).0 h
+  judged_same In' same at (Some place) (p, e, b) = (
     p,
     e,
     record {
@@ -85,18 +84,18 @@ Accepts m s [] = m.ends s ≡ true
 Accepts m s (x ∷ l) = (m.may s x ≡ true) × Accepts m (m.next s x) l
 
 -- Grammar functions, one for each state, that follow the machine. If an end can be reached from every state, their verdicts are right.
-module _ (m : Machine) (judge : m.State → ℕ → List ℕ → Grammar)
-    (at_end : (s : m.State) (at : ℕ) → judge s at [] ≡ cond (m.ends s) Sound (BreaksAt at))
-    (at_byte : (s : m.State) (at x : ℕ) (l : List ℕ) → judge s at (x ∷ l) ≡ cond (m.may s x) (judge (m.next s x) (at + 1) l) (BreaksAt at))
+module _ (m : Machine) (judge : m.State → ℕ → List ℕ → Option ℕ)
+    (at_end : (s : m.State) (at : ℕ) → judge s at [] ≡ cond (m.ends s) None (Some at))
+    (at_byte : (s : m.State) (at x : ℕ) (l : List ℕ) → judge s at (x ∷ l) ≡ cond (m.may s x) (judge (m.next s x) (at + 1) l) (Some at))
     (alive : (s : m.State) → Viable (Accepts m s) []) where
   stops : (s : m.State) (at : ℕ) (l : List ℕ) → (Accepts m s l → ⊥) → (0 < length l → Viable (Accepts m s) (take 1 l) → ⊥)
-      → Judged (Accepts m s) at l (BreaksAt at)
+      → Judged (Accepts m s) at l (Some at)
   stops s at l n f = (0, sym (add-zero at), record { not_in = n; within = omega arith; before = alive s; at = f })
 
-  goes_on : (s : m.State) (at x : ℕ) (l : List ℕ) → m.may s x ≡ true → (g : Grammar) → Judged (Accepts m (m.next s x)) (at + 1) l g
+  goes_on : (s : m.State) (at x : ℕ) (l : List ℕ) → m.may s x ≡ true → (g : Option ℕ) → Judged (Accepts m (m.next s x)) (at + 1) l g
       → Judged (Accepts m s) at (x ∷ l) g
-  goes_on s at x l q Sound h = (q, h)
-  goes_on s at x l q (BreaksAt place) (p, e, b) = (
+  goes_on s at x l q None h = (q, h)
+  goes_on s at x l q (Some place) (p, e, b) = (
     suc p,
     omega arith,
     record {
@@ -110,12 +109,12 @@ module _ (m : Machine) (judge : m.State → ℕ → List ℕ → Grammar)
   judged : (l : List ℕ) (s : m.State) (at : ℕ) → Judged (Accepts m s) at l (judge s at l)
   judged [] s at = rw (at_end s at) (go (m.ends s) refl)
     where
-      go : (b : Bool) → m.ends s ≡ b → Judged (Accepts m s) at [] (cond b Sound (BreaksAt at))
+      go : (b : Bool) → m.ends s ≡ b → Judged (Accepts m s) at [] (cond b None (Some at))
       go true q = q
       go false q = stops s at [] (λ i. true≢false (sym i ∙ q)) (λ h. absurd (omega arith))
   judged (x ∷ l) s at = rw (at_byte s at x l) (go (m.may s x) refl (judge (m.next s x) (at + 1) l) (judged l (m.next s x) (at + 1)))
     where
-      go : (b : Bool) → m.may s x ≡ b → (g : Grammar) → Judged (Accepts m (m.next s x)) (at + 1) l g → Judged (Accepts m s) at (x ∷ l) (cond b g (BreaksAt at))
+      go : (b : Bool) → m.may s x ≡ b → (g : Option ℕ) → Judged (Accepts m (m.next s x)) (at + 1) l g → Judged (Accepts m s) at (x ∷ l) (cond b g (Some at))
       go true q g h = goes_on s at x l q g h
       go false q g h = stops s at (x ∷ l) (λ i. true≢false (sym i.0 ∙ q)) (λ z v. true≢false (sym v.1.0 ∙ q))
 
@@ -135,16 +134,16 @@ module _ (e : Edition) where
   abbrev key_machine : Machine
   key_machine = record { State = Bool; may = key_may; next = λ begun x. true; ends = λ begun. begun }
 
-  abbrev key_from : Bool → ℕ → List ℕ → Grammar
+  abbrev key_from : Bool → ℕ → List ℕ → Option ℕ
   key_from false at l = subkey_from e at l
   key_from true at l = rest_of_subkey e at l
 
-  key_end : (begun : Bool) (at : ℕ) → key_from begun at [] ≡ cond begun Sound (BreaksAt at)
+  key_end : (begun : Bool) (at : ℕ) → key_from begun at [] ≡ cond begun None (Some at)
   unfolding subkey_from rest_of_subkey
   key_end false at = refl
   key_end true at = refl
 
-  key_byte : (begun : Bool) (at x : ℕ) (l : List ℕ) → key_from begun at (x ∷ l) ≡ cond (key_may begun x) (rest_of_subkey e (at + 1) l) (BreaksAt at)
+  key_byte : (begun : Bool) (at x : ℕ) (l : List ℕ) → key_from begun at (x ∷ l) ≡ cond (key_may begun x) (rest_of_subkey e (at + 1) l) (Some at)
   unfolding subkey_from rest_of_subkey
   key_byte false at x l = refl
   key_byte true at x l = refl
@@ -168,7 +167,7 @@ module _ (e : Edition) where
   pub subkey_exact : (l : List ℕ) → (is_subkey e l ≡ true) ↔ IsSubkey e l
   subkey_exact l = sound_exact (IsSubkey e) l (subkey_from e 0 l) (subkey_judged l)
 
-  pub subkey_breaks : (l : List ℕ) (p : ℕ) → (subkey_from e 0 l ≡ BreaksAt p) ↔ Breaks (IsSubkey e) l p
+  pub subkey_breaks : (l : List ℕ) (p : ℕ) → (subkey_from e 0 l ≡ Some p) ↔ Breaks (IsSubkey e) l p
   subkey_breaks l p = breaks_exact (IsSubkey e) l p (subkey_from e 0 l) (subkey_judged l)
 
   pub no_subkey_breaks : (l : List ℕ) → (IsSubkey e l → ⊥) → (p : ℕ) × Breaks (IsSubkey e) l p
@@ -190,7 +189,7 @@ path_ends root = true
 path_ends (part begun) = begun
 
 -- A test of one byte, taken out of or_else.
-or_cond : (b : Bool) (at : ℕ) (g h : Grammar) → or_else (cond b g (BreaksAt at)) h ≡ cond b (or_else g h) (BreaksAt at)
+or_cond : (b : Bool) (at : ℕ) (g h : Option ℕ) → or_else (cond b g (Some at)) h ≡ cond b (or_else g h) (Some at)
 or_cond true at g h = refl
 or_cond false at g h = refl
 
@@ -204,17 +203,17 @@ module _ (e : Edition) where
   path_machine = record { State = Spot; may = path_may; next = path_next; ends = path_ends }
 
   -- Parts; the first byte of the first part may have been read before.
-  abbrev parts_in : Bool → ℕ → List (List ℕ) → Grammar
-  parts_in begun at [] = Sound
+  abbrev parts_in : Bool → ℕ → List (List ℕ) → Option ℕ
+  parts_in begun at [] = None
   parts_in begun at (p ∷ ps) = or_else (key_from e begun at p) (parts_from e (at + length p + 1) ps)
 
-  abbrev root_from : ℕ → List ℕ → Grammar
-  root_from at [] = Sound
+  abbrev root_from : ℕ → List ℕ → Option ℕ
+  root_from at [] = None
   root_from at (x ∷ l) = parts_in false at (between_slashes (x ∷ l))
 
-  abbrev path_from : Spot → ℕ → List ℕ → Grammar
-  path_from start at [] = BreaksAt at
-  path_from start at (x ∷ l) = cond (eqb x 47) (root_from (at + 1) l) (BreaksAt at)
+  abbrev path_from : Spot → ℕ → List ℕ → Option ℕ
+  path_from start at [] = Some at
+  path_from start at (x ∷ l) = cond (eqb x 47) (root_from (at + 1) l) (Some at)
   path_from root at l = root_from at l
   path_from (part begun) at l = parts_in begun at (between_slashes l)
 
@@ -229,32 +228,32 @@ module _ (e : Edition) where
   path_from_lem (x ∷ []) = refl
   path_from_lem (x ∷ y ∷ l) = rw (parts_in_lem 1 (between_slashes (y ∷ l)))
 
-  ahead_byte : (begun : Bool) (at x : ℕ) (ps : List (List ℕ)) → parts_in begun at (ahead x ps) ≡ cond (key_may e begun x) (parts_in true (at + 1) ps) (BreaksAt at)
+  ahead_byte : (begun : Bool) (at x : ℕ) (ps : List (List ℕ)) → parts_in begun at (ahead x ps) ≡ cond (key_may e begun x) (parts_in true (at + 1) ps) (Some at)
   unfolding parts_from rest_of_subkey
-  ahead_byte begun at x [] = rw (key_byte e begun at x []) (or_cond (key_may e begun x) at Sound Sound)
+  ahead_byte begun at x [] = rw (key_byte e begun at x []) (or_cond (key_may e begun x) at None None)
   ahead_byte begun at x (p ∷ ps) =
       let n : at + suc (length p) + 1 ≡ at + 1 + length p + 1 = omega arith in
       rw (key_byte e begun at x p, n) (or_cond (key_may e begun x) at (rest_of_subkey e (at + 1) p) (parts_from e (at + 1 + length p + 1) ps))
 
   parts_byte : (begun : Bool) (at x : ℕ) (l : List ℕ)
-      → parts_in begun at (between_slashes (x ∷ l)) ≡ cond (path_may (part begun) x) (parts_in (not (eqb x 47)) (at + 1) (between_slashes l)) (BreaksAt at)
+      → parts_in begun at (between_slashes (x ∷ l)) ≡ cond (path_may (part begun) x) (parts_in (not (eqb x 47)) (at + 1) (between_slashes l)) (Some at)
   unfolding between_slashes
   parts_byte begun at x l = go begun (eqb x 47) refl (between_slashes l)
     where
       go : (begun slash : Bool) → eqb x 47 ≡ slash → (ps : List (List ℕ))
-          → parts_in begun at (cond slash ([] ∷ ps) (ahead x ps)) ≡ cond ((begun && slash) || key_may e begun x) (parts_in (not slash) (at + 1) ps) (BreaksAt at)
+          → parts_in begun at (cond slash ([] ∷ ps) (ahead x ps)) ≡ cond ((begun && slash) || key_may e begun x) (parts_in (not slash) (at + 1) ps) (Some at)
       go false true q ps = rw (eqb-true x 47 q, (begins e).1, key_end e false at)
       go true true q ps = rw (key_end e true at, add-zero) (parts_in_lem (at + 1) ps)
       go false false q ps = ahead_byte false at x ps
       go true false q ps = ahead_byte true at x ps
 
-  path_end : (s : Spot) (at : ℕ) → path_from s at [] ≡ cond (path_ends s) Sound (BreaksAt at)
+  path_end : (s : Spot) (at : ℕ) → path_from s at [] ≡ cond (path_ends s) None (Some at)
   unfolding between_slashes parts_from
   path_end start at = refl
   path_end root at = refl
-  path_end (part begun) at = rw (key_end e begun at) (or_cond begun at Sound Sound)
+  path_end (part begun) at = rw (key_end e begun at) (or_cond begun at None None)
 
-  path_byte : (s : Spot) (at x : ℕ) (l : List ℕ) → path_from s at (x ∷ l) ≡ cond (path_may s x) (path_from (path_next s x) (at + 1) l) (BreaksAt at)
+  path_byte : (s : Spot) (at x : ℕ) (l : List ℕ) → path_from s at (x ∷ l) ≡ cond (path_may s x) (path_from (path_next s x) (at + 1) l) (Some at)
   path_byte start at x l = refl
   path_byte root at x l = parts_byte false at x l
   path_byte (part begun) at x l = parts_byte begun at x l
@@ -274,7 +273,7 @@ module _ (e : Edition) where
   path_judged : (l : List ℕ) → Judged (WellFormed e) 0 l (path_grammar e l)
   path_judged l = judged_same (Accepts path_machine start) l (WellFormed e) accepts_path 0 (path_grammar e l) (accepts_judged l)
 
-  pub path_breaks : (l : List ℕ) (p : ℕ) → (path_grammar e l ≡ BreaksAt p) ↔ Breaks (WellFormed e) l p
+  pub path_breaks : (l : List ℕ) (p : ℕ) → (path_grammar e l ≡ Some p) ↔ Breaks (WellFormed e) l p
   path_breaks l p = breaks_exact (WellFormed e) l p (path_grammar e l) (path_judged l)
 
   pub no_path_breaks : (l : List ℕ) → (WellFormed e l → ⊥) → (p : ℕ) × Breaks (WellFormed e) l p

@@ -1,7 +1,7 @@
 -- Lengths that stop counting at a limit. Assumes nothing.
 use mathlib.Core.Path.{◌≡◌, refl, sym, ap, ◌∙◌}
 use mathlib.Core.Bool.{Bool, true, false}
-use Prim.Native.Nat.{ℕ, zero, suc, ◌+◌, ◌-◌, ◌≤◌, ◌<◌}
+use Prim.Native.Nat.{ℕ, ◌+◌, ◌-◌, ◌≤◌, ◌<◌}
 use native.Mathlib.Omega.{arith}
 use lib.Dec.{leb}
 use borrow.Author.Tests.{leb-true, leb-false, le-leb, lt-leb}
@@ -21,9 +21,6 @@ capped_by {A} limit n f g = go (leb n limit) refl
     go true e = let h = leb-true n limit e in f h (capped_within limit n h)
     go false e = let h = leb-false n limit e in g h (capped_past limit n h)
 
-pub capped_most : (limit n : ℕ) → capped limit n ≤ limit + 1
-capped_most limit n = capped_by limit n (λ h e. omega arith) (λ h e. omega arith)
-
 -- What the count says of the length.
 module _ (limit n : ℕ) {r : ℕ} (is : r ≡ capped limit n) where
   pub capped_over : limit < r → limit < n
@@ -36,14 +33,6 @@ module _ (limit n : ℕ) {r : ℕ} (is : r ≡ capped limit n) where
 pub capped_more : (limit n : ℕ) → capped limit n + 1 ≡ capped (limit + 1) (n + 1)
 capped_more limit n =
     capped_by limit n (λ h e. rw e (sym (capped_within (limit + 1) (n + 1) (omega arith)))) (λ h e. rw e (sym (capped_past (limit + 1) (n + 1) (omega arith))))
-
--- One besides: of nothing, where nothing may be counted, and of any number.
-pub capped_one : (limit : ℕ) → 1 ≡ capped limit (0 + 1)
-capped_one zero = refl
-capped_one (suc limit) = sym (capped_within (suc limit) 1 (omega arith))
-
-pub capped_none : (limit n : ℕ) → limit ≡ 0 → 1 ≡ capped limit (n + 1)
-capped_none limit n z = rw z (sym (capped_past 0 (n + 1) (omega arith)))
 
 pub capped_next : (limit n r : ℕ) → (limit ≡ 0 → ⊥) → r ≡ capped (limit - 1) n → r + 1 ≡ capped limit (n + 1)
 capped_next limit n r h e =

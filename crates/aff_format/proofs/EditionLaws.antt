@@ -6,8 +6,8 @@ use mathlib.Core.Logic.{◌⊎◌, inl, inr, ⊎_elim, ◌↔◌}
 use Prim.Native.Nat.{ℕ, zero, suc, ◌+◌, ◌*◌, ◌≤◌, ◌<◌}
 use native.Mathlib.Omega.{arith}
 use lib.Dec.{eqb}
-use lib.ListN.{length, get_or}
-use borrow.Author.Tests.{eqb-true, eq-eqb, ne_eqb}
+use lib.ListN.{length}
+use borrow.Author.Tests.{eqb-true}
 use Rattle.aff_format.specs.Edition.{editions, edition_number, signature_text, section_header_size, has_counts, header_order, is_written, section_rank, section_at, section_header_at, section_sum_at, header_sum_at, header_size, number_form, first_edition, edition_of, is_known, or_two, edition_by, is_found_written, names_written, NamesWritten}
 use Rattle.aff_format.specs.Layouts.{Layouts}
 use Rattle.aff_format.specs.Bytes.{spliced, same_bytes}
@@ -17,8 +17,9 @@ use Rattle.aff_format.specs.declared.section.Section.{Section}
 use Rattle.aff_format.specs.declared.section.Section.TheVariants.{Symbol, Tree, Data}
 use Rattle.aff_format.specs.declared.edition.Edition.{Edition}
 use Rattle.aff_format.specs.declared.edition.Edition.TheVariants.{One, Two, Three}
-use Rattle.aff_format.specs.declared.edition.FoundEdition.{FoundEdition}
-use Rattle.aff_format.specs.declared.edition.FoundEdition.TheVariants.{Known, Unknown}
+use Rattle.std.specs.Prelude.{Option, Some, None}
+use Rattle.std.specs.Option.{unwrap_or}
+use Rattle.std.specs.List.{position}
 use Rattle.aff_format.proofs.ClimbLaws.{absurd_bool}
 use Rattle.aff_format.proofs.NumberLaws.{length_be_bytes}
 
@@ -34,7 +35,19 @@ each_edition P h One = h.0
 each_edition P h Two = h.1.0
 each_edition P h Three = h.1.1.0
 
-pub edition_of_number : (e : Edition) → edition_of (edition_number e) ≡ Known e
+-- The place of a section in the order of the headers, by std's word.
+pub rank_by_position : (e : Edition) (s : Section) → unwrap_or (position (λ t. eqb (section_number s) (section_number t)) (header_order e)) 3 ≡ section_rank e s
+rank_by_position One Symbol = refl
+rank_by_position One Tree = refl
+rank_by_position One Data = refl
+rank_by_position Two Symbol = refl
+rank_by_position Two Tree = refl
+rank_by_position Two Data = refl
+rank_by_position Three Symbol = refl
+rank_by_position Three Tree = refl
+rank_by_position Three Data = refl
+
+pub edition_of_number : (e : Edition) → edition_of (edition_number e) ≡ Some e
 edition_of_number One = refl
 edition_of_number Two = refl
 edition_of_number Three = refl
@@ -46,7 +59,7 @@ length_signature_text Two = refl
 length_signature_text Three = refl
 
 -- No two editions have one text.
-pub edition_of_text : (e : Edition) → first_edition (λ d. same_bytes (signature_text e) (signature_text d)) editions ≡ Known e
+pub edition_of_text : (e : Edition) → first_edition (λ d. same_bytes (signature_text e) (signature_text d)) editions ≡ Some e
 unfolding signature_text same_bytes
 edition_of_text One = refl
 edition_of_text Two = refl
@@ -109,44 +122,7 @@ section_header_sizes One = (omega arith, omega arith)
 section_header_sizes Two = (omega arith, omega arith)
 section_header_sizes Three = (omega arith, omega arith)
 
--- The first rank whose section has the number of s is its own.
-ranked : (e : Edition) (s : Section) → section_rank e s
-    ≡ cond (eqb (section_number s) (section_number (section_at e 0))) 0
-    (cond (eqb (section_number s) (section_number (section_at e 1))) 1 (cond (eqb (section_number s) (section_number (section_at e 2))) 2 3))
-ranked One Symbol = refl
-ranked One Tree = refl
-ranked One Data = refl
-ranked Two Symbol = refl
-ranked Two Tree = refl
-ranked Two Data = refl
-ranked Three Symbol = refl
-ranked Three Tree = refl
-ranked Three Data = refl
-
 -- ---- Of any edition.
-
--- By comparisons with each rank in turn.
-module _ (e : Edition) (s : Section) (n n₀ : ℕ) (is : n ≡ section_number s) (is₀ : n₀ ≡ section_number (section_at e 0)) where
-  pub rank_0 : n ≡ n₀ → 0 ≡ section_rank e s
-  rank_0 h = sym (ranked e s ∙ rw (← is, ← is₀, eq-eqb n n₀ h))
-
-  module _ (f : n ≡ n₀ → ⊥) (n₁ : ℕ) (is₁ : n₁ ≡ section_number (section_at e 1)) where
-    pub rank_1 : n ≡ n₁ → 1 ≡ section_rank e s
-    rank_1 h = sym (ranked e s ∙ rw (← is, ← is₀, ne_eqb n n₀ f, ← is₁, eq-eqb n n₁ h))
-
-    module _ (g : n ≡ n₁ → ⊥) (n₂ : ℕ) (is₂ : n₂ ≡ section_number (section_at e 2)) where
-      pub rank_2 : n ≡ n₂ → 2 ≡ section_rank e s
-      rank_2 h = sym (ranked e s ∙ rw (← is, ← is₀, ne_eqb n n₀ f, ← is₁, ne_eqb n n₁ g, ← is₂, eq-eqb n n₂ h))
-
-      pub rank_3 : (n ≡ n₂ → ⊥) → 3 ≡ section_rank e s
-      rank_3 h = sym (ranked e s ∙ rw (← is, ← is₀, ne_eqb n n₀ f, ← is₁, ne_eqb n n₁ g, ← is₂, ne_eqb n n₂ h))
-
--- There is no fourth rank.
-pub past_order : (r : ℕ) (a b c d : Section) → (r ≡ 0 → ⊥) → (r ≡ 1 → ⊥) → (r ≡ 2 → ⊥) → get_or (a ∷ b ∷ c ∷ []) r d ≡ d
-past_order zero a b c d f g h = absurd (f refl)
-past_order (suc zero) a b c d f g h = absurd (g refl)
-past_order (suc (suc zero)) a b c d f g h = absurd (h refl)
-past_order (suc (suc (suc r))) a b c d f g h = refl
 
 -- The header size written over the last four bytes of a form.
 pub form_written : (n m : ℕ) → n ≡ m → spliced 8 (be_bytes 4 n) (0 ∷ 64 ∷ 2 ∷ 53 ∷ 4 ∷ 0 ∷ 3 ∷ 253 ∷ 0 ∷ 0 ∷ 0 ∷ 0 ∷ []) ≡ 0 ∷ 64 ∷ 2 ∷ 53 ∷ 4 ∷ 0 ∷ 3 ∷ 253 ∷ be_bytes 4 m
@@ -181,28 +157,28 @@ section_sum_last e s = omega (arith, section_header_sizes e)
 
 -- ---- The edition of a number.
 
-no_edition : {A : Type 0} {e : Edition} → Unknown ≡ Known e → A
+no_edition : {A : Type 0} {e : Edition} → None ≡ Some e → A
 no_edition h = absurd_bool (ap is_known h)
 
 -- The edition found passes the test.
-pub found_passes : (test : Edition → Bool) (es : List Edition) {e : Edition} → first_edition test es ≡ Known e → test e ≡ true
+pub found_passes : (test : Edition → Bool) (es : List Edition) {e : Edition} → first_edition test es ≡ Some e → test e ≡ true
 found_passes test [] h = no_edition h
 found_passes test (d ∷ es) {e} h = go (test d) refl h (λ q. found_passes test es q)
   where
-    go : (b : Bool) → test d ≡ b → cond b (Known d) (first_edition test es) ≡ Known e → (first_edition test es ≡ Known e → test e ≡ true) → test e ≡ true
+    go : (b : Bool) → test d ≡ b → cond b (Some d) (first_edition test es) ≡ Some e → (first_edition test es ≡ Some e → test e ≡ true) → test e ≡ true
     go true t q rest = ap test (sym (ap or_two q)) ∙ t
     go false t q rest = rest q
 
-pub number_of_edition : (n : ℕ) {e : Edition} → edition_of n ≡ Known e → edition_number e ≡ n
+pub number_of_edition : (n : ℕ) {e : Edition} → edition_of n ≡ Some e → edition_number e ≡ n
 number_of_edition n {e} h = sym (eqb-true n (edition_number e) (found_passes (λ d. eqb n (edition_number d)) editions h))
 
 -- A number names a written edition exactly when the test says so. The edition is then the one by that number.
 pub names_written_lem : (n : ℕ) → names_written n ≡ true → NamesWritten n
 names_written_lem n h = go (edition_of n) refl h
   where
-    go : (f : FoundEdition) → edition_of n ≡ f → is_found_written f ≡ true → NamesWritten n
-    go (Known e) q w = (e, number_of_edition n q, w)
-    go Unknown q w = absurd_bool w
+    go : (f : Option Edition) → edition_of n ≡ f → is_found_written f ≡ true → NamesWritten n
+    go (Some e) q w = (e, number_of_edition n q, w)
+    go None q w = absurd_bool w
 
 pub written_named : (n : ℕ) → NamesWritten n → names_written n ≡ true
 written_named n (e, is, w) = rw (← is, edition_of_number e) w

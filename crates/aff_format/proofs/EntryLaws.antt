@@ -1,5 +1,5 @@
 -- Tree entries: what is written is read and what is read is written, field by field. Assumes nothing.
-use borrow.Author.Tests.{le-leb, lt-leb, leb-true, le-ltb, ltb-false}
+use borrow.Author.Tests.{le-leb, leb-true, le-ltb, ltb-false}
 use mathlib.Core.Path.{◌≡◌, refl, sym, ap, ◌∙◌, subst}
 use mathlib.Core.Bool.{Bool, true, false, cond, not, ◌&&◌, ◌||◌, true≢false}
 use mathlib.Core.List.{List, [], ◌∷◌, ◌++◌, append_assoc, append-nil}
@@ -7,16 +7,14 @@ use Prim.Native.Nat.{ℕ, ◌+◌, ◌-◌, ◌^◌, ◌≤◌, ◌<◌, ◌*◌
 use native.Mathlib.Omega.{arith}
 use lib.Dec.{leb, ltb}
 use lib.ListN.{length, get_or, take, drop, replicate, length-append, length-replicate, drop_of_length-le}
-use lib.Seq.{take_at, drop-drop}
+use lib.Seq.{take_at}
 use Rattle.aff_format.specs.Bytes.{Octets, part}
 use Rattle.aff_format.specs.Number.{be_of, be_bytes}
 use Rattle.aff_format.specs.Kind.{kind_code, kind_of, entry_size, is_void, element_size}
 use Rattle.aff_format.specs.Entry.{type_field, parent_field, string_field, count_field, offset_field, fields_of, entry_of_kind, entry_of, data_fields, void_or, entry_bytes, slot_bytes, Storable, outside}
 use Rattle.aff_format.specs.declared.kind.Kind.{Kind}
-use Rattle.aff_format.specs.declared.kind.FoundKind.{FoundKind}
-use Rattle.aff_format.specs.declared.kind.FoundKind.TheVariants.{Known, Unknown}
+use Rattle.std.specs.Prelude.{Option, Some, None}
 use Rattle.aff_format.specs.declared.entry.Entry.{Entry}
-use Rattle.aff_format.specs.declared.entry.FoundEntry.TheVariants.{Whole, Broken}
 use Rattle.aff_format.proofs.BytesLaws.{laid, total, part_laid, part_add}
 use Rattle.aff_format.proofs.NumberLaws.{length_be_bytes, be_of_be_bytes, be_bytes_part, be_of_part_bound}
 use Rattle.aff_format.proofs.KindLaws.{kind_of_code, code_of_kind, entry_size_bounds}
@@ -29,46 +27,37 @@ pub fields_are : (e : Entry) (l : List ℕ) → e.parent ≡ parent_field l → 
 unfolding fields_of
 fields_are e l p s n o = rw (← p, ← s, ← n, ← o)
 
-pub fields_at : (e : Entry) (l : List ℕ) (at : ℕ) → e.parent ≡ be_of (part (at + 1) 8 l) → e.string ≡ be_of (part (at + 9) 4 l)
-    → e.count ≡ cond (is_void e.kind) 0 (be_of (part (at + 13) 4 l)) → e.offset ≡ cond (is_void e.kind) 0 (be_of (part (at + 17) 8 l))
-    → e ≡ fields_of e.kind (drop at l)
-fields_at e l at p s n o =
-    fields_are e (drop at l) (rw (drop-drop 1 at l) p) (rw (drop-drop 9 at l) s) (rw (drop-drop 13 at l) n) (rw (drop-drop 17 at l) o)
-
--- The three cases of a read.
-pub entry_past : (l : List ℕ) (at : ℕ) → length l ≤ at → Broken ≡ entry_of (drop at l)
+-- Two cases of a read.
+pub entry_past : (l : List ℕ) (at : ℕ) → length l ≤ at → None ≡ entry_of (drop at l)
 unfolding entry_of
 entry_past l at h = rw (drop_of_length-le l h)
 
-pub entry_cut : (f : FoundKind) (k : Kind) (l : List ℕ) → f ≡ Known k → length l < entry_size k → Broken ≡ entry_of_kind f l
-entry_cut f k l e h = rw (e, lt-leb (entry_size k) (length l) h)
-
-pub entry_whole : (f : FoundKind) (k : Kind) (l : List ℕ) → f ≡ Known k → entry_size k ≤ length l → Whole (fields_of k l) ≡ entry_of_kind f l
+pub entry_whole : (f : Option Kind) (k : Kind) (l : List ℕ) → f ≡ Some k → entry_size k ≤ length l → Some (fields_of k l) ≡ entry_of_kind f l
 entry_whole f k l e h = rw (e, le-leb (entry_size k) (length l) h)
 
 -- What a whole entry says of the bytes that it was read from.
-record Shape (f : FoundKind) (l : List ℕ) (e : Entry) : Type 0 where
-  known : f ≡ Known e.kind
+record Shape (f : Option Kind) (l : List ℕ) (e : Entry) : Type 0 where
+  known : f ≡ Some e.kind
   inside : entry_size e.kind ≤ length l
   fields : e ≡ fields_of e.kind l
 
 shape_cond : (k : Kind) (l : List ℕ) (e : Entry) (b : Bool) → leb (entry_size k) (length l) ≡ b
-    → cond b (Whole (fields_of k l)) Broken ≡ Whole e → Shape (Known k) l e
+    → cond b (Some (fields_of k l)) None ≡ Some e → Shape (Some k) l e
 unfolding fields_of
 shape_cond k l e true t h =
     let q : e ≡ fields_of k l = cc in
-    subst (Shape (Known k) l) (sym q) (record { known = refl; inside = leb-true (entry_size k) (length l) t; fields = refl })
+    subst (Shape (Some k) l) (sym q) (record { known = refl; inside = leb-true (entry_size k) (length l) t; fields = refl })
 shape_cond k l e false t h = let z : ◌≡◌ {A = ℕ} 0 1 = cc in absurd (omega arith)
 
-shape_of : (f : FoundKind) (l : List ℕ) (e : Entry) → entry_of_kind f l ≡ Whole e → Shape f l e
-shape_of Unknown l e h = let z : ◌≡◌ {A = ℕ} 0 1 = cc in absurd (omega arith)
-shape_of (Known k) l e h = shape_cond k l e (leb (entry_size k) (length l)) refl h
+shape_of : (f : Option Kind) (l : List ℕ) (e : Entry) → entry_of_kind f l ≡ Some e → Shape f l e
+shape_of None l e h = let z : ◌≡◌ {A = ℕ} 0 1 = cc in absurd (omega arith)
+shape_of (Some k) l e h = shape_cond k l e (leb (entry_size k) (length l)) refl h
 
-shape : (l : List ℕ) (e : Entry) → entry_of l ≡ Whole e → Shape (kind_of (type_field l)) l e
+shape : (l : List ℕ) (e : Entry) → entry_of l ≡ Some e → Shape (kind_of (type_field l)) l e
 unfolding entry_of
 shape l e h = shape_of (kind_of (type_field l)) l e h
 
-module _ (l : List ℕ) (e : Entry) (h : entry_of l ≡ Whole e) where
+module _ (l : List ℕ) (e : Entry) (h : entry_of l ≡ Some e) where
   pub entry_inside : entry_size e.kind ≤ length l
   entry_inside = (shape l e h).inside
 
@@ -164,15 +153,15 @@ type_of_bytes : (e : Entry) (rest : List ℕ) → type_field (entry_bytes e ++ r
 unfolding entry_bytes
 type_of_bytes e rest = refl
 
-pub entry_round_trip : (e : Entry) → Storable e → (rest : List ℕ) → entry_of (entry_bytes e ++ rest) ≡ Whole e
+pub entry_round_trip : (e : Entry) → Storable e → (rest : List ℕ) → entry_of (entry_bytes e ++ rest) ≡ Some e
 unfolding entry_of
 entry_round_trip e s rest =
     let l = entry_bytes e ++ rest in
     let n : entry_size e.kind ≤ length l = omega (arith, length-append (entry_bytes e) rest, length_entry_bytes e) in
     sym (entry_whole (kind_of (type_field l)) e.kind l (ap kind_of (type_of_bytes e rest) ∙ kind_of_code e.kind) n)
-    ∙ ap Whole (sym (read_back e rest (is_void e.kind) refl s))
+    ∙ ap Some (sym (read_back e rest (is_void e.kind) refl s))
 
-pub slot_round_trip : (e : Entry) → Storable e → (rest : List ℕ) → entry_of (slot_bytes e ++ rest) ≡ Whole e
+pub slot_round_trip : (e : Entry) → Storable e → (rest : List ℕ) → entry_of (slot_bytes e ++ rest) ≡ Some e
 unfolding slot_bytes
 slot_round_trip e s rest = rw append_assoc (entry_round_trip e s (replicate (25 - entry_size e.kind) 0 ++ rest))
 
@@ -182,7 +171,7 @@ first_byte [] h = absurd (omega arith)
 first_byte (x ∷ l) h = refl
 
 -- The entry's bytes from the parts that its fields were read from, without or with count and data offset.
-back : (l : List ℕ) (e : Entry) (b : Bool) → is_void e.kind ≡ b → entry_of l ≡ Whole e → Octets l
+back : (l : List ℕ) (e : Entry) (b : Bool) → is_void e.kind ≡ b → entry_of l ≡ Some e → Octets l
     → take (cond b 13 25) l ≡ kind_code e.kind ∷ (be_bytes 8 e.parent ++ (be_bytes 4 e.string ++ void_or b (data_fields e)))
 back l e true v h o =
     let n : 13 ≤ length l = rw v at (entry_inside l e h) in
@@ -203,17 +192,17 @@ back l e false v h o =
     )
     (part_add 0 1 24 l ∙ rw (first_byte l (omega arith), part_add 1 8 16 l, part_add 9 4 12 l, part_add 13 4 8 l))
 
-pub entry_back : (l : List ℕ) (e : Entry) → entry_of l ≡ Whole e → Octets l → take (entry_size e.kind) l ≡ entry_bytes e
+pub entry_back : (l : List ℕ) (e : Entry) → entry_of l ≡ Some e → Octets l → take (entry_size e.kind) l ≡ entry_bytes e
 unfolding entry_bytes
 entry_back l e h o = back l e (is_void e.kind) refl h o
 
-storable : (l : List ℕ) (e : Entry) (b : Bool) → is_void e.kind ≡ b → entry_of l ≡ Whole e → Octets l → (e.count < 256 ^ 4) × (e.offset < 256 ^ 8)
+storable : (l : List ℕ) (e : Entry) (b : Bool) → is_void e.kind ≡ b → entry_of l ≡ Some e → Octets l → (e.count < 256 ^ 4) × (e.offset < 256 ^ 8)
 storable l e true v h o = (rw (whole_void_count l e h v) (omega arith), rw (whole_void_offset l e h v) (omega arith))
 storable l e false v h o =
     let n : 25 ≤ length l = rw v at (entry_inside l e h) in
     (rw (whole_count l e h v) (be_of_part_bound 13 4 l o (omega arith)), rw (whole_offset l e h v) (be_of_part_bound 17 8 l o (omega arith)))
 
-pub entry_storable : (l : List ℕ) (e : Entry) → entry_of l ≡ Whole e → Octets l → Storable e
+pub entry_storable : (l : List ℕ) (e : Entry) → entry_of l ≡ Some e → Octets l → Storable e
 entry_storable l e h o =
     let n : 13 ≤ length l = omega (arith, entry_size_bounds e.kind, entry_inside l e h) in
     let f = storable l e (is_void e.kind) refl h o in

@@ -12,8 +12,7 @@ use Rattle.aff_format.specs.Strings.{strings_of, ends_in_zero, with_last_zero, p
 use Rattle.aff_format.specs.Entry.{entry_of, fields_of, entry_bytes}
 use Rattle.aff_format.specs.declared.edition.Edition.TheVariants.{Two}
 use Rattle.aff_format.specs.declared.kind.Kind.TheVariants as kind
-use Rattle.aff_format.specs.declared.subkey.Grammar.TheVariants.{Sound}
-use Rattle.aff_format.specs.declared.entry.FoundEntry.TheVariants.{Whole, Broken}
+use Rattle.std.specs.Prelude.{Some, None}
 
 -- The symbol table of the worked file, `a` and `n`, is at 172. (Its strings: `two`.)
 places : places_of 172 (strings_of (97 ∷ 0 ∷ 110 ∷ 0 ∷ [])) ≡ 172 ∷ 174 ∷ []
@@ -61,15 +60,15 @@ tree =
     1 ∷ 0 ∷ 0 ∷ 0 ∷ 0 ∷ 0 ∷ 0 ∷ 0 ∷ 0 ∷ 0 ∷ 0 ∷ 0 ∷ 0 ∷
     3 ∷ 0 ∷ 0 ∷ 0 ∷ 0 ∷ 0 ∷ 0 ∷ 0 ∷ 1 ∷ 0 ∷ 0 ∷ 0 ∷ 1 ∷ 0 ∷ 0 ∷ 0 ∷ 1 ∷ 0 ∷ 0 ∷ 0 ∷ 0 ∷ 0 ∷ 0 ∷ 0 ∷ 168 ∷ []
 
-first : entry_of tree ≡ Whole (record { kind = kind.Void; parent = 0; string = 0; count = 0; offset = 0 })
+first : entry_of tree ≡ Some (record { kind = kind.Void; parent = 0; string = 0; count = 0; offset = 0 })
 unfolding tree entry_of fields_of be_of
 first = refl
 
-second : entry_of (drop 13 tree) ≡ Whole (record { kind = kind.Int; parent = 1; string = 1; count = 1; offset = 168 })
+second : entry_of (drop 13 tree) ≡ Some (record { kind = kind.Int; parent = 1; string = 1; count = 1; offset = 168 })
 unfolding tree entry_of fields_of be_of
 second = refl
 
-cut_short : entry_of (take 24 (drop 13 tree)) ≡ Broken
+cut_short : entry_of (take 24 (drop 13 tree)) ≡ None
 unfolding tree entry_of
 cut_short = refl
 
@@ -83,6 +82,6 @@ unfolding decoded element_at
 rest = refl
 
 -- The path of its node 2, `/a/n`. (Other paths, subkeys and numbers: aff_read's table of cases.)
-worked_path : path_grammar Two (47 ∷ 97 ∷ 47 ∷ 110 ∷ []) ≡ Sound
+worked_path : path_grammar Two (47 ∷ 97 ∷ 47 ∷ 110 ∷ []) ≡ None
 unfolding path_grammar parts_from between_slashes subkey_from rest_of_subkey narrow_first narrow_next
 worked_path = refl

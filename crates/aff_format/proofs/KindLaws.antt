@@ -12,10 +12,9 @@ use Rattle.aff_format.specs.Kind.{kind_code, kind_of, element_size, is_void, ent
 use Rattle.aff_format.specs.Element.{count_in}
 use Rattle.aff_format.specs.declared.kind.Kind.{Kind}
 use Rattle.aff_format.specs.declared.kind.Kind.TheVariants.{Void, Char, Int, Double, Complex}
-use Rattle.aff_format.specs.declared.kind.FoundKind.{FoundKind}
-use Rattle.aff_format.specs.declared.kind.FoundKind.TheVariants.{Known}
+use Rattle.std.specs.Prelude.{Option, Some}
 
-pub kind_of_code : (k : Kind) → kind_of (kind_code k) ≡ Known k
+pub kind_of_code : (k : Kind) → kind_of (kind_code k) ≡ Some k
 kind_of_code Void = refl
 kind_of_code Char = refl
 kind_of_code Int = refl
@@ -23,14 +22,14 @@ kind_of_code Double = refl
 kind_of_code Complex = refl
 
 -- A row of the table: where the code is that of j the kind is j, else the rows below decide.
-code_row : (n : ℕ) (k j : Kind) (rest : FoundKind) (b : Bool) → eqb n (kind_code j) ≡ b
-    → (rest ≡ Known k → kind_code k ≡ n) → cond b (Known j) rest ≡ Known k → kind_code k ≡ n
+code_row : (n : ℕ) (k j : Kind) (rest : Option Kind) (b : Bool) → eqb n (kind_code j) ≡ b
+    → (rest ≡ Some k → kind_code k ≡ n) → cond b (Some j) rest ≡ Some k → kind_code k ≡ n
 code_row n k j rest true t below h =
     let e : j ≡ k = cc in
     ap kind_code (sym e) ∙ sym (eqb-true n (kind_code j) t)
 code_row n k j rest false t below h = below h
 
-pub code_of_kind : (n : ℕ) (k : Kind) → kind_of n ≡ Known k → kind_code k ≡ n
+pub code_of_kind : (n : ℕ) (k : Kind) → kind_of n ≡ Some k → kind_code k ≡ n
 code_of_kind n k =
     code_row n k Void _ (eqb n 1) refl
     (code_row n k Char _ (eqb n 2) refl

@@ -25,4 +25,5 @@ pub mod SlotLaws
 pub mod RecordedLaws
 pub mod ClimbLaws
 pub mod TreeLaws
+pub mod StdLaws
 pub mod Examples

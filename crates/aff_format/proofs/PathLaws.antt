@@ -5,11 +5,10 @@ use mathlib.Core.Logic.{◌↔◌}
 use mathlib.Core.List.{List, [], ◌∷◌, ◌++◌, append_assoc, append-nil}
 use Prim.Native.Nat.{ℕ, zero, suc, ◌+◌, ◌-◌, ◌<◌, ◌≤◌}
 use native.Mathlib.Numerals.{add-one}
-use native.Mathlib.Nat.{add-zero}
 use native.Mathlib.Omega.{arith}
 use lib.Dec.{eqb}
-use lib.ListN.{length, get_or, take, drop, length-append, length-drop, drop_of_length-le}
-use lib.Seq.{drop-cons, drop-drop, length-take-le, take_all}
+use lib.ListN.{length, get_or, take, drop, length-append, length-drop}
+use lib.Seq.{drop-drop, length-take-le, take_all}
 use borrow.Author.Tests.{eq-eqb, ne_eqb, eqb-true}
 use Rattle.aff_format.specs.Bytes.{part, Without, EachWithout}
 use Rattle.aff_format.specs.Subkey.{subkey_from, is_sound, is_subkey}
@@ -17,22 +16,7 @@ use Rattle.aff_format.specs.Path.{ahead, between_slashes, or_else, parts_from, a
 use Rattle.aff_format.specs.passes.Counts.{until_slash}
 use Rattle.aff_format.proofs.SubkeyLaws.{subkey_no_zero, subkey_no_slash, sound_shift, sound_is}
 use Rattle.aff_format.specs.declared.edition.Edition.{Edition}
-use Rattle.aff_format.specs.declared.subkey.Grammar.{Grammar}
-use Rattle.aff_format.specs.declared.subkey.Grammar.TheVariants.{Sound, BreaksAt}
-
--- The first slash from place at on.
-module _ (l : List ℕ) (at : ℕ) (more : at < length l) where
-  pub slash_here : get_or l at 0 ≡ 47 → at + until_slash (drop at l) ≡ at
-  unfolding until_slash
-  slash_here h = rw (drop-cons l at 0, eq-eqb (get_or l at 0) 47, add-zero)
-
-  pub slash_later : (get_or l at 0 ≡ 47 → ⊥) → at + until_slash (drop at l) ≡ at + 1 + until_slash (drop (at + 1) l)
-  unfolding until_slash
-  slash_later h = rw (drop-cons l at 0, ne_eqb (get_or l at 0) 47, add-one at) (omega arith)
-
-pub slash_none : (l : List ℕ) (at : ℕ) → length l ≤ at → at + until_slash (drop at l) ≡ at
-unfolding until_slash
-slash_none l at h = rw (drop_of_length-le l, add-zero)
+use Rattle.std.specs.Prelude.{Option, Some, None}
 
 -- The first part ends at the first slash.
 pub until_within : (l : List ℕ) → until_slash l ≤ length l
@@ -79,19 +63,19 @@ later_some (x ∷ l) h = go (eqb x 47) h (later_some l)
     go false k ih = rw (add-one (until_slash l + 1)) (ih (omega arith))
 
 -- A part of a path from place at up to the next slash, at end, in which the rule finds r.
-module _ (e : Edition) (l : List ℕ) (at end : ℕ) (r : Grammar) (found : end ≡ at + until_slash (drop at l)) (finds : r ≡ subkey_from e at (part at (end - at) l)) where
+module _ (e : Edition) (l : List ℕ) (at end : ℕ) (r : Option ℕ) (found : end ≡ at + until_slash (drop at l)) (finds : r ≡ subkey_from e at (part at (end - at) l)) where
   first_part : parts_from e at (between_slashes (drop at l)) ≡ or_else r (parts_from e (at + length (part at (end - at) l) + 1) (later_parts (drop at l)))
   unfolding parts_from
   first_part = let n : end - at ≡ until_slash (drop at l) = omega arith in rw (finds, n, between_first)
 
-  pub parts_break : (place : ℕ) → r ≡ BreaksAt place → parts_from e at (between_slashes (drop at l)) ≡ BreaksAt place
+  pub parts_break : (place : ℕ) → r ≡ Some place → parts_from e at (between_slashes (drop at l)) ≡ Some place
   parts_break place h = first_part ∙ rw h
 
-  pub parts_last : r ≡ Sound → end ≡ length l → parts_from e at (between_slashes (drop at l)) ≡ Sound
+  pub parts_last : r ≡ None → end ≡ length l → parts_from e at (between_slashes (drop at l)) ≡ None
   unfolding parts_from
   parts_last h q = let k : length (drop at l) ≤ until_slash (drop at l) = simp length-drop (omega arith) in first_part ∙ rw (h, later_none (drop at l))
 
-  pub parts_next : r ≡ Sound → end < length l → parts_from e at (between_slashes (drop at l)) ≡ parts_from e (end + 1) (between_slashes (drop (end + 1) l))
+  pub parts_next : r ≡ None → end < length l → parts_from e at (between_slashes (drop at l)) ≡ parts_from e (end + 1) (between_slashes (drop (end + 1) l))
   parts_next h q =
       let k : until_slash (drop at l) < length (drop at l) = simp length-drop (omega arith) in
       let w : end - at ≤ length (drop at l) = simp length-drop (omega arith) in
@@ -100,17 +84,17 @@ module _ (e : Edition) (l : List ℕ) (at end : ℕ) (r : Grammar) (found : end 
       first_part ∙ rw (h, length-take-le (end - at) (drop at l), n, later_some (drop at l), drop-drop, d)
 
 -- The grammar at a path's first byte.
-pub grammar_empty : (e : Edition) (l : List ℕ) → length l ≡ 0 → path_grammar e l ≡ BreaksAt 0
+pub grammar_empty : (e : Edition) (l : List ℕ) → length l ≡ 0 → path_grammar e l ≡ Some 0
 unfolding path_grammar
 grammar_empty e [] h = refl
 grammar_empty e (x ∷ l) h = absurd (omega arith)
 
-pub grammar_start : (e : Edition) (l : List ℕ) → (get_or l 0 0 ≡ 47 → ⊥) → path_grammar e l ≡ BreaksAt 0
+pub grammar_start : (e : Edition) (l : List ℕ) → (get_or l 0 0 ≡ 47 → ⊥) → path_grammar e l ≡ Some 0
 unfolding path_grammar
 grammar_start e [] n = refl
 grammar_start e (x ∷ l) n = rw (ne_eqb x 47)
 
-pub grammar_root : (e : Edition) (l : List ℕ) → get_or l 0 0 ≡ 47 → length l ≡ 1 → path_grammar e l ≡ Sound
+pub grammar_root : (e : Edition) (l : List ℕ) → get_or l 0 0 ≡ 47 → length l ≡ 1 → path_grammar e l ≡ None
 unfolding path_grammar
 grammar_root e [] q h = absurd (omega arith)
 grammar_root e (x ∷ []) q h = rw (eq-eqb x 47)
@@ -241,12 +225,12 @@ unfolding parts_from
 parts_subkeys e at [] h = tt
 parts_subkeys e at (p ∷ ps) h = go (subkey_from e at p) refl h (parts_subkeys e (at + length p + 1) ps)
   where
-    go : (g : Grammar) → subkey_from e at p ≡ g → is_sound (or_else g (parts_from e (at + length p + 1) ps)) ≡ true
+    go : (g : Option ℕ) → subkey_from e at p ≡ g → is_sound (or_else g (parts_from e (at + length p + 1) ps)) ≡ true
         → (is_sound (parts_from e (at + length p + 1) ps) ≡ true → Subkeys e ps) → Subkeys e (p ∷ ps)
-    go Sound q s ih = (sym (sound_shift e at p) ∙ ap is_sound q, ih s)
-    go (BreaksAt place) q s ih = absurd (true≢false (sym s))
+    go None q s ih = (sym (sound_shift e at p) ∙ ap is_sound q, ih s)
+    go (Some place) q s ih = absurd (true≢false (sym s))
 
-pub subkeys_parts : (e : Edition) (at : ℕ) (ps : List (List ℕ)) → Subkeys e ps → parts_from e at ps ≡ Sound
+pub subkeys_parts : (e : Edition) (at : ℕ) (ps : List (List ℕ)) → Subkeys e ps → parts_from e at ps ≡ None
 unfolding parts_from
 subkeys_parts e at [] s = refl
 subkeys_parts e at (p ∷ ps) s =
@@ -258,7 +242,7 @@ unfolding path_grammar
 path_sound e [] h = absurd (true≢false (sym h))
 path_sound e (x ∷ l) h = go (eqb x 47) refl l h
   where
-    go : (b : Bool) → eqb x 47 ≡ b → (l : List ℕ) → is_sound (cond b (after_slash e l) (BreaksAt 0)) ≡ true → WellFormed e (x ∷ l)
+    go : (b : Bool) → eqb x 47 ≡ b → (l : List ℕ) → is_sound (cond b (after_slash e l) (Some 0)) ≡ true → WellFormed e (x ∷ l)
     go true q [] s = root (ap (λ (y : ℕ). y ∷ []) (eqb-true x 47 q))
     go true q (y ∷ l) s =
         let f : between_slashes (y ∷ l) ≡ take (until_slash (y ∷ l)) (y ∷ l) ∷ later_parts (y ∷ l) = between_first (y ∷ l) in

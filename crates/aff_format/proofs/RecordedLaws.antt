@@ -3,30 +3,15 @@ use mathlib.Core.Path.{◌≡◌}
 use mathlib.Core.List.{List}
 use Prim.Native.Nat.{ℕ, ◌+◌, ◌-◌, ◌≤◌, ◌<◌}
 use native.Mathlib.Omega.{arith}
-use lib.ListN.{length, get_or, drop}
+use lib.ListN.{length, drop}
 use lib.Seq.{take-take}
-use borrow.Author.Tests.{eq-eqb, ne_eqb}
+use borrow.Author.Tests.{ne_eqb}
 use Rattle.aff_format.specs.Bytes.{part}
 use Rattle.aff_format.specs.Strings.{up_to_zero}
-use Rattle.aff_format.proofs.BytesLaws.{part_cons, part_empty, length_part}
+use Rattle.aff_format.proofs.BytesLaws.{length_part}
 use Rattle.aff_format.proofs.StringsLaws.{length_up_to_zero, take_up_to_zero}
 use Rattle.aff_format.specs.Recorded.{name_from, found_entry, recorded_entry}
 use Rattle.aff_format.specs.Entry.{or_none}
-
--- A loop over the bytes of a string is at `at`: the string ends here, or where it does from the next byte on.
-module _ (image : List ℕ) (end at : ℕ) where
-  pub ends_past_lem : end ≤ at → at + length (name_from image end at) ≡ at
-  unfolding name_from up_to_zero
-  ends_past_lem h = rw (part_empty image at end) (omega arith)
-
-  pub ends_here : at < end → end ≤ length image → get_or image at 0 ≡ 0 → at + length (name_from image end at) ≡ at
-  unfolding name_from up_to_zero
-  ends_here h f z = rw (part_cons image at end, eq-eqb (get_or image at 0) 0) (omega arith)
-
-  pub ends_on : at < end → end ≤ length image → (get_or image at 0 ≡ 0 → ⊥)
-      → at + 1 + length (name_from image end (at + 1)) ≡ at + length (name_from image end at)
-  unfolding name_from up_to_zero
-  ends_on h f n = rw (part_cons image at end, ne_eqb (get_or image at 0) 0) (omega arith)
 
 -- The string that begins at a place of a section ends no later than the section.
 pub name_ends : (image : List ℕ) (end from : ℕ) → from ≤ end → end ≤ length image → from + length (name_from image end from) ≤ end

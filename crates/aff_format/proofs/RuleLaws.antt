@@ -10,8 +10,7 @@ use native.Mathlib.Omega.{arith}
 use Rattle.aff_format.specs.Answer.{Answer, accepted, refused, SecondOf10, Check, check, unless, first_wrong}
 use Rattle.aff_format.specs.Lowest.{lowest_from, check_lowest}
 use Rattle.aff_format.specs.declared.refusal.RefusalCode.{RefusalCode}
-use Rattle.aff_format.specs.declared.lowest.Lowest.{Lowest}
-use Rattle.aff_format.specs.declared.lowest.Lowest.TheVariants.{At}
+use Rattle.std.specs.Prelude.{Option, Some}
 use Rattle.aff_format.specs.Rule.{Rule, rule, AllHold, FirstFails, Settled, each_from, By, Is}
 use lib.Dec.{eqb, ltb, leb}
 use borrow.Author.Tests.{eq-eqb, ltb-false, le-ltb, leb-false, lt-leb, not-false}
@@ -55,9 +54,9 @@ module _ {A : Type 0} (v : A) where
       let (here, later) = each_less _ left k e in
       go (test k) (lowest_from test left (k + 1)) here (λ h. each_settled report test holds cs rs left (k + 1) later (λ hs. s (each_more holds left k h hs)))
     where
-      go : (b : Bool) (l : Lowest) → (b ≡ false) ↔ holds k
+      go : (b : Bool) (l : Option ℕ) → (b ≡ false) ↔ holds k
           → (holds k → Settled (each_from report holds left (k + 1) rs) v (first_wrong (check_lowest report l ∷ cs) v))
-          → Settled (each_from report holds (suc left) k rs) v (first_wrong (check_lowest report (cond b (At k) l) ∷ cs) v)
+          → Settled (each_from report holds (suc left) k rs) v (first_wrong (check_lowest report (cond b (Some k) l) ∷ cs) v)
       go true l = one_settled (report k) (each_from report holds left (k + 1) rs) (first_wrong (check_lowest report l ∷ cs) v) true
       go false l = one_settled (report k) (each_from report holds left (k + 1) rs) (first_wrong (check_lowest report l ∷ cs) v) false
 

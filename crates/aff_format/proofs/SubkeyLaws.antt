@@ -1,6 +1,6 @@
 -- The subkey rule, byte by byte and at any start; what a sound subkey cannot hold.
 use mathlib.Core.Path.{◌≡◌, refl, sym, ap, ◌∙◌}
-use mathlib.Core.Bool.{Bool, true, false, cond, true≢false}
+use mathlib.Core.Bool.{Bool, true, false, cond, not, true≢false}
 use mathlib.Core.List.{List, [], ◌∷◌}
 use mathlib.Core.Logic.{◌↔◌}
 use Prim.Native.Nat.{ℕ, ◌+◌, ◌-◌, ◌<◌, ◌≤◌}
@@ -8,6 +8,8 @@ use native.Mathlib.Nat.{add-zero}
 use native.Mathlib.Omega.{arith}
 use lib.ListN.{length, get_or}
 use borrow.Author.Tests.{ne_eqb, eqb-false}
+use Rattle.std.specs.List.{position, position_from}
+use Rattle.std.proofs.lemmas.Iterator.Adapters.{position_from-zero}
 use Rattle.aff_format.specs.Answer.{refused, Check, refusal_at, first_wrong}
 use Rattle.aff_format.specs.Bytes.{part, Without}
 use Rattle.aff_format.specs.Subkey.{narrow_first, narrow_next, wide, may_begin, may_follow, rest_of_subkey, subkey_from, is_sound, break_place, check_grammar, is_subkey, shifted}
@@ -16,8 +18,7 @@ use Rattle.aff_format.proofs.BytesLaws.{part_cons, part_empty}
 use Rattle.aff_format.specs.declared.edition.Edition.{Edition}
 use Rattle.aff_format.specs.declared.edition.Edition.TheVariants.{One, Two, Three}
 use Rattle.aff_format.specs.declared.refusal.RefusalCode.{RefusalCode}
-use Rattle.aff_format.specs.declared.subkey.Grammar.{Grammar}
-use Rattle.aff_format.specs.declared.subkey.Grammar.TheVariants.{Sound, BreaksAt}
+use Rattle.std.specs.Prelude.{Option, Some, None}
 
 -- A part of a run, from place at on, in the code's terms.
 module _ (e : Edition) (l : List ℕ) (at end : ℕ) (more : at < end) (within : end ≤ length l) where
@@ -25,23 +26,11 @@ module _ (e : Edition) (l : List ℕ) (at end : ℕ) (more : at < end) (within :
   unfolding subkey_from
   begin_good h = rw (part_cons l at end, h)
 
-  pub begin_bad : may_begin e (get_or l at 0) ≡ false → subkey_from e at (part at (end - at) l) ≡ BreaksAt at
+  pub begin_bad : may_begin e (get_or l at 0) ≡ false → subkey_from e at (part at (end - at) l) ≡ Some at
   unfolding subkey_from
   begin_bad h = rw (part_cons l at end, h)
 
-  pub rest_good : may_follow e (get_or l at 0) ≡ true → rest_of_subkey e at (part at (end - at) l) ≡ rest_of_subkey e (at + 1) (part (at + 1) (end - (at + 1)) l)
-  unfolding rest_of_subkey
-  rest_good h = rw (part_cons l at end, h)
-
-  pub rest_bad : may_follow e (get_or l at 0) ≡ false → rest_of_subkey e at (part at (end - at) l) ≡ BreaksAt at
-  unfolding rest_of_subkey
-  rest_bad h = rw (part_cons l at end, h)
-
-pub rest_end : (e : Edition) (l : List ℕ) (at end : ℕ) → end ≤ at → rest_of_subkey e at (part at (end - at) l) ≡ Sound
-unfolding rest_of_subkey
-rest_end e l at end h = rw (part_empty l at end)
-
-pub begin_empty : (e : Edition) (l : List ℕ) (at end : ℕ) → end ≤ at → subkey_from e at (part at (end - at) l) ≡ BreaksAt at
+pub begin_empty : (e : Edition) (l : List ℕ) (at end : ℕ) → end ≤ at → subkey_from e at (part at (end - at) l) ≡ Some at
 unfolding subkey_from
 begin_empty e l at end h = rw (part_empty l at end)
 
@@ -52,32 +41,51 @@ rest_shift e a b [] = refl
 rest_shift e a b (x ∷ l) = go (may_follow e x) (rest_shift e a (b + 1) l)
   where
     go : (t : Bool) → rest_of_subkey e (a + (b + 1)) l ≡ shifted a (rest_of_subkey e (b + 1) l)
-        → cond t (rest_of_subkey e (a + b + 1) l) (BreaksAt (a + b)) ≡ shifted a (cond t (rest_of_subkey e (b + 1) l) (BreaksAt b))
+        → cond t (rest_of_subkey e (a + b + 1) l) (Some (a + b)) ≡ shifted a (cond t (rest_of_subkey e (b + 1) l) (Some b))
     go true h = let n : a + b + 1 ≡ a + (b + 1) = omega arith in rw n h
     go false h = refl
+
+-- The first fault by std's word.
+faults : (e : Edition) (i : ℕ) (l : List ℕ) → rest_of_subkey e i l ≡ position_from (λ x. not (may_follow e x)) i l
+unfolding rest_of_subkey
+faults e i [] = refl
+faults e i (x ∷ l) = go (may_follow e x) (faults e (i + 1) l)
+  where
+    go : (t : Bool) → rest_of_subkey e (i + 1) l ≡ position_from (λ y. not (may_follow e y)) (i + 1) l
+        → cond t (rest_of_subkey e (i + 1) l) (Some i) ≡ cond (not t) (Some i) (position_from (λ y. not (may_follow e y)) (i + 1) l)
+    go true h = h
+    go false h = refl
+
+pub begin_by_position : (e : Edition) (l : List ℕ) (from end : ℕ) → from < end → end ≤ length l → may_begin e (get_or l from 0) ≡ true
+    → subkey_from e from (part from (end - from) l) ≡ shifted (from + 1) (position (λ x. not (may_follow e x)) (part (from + 1) (end - (from + 1)) l))
+begin_by_position e l from end h k b =
+    let rest : List ℕ = part (from + 1) (end - (from + 1)) l in
+    begin_good e l from end h k b
+    ∙ rw add-zero at (rest_shift e (from + 1) 0 rest)
+    ∙ ap (shifted (from + 1)) (faults e 0 rest ∙ sym (position_from-zero (λ x. not (may_follow e x)) rest))
 
 pub subkey_shift : (e : Edition) (at : ℕ) (l : List ℕ) → subkey_from e at l ≡ shifted at (subkey_from e 0 l)
 unfolding subkey_from
 subkey_shift e at [] = rw add-zero
 subkey_shift e at (x ∷ l) = go (may_begin e x)
   where
-    go : (t : Bool) → cond t (rest_of_subkey e (at + 1) l) (BreaksAt at) ≡ shifted at (cond t (rest_of_subkey e 1 l) (BreaksAt 0))
+    go : (t : Bool) → cond t (rest_of_subkey e (at + 1) l) (Some at) ≡ shifted at (cond t (rest_of_subkey e 1 l) (Some 0))
     go true = rest_shift e at 1 l
     go false = rw add-zero
 
 pub sound_shift : (e : Edition) (at : ℕ) (l : List ℕ) → is_sound (subkey_from e at l) ≡ is_subkey e l
 sound_shift e at l = ap is_sound (subkey_shift e at l) ∙ go (subkey_from e 0 l)
   where
-    go : (g : Grammar) → is_sound (shifted at g) ≡ is_sound g
-    go Sound = refl
-    go (BreaksAt p) = refl
+    go : (g : Option ℕ) → is_sound (shifted at g) ≡ is_sound g
+    go None = refl
+    go (Some p) = refl
 
-pub break_shift : (e : Edition) (at p : ℕ) (l : List ℕ) → subkey_from e 0 l ≡ BreaksAt p → subkey_from e at l ≡ BreaksAt (at + p)
+pub break_shift : (e : Edition) (at p : ℕ) (l : List ℕ) → subkey_from e 0 l ≡ Some p → subkey_from e at l ≡ Some (at + p)
 break_shift e at p l h = subkey_shift e at l ∙ rw h
 
-pub sound_is : (g : Grammar) → is_sound g ≡ true → g ≡ Sound
-sound_is Sound h = refl
-sound_is (BreaksAt p) h = absurd (true≢false (sym h))
+pub sound_is : (g : Option ℕ) → is_sound g ≡ true → g ≡ None
+sound_is None h = refl
+sound_is (Some p) h = absurd (true≢false (sym h))
 
 -- A byte that may neither begin nor follow is in no subkey.
 module _ (e : Edition) (x : ℕ) where
@@ -86,7 +94,7 @@ module _ (e : Edition) (x : ℕ) where
   rest_without at [] n h = tt
   rest_without at (y ∷ l) n h = go (may_follow e y) refl h (rest_without (at + 1) l n)
     where
-      go : (t : Bool) → may_follow e y ≡ t → is_sound (cond t (rest_of_subkey e (at + 1) l) (BreaksAt at)) ≡ true
+      go : (t : Bool) → may_follow e y ≡ t → is_sound (cond t (rest_of_subkey e (at + 1) l) (Some at)) ≡ true
           → (is_sound (rest_of_subkey e (at + 1) l) ≡ true → Without x l) → Without x (y ∷ l)
       go true m s ih = (ne_eqb y x (λ q. true≢false (sym m ∙ ap (may_follow e) q ∙ n)), ih s)
       go false m s ih = absurd (true≢false (sym s))
@@ -96,7 +104,7 @@ module _ (e : Edition) (x : ℕ) where
   subkey_without [] b n h = tt
   subkey_without (y ∷ l) b n h = go (may_begin e y) refl h
     where
-      go : (t : Bool) → may_begin e y ≡ t → is_sound (cond t (rest_of_subkey e 1 l) (BreaksAt 0)) ≡ true → Without x (y ∷ l)
+      go : (t : Bool) → may_begin e y ≡ t → is_sound (cond t (rest_of_subkey e 1 l) (Some 0)) ≡ true → Without x (y ∷ l)
       go true m s = (ne_eqb y x (λ q. true≢false (sym m ∙ ap (may_begin e) q ∙ b)), rest_without 1 l n s)
       go false m s = absurd (true≢false (sym s))
 
@@ -118,13 +126,13 @@ subkey_not_empty e [] h = absurd (true≢false (sym h))
 subkey_not_empty e (x ∷ l) h = omega arith
 
 -- The check of a grammar reports its place, and only 14.
-pub reports_14 : {A : Type 0} (g : Grammar) (checks : List Check) (a : A) (p : ℕ) → Others 14 checks
-    → (first_wrong (check_grammar g ∷ checks) a ≡ refused (refusal_at 14 p)) ↔ (g ≡ BreaksAt p)
-reports_14 Sound checks a p o = (
+pub reports_14 : {A : Type 0} (g : Option ℕ) (checks : List Check) (a : A) (p : ℕ) → Others 14 checks
+    → (first_wrong (check_grammar g ∷ checks) a ≡ refused (refusal_at 14 p)) ↔ (g ≡ Some p)
+reports_14 None checks a p o = (
   λ h. absurd (eqb-false 14 14 (others_reported 14 checks o a h) refl),
   λ h. absurd (let z : ◌≡◌ {A = ℕ} 0 1 = cc in omega arith),
 )
-reports_14 (BreaksAt q) checks a p o = (
-  λ h. let e : refusal_at 14 q ≡ refusal_at 14 p = cc in ap (λ (t : RefusalCode). BreaksAt t.place) e,
-  λ h. ap (λ (g : Grammar). refused (refusal_at 14 (break_place g))) h,
+reports_14 (Some q) checks a p o = (
+  λ h. let e : refusal_at 14 q ≡ refusal_at 14 p = cc in ap (λ (t : RefusalCode). Some t.place) e,
+  λ h. ap (λ (g : Option ℕ). refused (refusal_at 14 (break_place g))) h,
 )

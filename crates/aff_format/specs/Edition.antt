@@ -1,15 +1,14 @@
 -- The layout of each edition: document 01, 'Layout of a file', and source document 003, sections 6.1 and 6.2; of edition 3 (request C-15) source document
 -- 000, section 6. What an edition has of its own is at the front: its number, its text, the size of a section header, whether that has a record count, the
 -- order of the section headers, and whether the writer writes it. (Its rule for names is in Subkey.antt.) All other sizes and places are computed from these.
-use Rattle.std.specs.Prelude.{◌≡◌, Bool, true, false, cond, List, [], ◌∷◌, ℕ, ◌+◌, ◌-◌, ◌*◌, eqb, get_or}
+use Rattle.std.specs.Prelude.{◌≡◌, Bool, true, false, cond, List, [], ◌∷◌, ◌++◌, ℕ, ◌+◌, ◌-◌, ◌*◌, eqb, get_or, Option, Some, None, Result, MatchResult, codes, decimal}
 use Rattle.aff_format.specs.Number.{be_bytes}
 use Rattle.aff_format.specs.Section.{section_number}
 use Rattle.aff_format.specs.declared.section.Section.{Section}
 use Rattle.aff_format.specs.declared.section.Section.TheVariants.{Symbol, Tree, Data}
 use Rattle.aff_format.specs.declared.edition.Edition.{Edition}
+use Rattle.aff_format.specs.declared.edition.UnknownEdition.{UnknownEdition}
 use Rattle.aff_format.specs.declared.edition.Edition.TheVariants.{One, Two, Three}
-use Rattle.aff_format.specs.declared.edition.FoundEdition.{FoundEdition}
-use Rattle.aff_format.specs.declared.edition.FoundEdition.TheVariants.{Known, Unknown}
 
 abbrev pub editions : List Edition
 editions = One ∷ Two ∷ Three ∷ []
@@ -101,31 +100,38 @@ number_form e = 0 ∷ 64 ∷ 2 ∷ 53 ∷ 4 ∷ 0 ∷ 3 ∷ 253 ∷ be_bytes 4 (
 -- ---- The edition of a number.
 
 -- The first of some editions that passes a test.
-abbrev pub first_edition : (Edition → Bool) → List Edition → FoundEdition
-first_edition test [] = Unknown
-first_edition test (e ∷ es) = cond (test e) (Known e) (first_edition test es)
+abbrev pub first_edition : (Edition → Bool) → List Edition → Option Edition
+first_edition test [] = None
+first_edition test (e ∷ es) = cond (test e) (Some e) (first_edition test es)
 
-abbrev pub edition_of : ℕ → FoundEdition
+abbrev pub edition_of : ℕ → Option Edition
 edition_of n = first_edition (λ e. eqb n (edition_number e)) editions
 
-abbrev pub is_known : FoundEdition → Bool
-is_known (Known e) = true
-is_known Unknown = false
+-- What a conversion of a number returns: the edition of the number, or an error where there is none.
+abbrev pub EditionGiven : ℕ → Result Edition UnknownEdition → Type 0
+EditionGiven n given = MatchResult given (λ edition. edition_of n ≡ Some edition) (λ e. edition_of n ≡ None)
+
+abbrev pub unknown_edition_text : UnknownEdition → List ℕ
+unknown_edition_text e = codes "no edition has the number " ++ decimal e.0
+
+abbrev pub is_known : Option Edition → Bool
+is_known (Some e) = true
+is_known None = false
 
 -- Edition 2 is taken for no edition: its form is the one passed for a text of no edition, and nothing else of it is asked after the refusal of
 -- a text or of a record.
-abbrev pub or_two : FoundEdition → Edition
-or_two (Known e) = e
-or_two Unknown = Two
+abbrev pub or_two : Option Edition → Edition
+or_two (Some e) = e
+or_two None = Two
 
 -- The edition that a record names by its number.
 abbrev pub edition_by : ℕ → Edition
 edition_by n = or_two (edition_of n)
 
 -- Whether a number names an edition that is written; and the same as a proposition.
-abbrev pub is_found_written : FoundEdition → Bool
-is_found_written (Known e) = is_written e
-is_found_written Unknown = false
+abbrev pub is_found_written : Option Edition → Bool
+is_found_written (Some e) = is_written e
+is_found_written None = false
 
 abbrev pub names_written : ℕ → Bool
 names_written n = is_found_written (edition_of n)

@@ -1,20 +1,12 @@
 -- One element of a node's data: document 01, 'Reading keys'.
 use Rattle.std.specs.Prelude.{List, [], ◌∷◌, ℕ, ◌+◌, ◌*◌, ◌/◌, leb, length, get_or}
-use Rattle.aff_format.specs.Answer.{Answer, accepted, refused, check, refusal, first_wrong}
+use Rattle.aff_format.specs.Answer.{Answer, check, refusal, first_wrong}
 use Rattle.aff_format.specs.Bytes.{part}
 use Rattle.aff_format.specs.Number.{be_of, twos_complement, real_of}
-use Rattle.aff_format.specs.Refusal.{code_of_refusal}
 use Rattle.aff_format.specs.declared.kind.Kind.{Kind}
 use Rattle.aff_format.specs.declared.kind.Kind.TheVariants.{Void, Char, Int, Double, Complex}
 use Rattle.aff_format.specs.declared.element.Element.{Element}
 use Rattle.aff_format.specs.declared.element.Element.TheVariants as element
-use Rattle.aff_format.specs.declared.element.ElementAnswer.{ElementAnswer}
-use Rattle.aff_format.specs.declared.element.ElementAnswer.TheVariants.{Value, Refused}
-
--- What document 01 hands back in each case of the answer.
-abbrev pub answer_of_element : ElementAnswer → Answer Element
-answer_of_element (Value e) = accepted e
-answer_of_element (Refused r) = refused (code_of_refusal r)
 
 -- How many elements of a kind a run of bytes holds.
 abbrev pub count_in : Kind → List ℕ → ℕ

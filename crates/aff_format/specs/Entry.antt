@@ -1,14 +1,10 @@
 -- Tree entries: document 01, 'Layout of a file', and source document 003, tables 6 and 7.
-use Rattle.std.specs.Prelude.{Bool, true, false, cond, not, ◌&&◌, ◌||◌, List, [], ◌∷◌, ◌++◌, ◌≡◌, ℕ, ◌-◌, ◌^◌, ◌<◌, ◌+◌, ◌*◌, leb, ltb, length, get_or, replicate}
+use Rattle.std.specs.Prelude.{Bool, true, false, cond, not, ◌&&◌, ◌||◌, List, [], ◌∷◌, ◌++◌, ◌≡◌, ℕ, ◌-◌, ◌^◌, ◌<◌, ◌+◌, ◌*◌, leb, ltb, length, get_or, replicate, Option, Some, None}
 use Rattle.aff_format.specs.Bytes.{part}
 use Rattle.aff_format.specs.Number.{be_of, be_bytes}
 use Rattle.aff_format.specs.Kind.{kind_code, kind_of, entry_size, is_void, element_size}
 use Rattle.aff_format.specs.declared.kind.Kind.{Kind}
-use Rattle.aff_format.specs.declared.kind.FoundKind.{FoundKind}
-use Rattle.aff_format.specs.declared.kind.FoundKind.TheVariants.{Known, Unknown}
 use Rattle.aff_format.specs.declared.entry.Entry.{Entry}
-use Rattle.aff_format.specs.declared.entry.FoundEntry.{FoundEntry}
-use Rattle.aff_format.specs.declared.entry.FoundEntry.TheVariants.{Whole, Broken}
 use Rattle.aff_format.specs.declared.kind.Kind.TheVariants.{Void}
 
 -- The fields of the entry with which a run of bytes begins.
@@ -38,12 +34,12 @@ fields_of k l =
       offset = cond (is_void k) 0 (offset_field l);
     }
 
-abbrev pub entry_of_kind : FoundKind → List ℕ → FoundEntry
-entry_of_kind Unknown l = Broken
-entry_of_kind (Known k) l = cond (leb (entry_size k) (length l)) (Whole (fields_of k l)) Broken
+abbrev pub entry_of_kind : Option Kind → List ℕ → Option Entry
+entry_of_kind None l = None
+entry_of_kind (Some k) l = cond (leb (entry_size k) (length l)) (Some (fields_of k l)) None
 
 -- The entry with which a run of bytes begins; none where its type does not exist or it is cut short.
-unfoldable pub entry_of : List ℕ → FoundEntry
+unfoldable pub entry_of : List ℕ → Option Entry
 entry_of l = entry_of_kind (kind_of (type_field l)) l
 
 -- Count and data offset, of a node that is not Void.
@@ -87,6 +83,6 @@ unfoldable pub outside : ℕ → ℕ → Entry → Bool
 outside from size e =
     not (is_void e.kind) && (ltb e.offset from || ltb (from + size) (e.offset + e.count * element_size e.kind))
 
-abbrev pub or_none : FoundEntry → Entry
-or_none (Whole e) = e
-or_none Broken = no_entry
+abbrev pub or_none : Option Entry → Entry
+or_none (Some e) = e
+or_none None = no_entry

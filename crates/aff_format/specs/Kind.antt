@@ -1,9 +1,8 @@
 -- The types of a node: document 01, 'Layout of a file', and source document 003, tables 1, 6 and 7.
-use Rattle.std.specs.Prelude.{Bool, true, false, cond, ℕ, eqb}
+use Rattle.std.specs.Prelude.{◌≡◌, Bool, true, false, cond, List, ◌++◌, ℕ, eqb, Option, Some, None, Result, MatchResult, codes, decimal}
 use Rattle.aff_format.specs.declared.kind.Kind.{Kind}
+use Rattle.aff_format.specs.declared.kind.UnknownKind.{UnknownKind}
 use Rattle.aff_format.specs.declared.kind.Kind.TheVariants.{Void, Char, Int, Double, Complex}
-use Rattle.aff_format.specs.declared.kind.FoundKind.{FoundKind}
-use Rattle.aff_format.specs.declared.kind.FoundKind.TheVariants.{Known, Unknown}
 
 abbrev pub kind_code : Kind → ℕ
 kind_code Void = 1
@@ -12,13 +11,20 @@ kind_code Int = 3
 kind_code Double = 4
 kind_code Complex = 5
 
-abbrev pub kind_of : ℕ → FoundKind
+abbrev pub kind_of : ℕ → Option Kind
 kind_of n =
-    cond (eqb n 1) (Known Void)
-    (cond (eqb n 2) (Known Char)
-    (cond (eqb n 3) (Known Int)
-    (cond (eqb n 4) (Known Double)
-    (cond (eqb n 5) (Known Complex) Unknown))))
+    cond (eqb n 1) (Some Void)
+    (cond (eqb n 2) (Some Char)
+    (cond (eqb n 3) (Some Int)
+    (cond (eqb n 4) (Some Double)
+    (cond (eqb n 5) (Some Complex) None))))
+
+-- What a conversion of a code returns: the kind of the code, or an error where there is none.
+abbrev pub KindGiven : ℕ → Result Kind UnknownKind → Type 0
+KindGiven code given = MatchResult given (λ kind. kind_of code ≡ Some kind) (λ e. kind_of code ≡ None)
+
+abbrev pub unknown_kind_text : UnknownKind → List ℕ
+unknown_kind_text e = codes "no kind has the code " ++ decimal e.0
 
 -- Bytes of an element.
 abbrev pub element_size : Kind → ℕ

@@ -1,5 +1,5 @@
 -- The rows of document 01's table 'Numbers handed back'.
-use Rattle.std.specs.Prelude.{ℕ}
+use Rattle.std.specs.Prelude.{ℕ, List, ◌++◌, codes, decimal}
 use Rattle.aff_format.specs.Answer.{refusal, refusal_at, refusal_with}
 use Rattle.aff_format.specs.Limits.{string_limit}
 use Rattle.aff_format.specs.Section.{section_number}
@@ -46,3 +46,7 @@ place_of r = (code_of_refusal r).place
 -- The place in the name that 10 reports besides its node.
 abbrev pub second_of : Refusal → ℕ
 second_of r = (code_of_refusal r).second
+
+-- `refused N P`, without a line feed.
+abbrev pub refused_text : Refusal → List ℕ
+refused_text r = codes "refused " ++ (decimal (number_of r) ++ (codes " " ++ decimal (place_of r)))

@@ -1,10 +1,8 @@
 -- The subkey rule of an edition: document 01, 'Layout of a file'; of edition 3, request C-15 and source document 000, section 5.
-use Rattle.std.specs.Prelude.{◌≡◌, Bool, true, false, cond, not, ◌&&◌, ◌||◌, List, [], ◌∷◌, ℕ, ◌+◌, eqb, leb}
+use Rattle.std.specs.Prelude.{◌≡◌, Bool, true, false, cond, not, ◌&&◌, ◌||◌, List, [], ◌∷◌, ℕ, ◌+◌, eqb, leb, Option, Some, None}
 use Rattle.aff_format.specs.Answer.{Check, check, refusal_at}
 use Rattle.aff_format.specs.declared.edition.Edition.{Edition}
 use Rattle.aff_format.specs.declared.edition.Edition.TheVariants.{One, Two, Three}
-use Rattle.aff_format.specs.declared.subkey.Grammar.{Grammar}
-use Rattle.aff_format.specs.declared.subkey.Grammar.TheVariants.{Sound, BreaksAt}
 
 -- A-Z, a-z.
 abbrev pub is_letter : ℕ → Bool
@@ -38,26 +36,26 @@ may_follow Two x = narrow_next x
 may_follow Three x = wide x
 
 -- The bytes after the first, from place at on: the first that breaks the rule.
-unfoldable pub rest_of_subkey : Edition → ℕ → List ℕ → Grammar
-rest_of_subkey e at [] = Sound
-rest_of_subkey e at (x ∷ l) = cond (may_follow e x) (rest_of_subkey e (at + 1) l) (BreaksAt at)
+unfoldable pub rest_of_subkey : Edition → ℕ → List ℕ → Option ℕ
+rest_of_subkey e at [] = None
+rest_of_subkey e at (x ∷ l) = cond (may_follow e x) (rest_of_subkey e (at + 1) l) (Some at)
 
 -- A subkey that begins at place at: the place of the first byte that breaks the rule, or, where it is empty, at.
-unfoldable pub subkey_from : Edition → ℕ → List ℕ → Grammar
-subkey_from e at [] = BreaksAt at
-subkey_from e at (x ∷ l) = cond (may_begin e x) (rest_of_subkey e (at + 1) l) (BreaksAt at)
+unfoldable pub subkey_from : Edition → ℕ → List ℕ → Option ℕ
+subkey_from e at [] = Some at
+subkey_from e at (x ∷ l) = cond (may_begin e x) (rest_of_subkey e (at + 1) l) (Some at)
 
-abbrev pub is_sound : Grammar → Bool
-is_sound Sound = true
-is_sound (BreaksAt place) = false
+abbrev pub is_sound : Option ℕ → Bool
+is_sound None = true
+is_sound (Some place) = false
 
 -- The place of the fault; 0 where there is none.
-abbrev pub break_place : Grammar → ℕ
-break_place Sound = 0
-break_place (BreaksAt place) = place
+abbrev pub break_place : Option ℕ → ℕ
+break_place None = 0
+break_place (Some place) = place
 
 -- 14, with the place of the fault (request C-18).
-abbrev pub check_grammar : Grammar → Check
+abbrev pub check_grammar : Option ℕ → Check
 check_grammar g = check (not (is_sound g)) (refusal_at 14 (break_place g))
 
 -- Whether l is a subkey.
@@ -74,6 +72,6 @@ IsSubkey e [] = ⊥
 IsSubkey e (x ∷ l) = (may_begin e x ≡ true) × AllFollow e l
 
 -- What is found in a run that begins at place at, from what is found in it alone.
-abbrev pub shifted : ℕ → Grammar → Grammar
-shifted at Sound = Sound
-shifted at (BreaksAt place) = BreaksAt (at + place)
+abbrev pub shifted : ℕ → Option ℕ → Option ℕ
+shifted at None = None
+shifted at (Some place) = Some (at + place)

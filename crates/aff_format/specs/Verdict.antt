@@ -1,17 +1,10 @@
 -- Answers of calls.
-use Rattle.std.specs.Prelude.{ℕ}
+use Rattle.std.specs.Prelude.{Result, Ok, Err}
 use Rattle.aff_format.specs.Answer.{Answer, accepted, refused}
 use Rattle.aff_format.specs.Refusal.{code_of_refusal}
-use Rattle.aff_format.specs.declared.verdict.NumberAnswer.{NumberAnswer}
-use Rattle.aff_format.specs.declared.verdict.NumberAnswer.TheVariants as number
-use Rattle.aff_format.specs.declared.verdict.Verdict.{Verdict}
-use Rattle.aff_format.specs.declared.verdict.Verdict.TheVariants.{Accepted, Refused}
+use Rattle.aff_format.specs.declared.refusal.Refusal.{Refusal}
 
--- What document 01 hands back in each case: without a value, and with a number.
-abbrev pub answer_of_verdict : Verdict → Answer (Unit {0})
-answer_of_verdict Accepted = accepted tt
-answer_of_verdict (Refused r) = refused (code_of_refusal r)
-
-abbrev pub answer_of_number : NumberAnswer → Answer ℕ
-answer_of_number (number.Value n) = accepted n
-answer_of_number (number.Refused r) = refused (code_of_refusal r)
+-- What document 01 hands back in each case of a result: its value, or the number and the places of its refusal.
+abbrev pub answer_of : {A : Type 0} → Result A Refusal → Answer A
+answer_of (Ok v) = accepted v
+answer_of (Err r) = refused (code_of_refusal r)

@@ -1,37 +1,39 @@
 // Runs of bytes.
-ghost use Rattle.std.specs.Prelude.{◌≡◌, ◌+◌, ◌≤◌, length};
+ghost use Rattle.std.specs.Prelude.{◌≡◌, ◌+◌, ◌≤◌, ◌==◌, length, position};
+ghost use Rattle.std.specs.List.{position_or_len};
 ghost use Rattle.aff_format.specs.Bytes.{same_bytes, spliced};
 ghost use Rattle.aff_format.specs.passes.Written.{Written};
 
 // Whether two runs are the same bytes.
-#[tactic(auto, using(crate::proofs::SameLaws::same_lengths, crate::proofs::SameLaws::same_differ, crate::proofs::SameLaws::same_next, crate::proofs::SameLaws::same_end))]
+#[tactic(auto, using(crate::proofs::StdLaws::same_bytes_is))]
 pub fn same(a: &[u8], b: &[u8]) -> bool
     ensures { result ≡ same_bytes a.now b.now }
 {
-    if a.len() != b.len() {
-        return false;
-    }
-    let mut i: usize = 0;
-    while i < a.len() {
-        if a[i] != b[i] {
-            return false;
-        }
-        i += 1;
-    }
-    true
+    a == b
+}
+
+// The first place of a byte.
+pub fn find_byte(bytes: &[u8], byte: u8) -> Option<usize>
+    ensures { result ≡ position (λ x. x == byte) bytes.now }
+{
+    bytes.iter().position(|&x| x == byte)
+}
+
+// How many bytes stand before the first that is `byte`: all of them where none is.
+pub fn bytes_before(bytes: &[u8], byte: u8) -> usize
+    ensures value { result ≡ position_or_len (λ x. x == byte) bytes.now }
+    ensures inside { result ≤ length bytes.now }
+{
+    find_byte(bytes, byte).unwrap_or(bytes.len())
 }
 
 // Stores a run from a place on.
-#[tactic(auto, using(crate::proofs::CopyLaws::copied_none, crate::proofs::CopyLaws::copied_all))]
+#[tactic(auto, using(crate::proofs::StdLaws::put_mid_spliced))]
 pub fn put(out: &mut [u8], at: usize, run: &[u8])
     requires { at + length run.now ≤ length out.old }
     ensures { out.new ≡ spliced at run.now out.old }
 {
-    let mut i: usize = 0;
-    while i < run.len() {
-        out[at + i] = run[i];
-        i += 1;
-    }
+    out[at..at + run.len()].copy_from_slice(run);
 }
 
 // Stores a run from a place on, and returns where it ends. One pass over the run.

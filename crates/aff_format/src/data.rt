@@ -10,18 +10,14 @@ pub fn is_outside(entry: Entry, from: usize, size: usize) -> bool
     requires { from + size < 2147483648 }
     ensures { result ≡ outside from size entry }
 {
-    let kind = entry.kind;
-    if kind.is_void() {
+    if entry.kind.is_void() {
         return false;
     }
     let first = from as u64;
     let end = (from + size) as u64;
-    if entry.offset < first {
+    if entry.offset < first || end < entry.offset {
         return true;
     }
-    if end < entry.offset {
-        return true;
-    }
-    let bytes = entry.count as u64 * kind.element_size() as u64;
+    let bytes = u64::from(entry.count) * entry.kind.element_size() as u64;
     end - entry.offset < bytes
 }

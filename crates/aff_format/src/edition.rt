@@ -1,29 +1,59 @@
 // The layout of each edition. What differs from edition to edition is in functions that match on it: its number, its text, the size of a section
 // header, whether that has a record count, the order of the section headers, whether it is written. (Its rule for names is in subkey.rt.) All
 // other sizes and places are computed from these and from the sizes that all editions share.
-ghost use Rattle.std.specs.Prelude.{◌≡◌, [], ◌∷◌, get_or};
-ghost use Rattle.aff_format.specs.declared.section.Section.TheVariants.{Symbol, Tree, Data};
-ghost use Rattle.aff_format.specs.Edition.{edition_number, signature_text, section_header_size, has_counts, section_rank, section_at, is_written, section_header_at, section_sum_at, header_sum_at, header_size, number_form, edition_of, is_known, edition_by, names_written};
+ghost use Rattle.std.specs.Prelude.{◌≡◌, eqb, position};
+ghost use Rattle.aff_format.specs.Section.{section_number};
+ghost use Rattle.aff_format.specs.Edition.{edition_number, signature_text, section_header_size, has_counts, header_order, section_rank, section_at, is_written, section_header_at, section_sum_at, header_sum_at, header_size, number_form, edition_of, EditionGiven, is_known, edition_by, names_written};
 
 use crate::number;
 use crate::section::Section;
+use std::error::Error;
+use std::fmt;
 
 // An edition of the format.
-#[derive(Clone, Copy)]
+#[derive(Clone, Copy, Debug, PartialEq, Eq)]
 pub enum Edition {
-    One,
-    Two,
-    Three,
+    One = 1,
+    Two = 2,
+    Three = 3,
 }
 
-// The edition of a number, if there is one.
-#[derive(Clone, Copy)]
-pub enum FoundEdition {
-    Known(Edition),
-    Unknown,
+// A number that no edition has.
+#[derive(Clone, Copy, Debug, PartialEq, Eq)]
+pub struct UnknownEdition(pub u32);
+
+impl fmt::Display for UnknownEdition {
+    ghost use Rattle.std.specs.Prelude.{Some};
+    ghost use Rattle.aff_format.specs.Edition.{unknown_edition_text};
+
+    ghost output = { λ e. Some (unknown_edition_text e) };
+
+    fn fmt<W: fmt::Write>(&self, f: &mut fmt::Formatter<W>) -> fmt::Result {
+        write!(f, "no edition has the number {}", self.0)
+    }
+}
+
+impl Error for UnknownEdition {}
+
+// The edition of a number: any number may be asked for.
+impl TryFrom<u32> for Edition {
+    type Error = UnknownEdition;
+
+    ghost try_from_gives = { EditionGiven };
+
+    fn try_from(n: u32) -> Result<Self, UnknownEdition> {
+        match n {
+            1 => Ok(Edition::One),
+            2 => Ok(Edition::Two),
+            3 => Ok(Edition::Three),
+            _ => Err(UnknownEdition(n)),
+        }
+    }
 }
 
 impl Edition {
+    pub const ALL: [Edition; 3] = [Edition::One, Edition::Two, Edition::Three];
+
     // Bytes of the signature, and of an MD5 sum.
     pub const SIGNATURE: usize = 32;
 
@@ -42,11 +72,7 @@ impl Edition {
     pub fn number(self) -> u32
         ensures { result ≡ edition_number self }
     {
-        match self {
-            Edition::One => 1,
-            Edition::Two => 2,
-            Edition::Three => 3,
-        }
+        self as u32
     }
 
     // The first 20 bytes of the signature.
@@ -67,8 +93,7 @@ impl Edition {
     {
         match self {
             Edition::One => 32,
-            Edition::Two => 40,
-            Edition::Three => 40,
+            Edition::Two | Edition::Three => 40,
         }
     }
 
@@ -76,50 +101,39 @@ impl Edition {
     pub fn has_counts(self) -> bool
         ensures { result ≡ has_counts self }
     {
+        matches!(self, Edition::Two | Edition::Three)
+    }
+
+    // The order of the section headers.
+    fn header_order(self) -> [Section; 3]
+        ensures { result ≡ header_order self }
+    {
         match self {
-            Edition::One => false,
-            Edition::Two => true,
-            Edition::Three => true,
+            Edition::One | Edition::Two => [Section::Symbol, Section::Tree, Section::Data],
+            Edition::Three => [Section::Data, Section::Symbol, Section::Tree],
         }
     }
 
-    // Whose section header is at a rank, 0 to 2: the order of the section headers.
+    // Whose section header is at a rank, 0 to 2.
     pub fn section_at(self, rank: usize) -> Section
         ensures { result ≡ section_at self rank }
     {
-        match self {
-            Edition::One => symbols_first(rank),
-            Edition::Two => symbols_first(rank),
-            Edition::Three => data_first(rank),
-        }
+        *self.header_order().get(rank).unwrap_or(&Section::Symbol)
     }
 
     // Whether the writer writes files of the edition.
     pub fn is_written(self) -> bool
         ensures { result ≡ is_written self }
     {
-        match self {
-            Edition::One => false,
-            Edition::Two => true,
-            Edition::Three => true,
-        }
+        matches!(self, Edition::Two | Edition::Three)
     }
 
     // Which of the three section headers is a section's, counted from 0.
+    #[tactic(auto, using(crate::proofs::EditionLaws::rank_by_position))]
     pub fn rank(self, section: Section) -> usize
         ensures { result ≡ section_rank self section }
     {
-        let number = section.number();
-        if number == self.section_at(0).number() {
-            return 0;
-        }
-        if number == self.section_at(1).number() {
-            return 1;
-        }
-        if number == self.section_at(2).number() {
-            return 2;
-        }
-        3
+        place_of(&self.header_order(), section).unwrap_or(3)
     }
 
     // Where the header of a section begins.
@@ -160,68 +174,37 @@ impl Edition {
         form
     }
 
-    pub fn from_number(n: u32) -> FoundEdition
+    pub fn from_number(n: u32) -> Option<Edition>
         ensures { result ≡ edition_of n }
     {
-        match n {
-            1 => FoundEdition::Known(Edition::One),
-            2 => FoundEdition::Known(Edition::Two),
-            3 => FoundEdition::Known(Edition::Three),
-            _ => FoundEdition::Unknown,
-        }
+        Edition::try_from(n).ok()
     }
 
     // The edition that a record names by its number; edition 2 for a number of no edition.
     pub fn by_number(n: u32) -> Edition
         ensures { result ≡ edition_by n }
     {
-        match Edition::from_number(n) {
-            FoundEdition::Known(edition) => edition,
-            FoundEdition::Unknown => Edition::Two,
-        }
+        Edition::from_number(n).unwrap_or(Edition::Two)
     }
 
     // Whether there is an edition of this number.
     pub fn exists(n: u32) -> bool
         ensures { result ≡ is_known (edition_of n) }
     {
-        match Edition::from_number(n) {
-            FoundEdition::Known(_) => true,
-            FoundEdition::Unknown => false,
-        }
+        Edition::from_number(n).is_some()
     }
 
     // Whether a number names an edition that is written.
     pub fn names_written(n: u32) -> bool
         ensures { result ≡ names_written n }
     {
-        match Edition::from_number(n) {
-            FoundEdition::Known(edition) => edition.is_written(),
-            FoundEdition::Unknown => false,
-        }
+        Edition::from_number(n).is_some_and(Edition::is_written)
     }
 }
 
-// The order symbol, tree, data by rank.
-fn symbols_first(rank: usize) -> Section
-    ensures { result ≡ get_or (Symbol ∷ Tree ∷ Data ∷ []) rank Symbol }
+// The place of a section among some.
+fn place_of(sections: &[Section], section: Section) -> Option<usize>
+    ensures { result ≡ position (λ other. eqb (section_number section) (section_number other)) sections.now }
 {
-    match rank {
-        0 => Section::Symbol,
-        1 => Section::Tree,
-        2 => Section::Data,
-        _ => Section::Symbol,
-    }
-}
-
-// The order data, symbol, tree by rank.
-fn data_first(rank: usize) -> Section
-    ensures { result ≡ get_or (Data ∷ Symbol ∷ Tree ∷ []) rank Symbol }
-{
-    match rank {
-        0 => Section::Data,
-        1 => Section::Symbol,
-        2 => Section::Tree,
-        _ => Section::Symbol,
-    }
+    sections.iter().position(|other| section == *other)
 }

@@ -1,13 +1,14 @@
 // One element of a node's data.
 ghost use Rattle.std.specs.Prelude.{◌≡◌, ◌+◌, ◌*◌, ◌<◌};
-ghost use Rattle.aff_format.specs.Element.{answer_of_element, count_in, element_at, decoded};
+ghost use Rattle.aff_format.specs.Verdict.{answer_of};
+ghost use Rattle.aff_format.specs.Element.{count_in, element_at, decoded};
 
 use crate::kind::Kind;
 use crate::number;
 use crate::refusal::Refusal;
 
 // A number of a node's data.
-#[derive(Clone, Copy)]
+#[derive(Clone, Copy, Debug, PartialEq)]
 pub enum Element {
     Byte(u8),
     Int(i32),
@@ -15,11 +16,8 @@ pub enum Element {
     Pair(f64, f64),
 }
 
-#[derive(Clone, Copy)]
-pub enum ElementAnswer {
-    Value(Element),
-    Refused(Refusal),
-}
+// The answer to an element request: a case that carries the element and one that carries a refusal.
+pub type ElementAnswer = Result<Element, Refusal>;
 
 // How many elements of a kind so many bytes hold.
 pub fn count_in(kind: Kind, bytes: &[u8]) -> usize
@@ -43,11 +41,11 @@ fn element_at(kind: Kind, bytes: &[u8], k: usize) -> Element
     match kind {
         Kind::Void => Element::Byte(0),
         Kind::Char => Element::Byte(bytes[k]),
-        Kind::Int => Element::Int(number::signed(number::be32(bytes, 4 * k))),
-        Kind::Double => Element::Real(number::real(number::be64(bytes, 8 * k))),
+        Kind::Int => Element::Int(number::signed(number::be::<4>(bytes, 4 * k) as u32)),
+        Kind::Double => Element::Real(number::real(number::be::<8>(bytes, 8 * k))),
         Kind::Complex => {
-            let re = number::real(number::be64(bytes, 16 * k));
-            let im = number::real(number::be64(bytes, 16 * k + 8));
+            let re = number::real(number::be::<8>(bytes, 16 * k));
+            let im = number::real(number::be::<8>(bytes, 16 * k + 8));
             Element::Pair(re, im)
         }
     }
@@ -57,10 +55,10 @@ fn element_at(kind: Kind, bytes: &[u8], k: usize) -> Element
 // is paid for. Every NaN pattern is returned as the language's one NaN.
 #[tactic(auto, unfolding(crate::specs::Element::decoded))]
 pub fn decode(kind: Kind, bytes: &[u8], k: usize) -> ElementAnswer
-    ensures { answer_of_element result ≡ decoded kind bytes.now k }
+    ensures { answer_of result ≡ decoded kind bytes.now k }
 {
     if count_in(kind, bytes) <= k {
-        return ElementAnswer::Refused(Refusal::IndexTooLarge);
+        return Err(Refusal::IndexTooLarge);
     }
-    ElementAnswer::Value(element_at(kind, bytes, k))
+    Ok(element_at(kind, bytes, k))
 }

@@ -1,23 +1,53 @@
 // The types of a node.
 ghost use Rattle.std.specs.Prelude.{◌≡◌};
-ghost use Rattle.aff_format.specs.Kind.{kind_code, kind_of, element_size, entry_size, is_void};
+ghost use Rattle.aff_format.specs.Kind.{kind_code, kind_of, KindGiven, element_size, entry_size, is_void};
 
 use crate::edition::Edition;
+use std::error::Error;
+use std::fmt;
 
-#[derive(Clone, Copy)]
+#[derive(Clone, Copy, Debug, PartialEq, Eq)]
 pub enum Kind {
-    Void,
-    Char,
-    Int,
-    Double,
-    Complex,
+    Void = 1,
+    Char = 2,
+    Int = 3,
+    Double = 4,
+    Complex = 5,
 }
 
-// The kind of a code, if there is one.
-#[derive(Clone, Copy)]
-pub enum FoundKind {
-    Known(Kind),
-    Unknown,
+// A code that no kind has.
+#[derive(Clone, Copy, Debug, PartialEq, Eq)]
+pub struct UnknownKind(pub u64);
+
+impl fmt::Display for UnknownKind {
+    ghost use Rattle.std.specs.Prelude.{Some};
+    ghost use Rattle.aff_format.specs.Kind.{unknown_kind_text};
+
+    ghost output = { λ e. Some (unknown_kind_text e) };
+
+    fn fmt<W: fmt::Write>(&self, f: &mut fmt::Formatter<W>) -> fmt::Result {
+        write!(f, "no kind has the code {}", self.0)
+    }
+}
+
+impl Error for UnknownKind {}
+
+// The kind of a code: any number may be asked for.
+impl TryFrom<u64> for Kind {
+    type Error = UnknownKind;
+
+    ghost try_from_gives = { KindGiven };
+
+    fn try_from(code: u64) -> Result<Self, UnknownKind> {
+        match code {
+            1 => Ok(Kind::Void),
+            2 => Ok(Kind::Char),
+            3 => Ok(Kind::Int),
+            4 => Ok(Kind::Double),
+            5 => Ok(Kind::Complex),
+            _ => Err(UnknownKind(code)),
+        }
+    }
 }
 
 impl Kind {
@@ -25,27 +55,14 @@ impl Kind {
     pub fn code(self) -> u8
         ensures { result ≡ kind_code self }
     {
-        match self {
-            Kind::Void => 1,
-            Kind::Char => 2,
-            Kind::Int => 3,
-            Kind::Double => 4,
-            Kind::Complex => 5,
-        }
+        self as u8
     }
 
-    // The kind of a code: any number may be asked for.
-    pub fn from_code(code: u64) -> FoundKind
+    // The kind of a code, if there is one.
+    pub fn from_code(code: u64) -> Option<Kind>
         ensures { result ≡ kind_of code }
     {
-        match code {
-            1 => FoundKind::Known(Kind::Void),
-            2 => FoundKind::Known(Kind::Char),
-            3 => FoundKind::Known(Kind::Int),
-            4 => FoundKind::Known(Kind::Double),
-            5 => FoundKind::Known(Kind::Complex),
-            _ => FoundKind::Unknown,
-        }
+        Kind::try_from(code).ok()
     }
 
     // Bytes of an element.
@@ -64,13 +81,7 @@ impl Kind {
     pub fn is_void(self) -> bool
         ensures { result ≡ is_void self }
     {
-        match self {
-            Kind::Void => true,
-            Kind::Char => false,
-            Kind::Int => false,
-            Kind::Double => false,
-            Kind::Complex => false,
-        }
+        self == Kind::Void
     }
 
     // Bytes of the tree entry of such a node.

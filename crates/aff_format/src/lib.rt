@@ -6,8 +6,6 @@ pub mod edition; // the layout of each edition
 pub mod kind; // the types of a node
 pub mod refusal; // the numbers handed back
 pub mod limits; // the sizes that the library takes
-pub mod verdict; // answers of calls
-pub mod lowest; // the lowest number of which something holds
 pub mod bytes; // runs of bytes
 pub mod number; // numbers in a file
 pub mod element; // one element of a node's data
@@ -18,12 +16,9 @@ pub mod data; // where an entry's data are
 pub mod align; // multiples of 8
 pub mod recorded; // strings and entries by their places
 
-pub use edition::{Edition, FoundEdition};
+pub use edition::{Edition, UnknownEdition};
 pub use element::{Element, ElementAnswer};
-pub use entry::{Entry, FoundEntry};
-pub use kind::{FoundKind, Kind};
-pub use lowest::Lowest;
+pub use entry::Entry;
+pub use kind::{Kind, UnknownKind};
 pub use refusal::{Refusal, RefusalCode};
 pub use section::Section;
-pub use subkey::Grammar;
-pub use verdict::{NumberAnswer, Verdict};

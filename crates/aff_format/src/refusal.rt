@@ -5,9 +5,11 @@ ghost use Rattle.aff_format.specs.Refusal.{code_of_refusal, number_of, place_of,
 
 use crate::limits;
 use crate::section::Section;
+use std::error::Error;
+use std::fmt;
 
 // A case for each row of the table, with what it reports. Number 8 is withdrawn (request C-14), and no case has it.
-#[derive(Clone, Copy)]
+#[derive(Clone, Copy, Debug, PartialEq, Eq)]
 pub enum Refusal {
     // A work area or the 12 bytes has another length, or the image is too long.
     WrongLength,
@@ -65,21 +67,32 @@ pub enum Refusal {
 }
 
 // A refusal as it is reported: its number, its place, and the place in the name that 10 reports besides.
-#[derive(Clone, Copy)]
+#[derive(Clone, Copy, Debug, PartialEq, Eq)]
 pub struct RefusalCode {
     pub number: u32,
     pub place: usize,
     pub second: usize,
 }
 
+// `refused N P`, as the listers print it.
+impl fmt::Display for Refusal {
+    ghost use Rattle.std.specs.Prelude.{Some};
+    ghost use Rattle.aff_format.specs.Refusal.{refused_text};
+
+    ghost output = { λ r. Some (refused_text r) };
+
+    fn fmt<W: fmt::Write>(&self, f: &mut fmt::Formatter<W>) -> fmt::Result {
+        let code = self.code();
+        write!(f, "refused {} {}", code.number, code.place)
+    }
+}
+
+impl Error for Refusal {}
+
 fn alone(number: u32) -> RefusalCode
     ensures { result ≡ refusal number }
 {
-    RefusalCode {
-        number,
-        place: 0,
-        second: 0,
-    }
+    with_place(number, 0)
 }
 
 fn with_place(number: u32, place: usize) -> RefusalCode
@@ -135,23 +148,20 @@ impl Refusal {
     pub fn number(self) -> u32
         ensures { result ≡ number_of self }
     {
-        let code = self.code();
-        code.number
+        self.code().number
     }
 
     // Column 'Place told'.
     pub fn place(self) -> usize
         ensures { result ≡ place_of self }
     {
-        let code = self.code();
-        code.place
+        self.code().place
     }
 
     // The place in the name that 10 reports besides its node.
     pub fn second_place(self) -> usize
         ensures { result ≡ second_of self }
     {
-        let code = self.code();
-        code.second
+        self.code().second
     }
 }

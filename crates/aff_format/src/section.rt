@@ -3,22 +3,20 @@ ghost use Rattle.std.specs.Prelude.{◌≡◌};
 ghost use Rattle.aff_format.specs.Section.{section_number};
 
 // In the order in which they are checked.
-#[derive(Clone, Copy)]
+#[derive(Clone, Copy, Debug, PartialEq, Eq)]
 pub enum Section {
-    Symbol,
-    Tree,
-    Data,
+    Symbol = 1,
+    Tree = 2,
+    Data = 3,
 }
 
 impl Section {
+    pub const ALL: [Section; 3] = [Section::Symbol, Section::Tree, Section::Data];
+
     // The number by which a refusal reports the section.
     pub fn number(self) -> usize
         ensures { result ≡ section_number self }
     {
-        match self {
-            Section::Symbol => 1,
-            Section::Tree => 2,
-            Section::Data => 3,
-        }
+        self as usize
     }
 }

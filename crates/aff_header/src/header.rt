@@ -40,12 +40,8 @@ pub fn put_section(
     ensures { out.new ≡ spliced at (section_header edition offset count section.now) out.old }
 {
     put_numbers(out, edition, at, offset, section.len(), count);
-    let sum = aff_md5::md5(section);
-    bytes::put(
-        out,
-        at + (edition.section_header_size() - Edition::SUM),
-        &sum,
-    );
+    let sum_at = at + (edition.section_header_size() - Edition::SUM);
+    bytes::put(out, sum_at, &aff_md5::md5(section));
 }
 
 // The signature: its text and the 12 bytes of form.
@@ -55,8 +51,7 @@ pub fn put_signature(out: &mut [u8], edition: Edition, form: [u8; 12])
     ensures area { out.new ≡ spliced 0 (signature_text edition ++ form) out.old }
     ensures form { length form ≡ 12 }
 {
-    let text = edition.signature_text();
-    bytes::put(out, 0, &text);
+    bytes::put(out, 0, &edition.signature_text());
     bytes::put(out, 20, &form);
 }
 

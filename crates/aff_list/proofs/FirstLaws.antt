@@ -9,16 +9,15 @@ use lib.Seq.{drop_at, length-take-le}
 use borrow.Author.Tests.{lt-ltb, le-ltb}
 use Rattle.aff_format.specs.Refusal.{number_of, place_of}
 use Rattle.aff_format.specs.declared.refusal.Refusal.{Refusal}
-use Rattle.aff_format.specs.declared.verdict.Verdict.{Verdict}
-use Rattle.aff_format.specs.declared.verdict.Verdict.TheVariants.{Accepted, Refused}
-use Rattle.aff_open.specs.Opening.{verdict_of, reader_after, strings_after, entries_after}
+use Rattle.std.specs.Prelude.{Result, Ok, Err}
+use Rattle.aff_open.specs.Opening.{reader_after, strings_after, entries_after}
 use Rattle.aff_reader.specs.Reader.{no_reader}
 use Rattle.aff_open.specs.Sections.{form_for}
 use Rattle.aff_reader.specs.declared.reader.Reader.{Reader}
 use Rattle.aff_listing.specs.declared.choice.Choice.{Choice}
 use Rattle.aff_format.specs.passes.Written.{Written}
 use Rattle.aff_format.proofs.WrittenLaws.{written_front, written_taken}
-use Rattle.aff_list.specs.Lister.{input_limit, is_long, Ready, Fills, Starts, judged, answer_of_prepared, lines_by, lines_after, order_after, printed_text, refusal_line, too_long_line, listed, printed, rows_from}
+use Rattle.aff_list.specs.Lister.{input_limit, is_long, Ready, Fills, Starts, judged, answer_of_prepared, lines_of, lines_after, order_after, printed_text, refusal_line, too_long_line, listed, printed, rows_from}
 use Rattle.aff_list.specs.declared.blocks.Prepared.{Prepared}
 use Rattle.aff_list.proofs.PrintedLaws.{printed_long, printed_short, rows_end}
 use Rattle.aff_list.proofs.ReadyLaws.{Decided, prepared_ready}
@@ -56,33 +55,27 @@ starts_lines {image} {reader} {strings} {entries} {text} {numbers} {lines} {next
       ready = λ h. r;
     }
 
--- What opening answered for an input that is not too long, and then what was put into the block.
+-- What was decided of an input that is not too long, and then what was put into the block.
 module _ (image : List ℕ) (choice : Choice) (strings entries numbers : List ℕ) (short : length image ≤ input_limit) (s : length strings ≡ 2048) (e : length entries ≡ 2048)
-    (o : Prepared) {ss es ns : List ℕ} (b : Decided image choice strings entries numbers (answer_of_prepared o) o.reader o.lines ss es ns) where
-  reported_is : (v : Verdict) → o.verdict ≡ v → verdict_of v o.reader ≡ judged image choice strings entries
-  reported_is v h = ap (λ (w : Verdict). verdict_of w o.reader) (sym h) ∙ b.0
-
-  listed_is : (v : Verdict) → o.verdict ≡ v → listed image choice strings entries ≡ printed_text image ss es choice (verdict_of v o.reader)
+    (o : Result Prepared Refusal) {ss es ns : List ℕ} (b : Decided image choice strings entries numbers (answer_of_prepared o) (lines_of o) ss es ns) where
+  listed_is : listed image choice strings entries ≡ printed_text image ss es choice (answer_of_prepared o)
   unfolding listed
-  listed_is v h = rw (sym (reported_is v h), b.1.1.1.0, b.1.1.1.1.0)
+  listed_is = rw (sym b.0, b.1.1.0, b.1.1.1.0)
 
-  printed_is : (v : Verdict) → o.verdict ≡ v → printed choice image ≡ printed_text image ss es choice (verdict_of v o.reader)
-  printed_is v h = printed_short choice image strings entries short s e ∙ listed_is v h
+  printed_is : printed choice image ≡ printed_text image ss es choice (answer_of_prepared o)
+  printed_is = printed_short choice image strings entries short s e ∙ listed_is
 
-  pub first_refused : (q : Refusal) → o.verdict ≡ Refused q → {used : ℕ} {before after : List ℕ}
+  pub first_refused : (q : Refusal) → o ≡ Err q → {reader : Reader} {used : ℕ} {before after : List ℕ}
       → Written 0 (refusal_line (number_of q) (place_of q)) before after used
-      → Starts image o.reader ss es (printed choice image) ns o.lines 0 used before after
-  unfolding lines_after
-  first_refused q h w =
-      let z : o.lines ≡ 0 = b.1.1.0 ∙ ap (lines_by image (strings_after image (form_for image) strings entries) (entries_after image (form_for image) strings entries) choice) (sym (reported_is (Refused q) h)) in
-      rw (printed_is (Refused q) h) (starts_whole z w)
+      → Starts image reader ss es (printed choice image) ns 0 0 used before after
+  first_refused q h w = rw (printed_is ∙ ap (λ p. printed_text image ss es choice (answer_of_prepared p)) h) (starts_whole refl w)
 
-  pub first_accepted : o.verdict ≡ Accepted → {next used : ℕ} {before after : List ℕ}
-      → Fills image o.reader ss es (take o.lines ns) 0 next used before after
-      → Starts image o.reader ss es (printed choice image) ns o.lines next used before after
-  first_accepted h f =
-      let l = prepared_ready image choice strings entries numbers o b h in
-      starts_lines l.few (printed_is Accepted h ∙ rw l.ordered) (rw l.ordered l.ready) f
+  pub first_accepted : (p : Prepared) → o ≡ Ok p → {next used : ℕ} {before after : List ℕ}
+      → Fills image p.reader ss es (take p.lines ns) 0 next used before after
+      → Starts image p.reader ss es (printed choice image) ns p.lines next used before after
+  first_accepted p h f =
+      let l = prepared_ready image choice strings entries numbers o b p h in
+      starts_lines l.few (printed_is ∙ ap (λ p. printed_text image ss es choice (answer_of_prepared p)) h ∙ rw l.ordered) (rw l.ordered l.ready) f
 
 -- What is left of an input: the first block, the record, the number of lines, the areas and listing order.
 module _ (image : List ℕ) (choice : Choice) (strings entries numbers : List ℕ) where

@@ -13,8 +13,7 @@ use borrow.Author.Tests.{eqb-true, ltb-true, lt-ltb, le-ltb}
 use Rattle.aff_format.specs.Answer.{Answer, accepted, refused, refusal, unless}
 use Rattle.aff_format.specs.Kind.{is_void}
 use Rattle.aff_format.specs.Lowest.{lowest_from, is_at}
-use Rattle.aff_format.specs.declared.lowest.Lowest.{Lowest}
-use Rattle.aff_format.specs.declared.lowest.Lowest.TheVariants.{Nothing, At}
+use Rattle.std.specs.Prelude.{Option, Some, None}
 use Rattle.aff_format.proofs.AnswerLaws.{not_both}
 use Rattle.aff_format.proofs.LowestLaws.{lowest_is, none_holds}
 use Rattle.aff_format.proofs.EditionLaws.{length_number_form}
@@ -141,9 +140,9 @@ module _ {image : List ℕ} {reader : Reader} {strings entries : List ℕ} (b : 
   unfolding path_too_long
   paths_refused = go (lowest_from too_long_at (length order) 0) refl
     where
-      go : (l : Lowest) → lowest_from too_long_at (length order) 0 ≡ l
+      go : (l : Option ℕ) → lowest_from too_long_at (length order) 0 ≡ l
           → (unless (is_at l) (refusal 21) (accepted reader) ≡ refused (refusal 21)) ↔ LongPath image reader strings entries choice
-      go Nothing e = (
+      go None e = (
         λ q. not_both (sym q),
         λ (node, h, t, long).
             let (j, i, f) = listed_placed node h t in
@@ -151,7 +150,7 @@ module _ {image : List ℕ} {reader : Reader} {strings entries : List ℕ} (b : 
             let over : too_long_at j ≡ true = rw f (lt-ltb path_limit (length (path_at image reader strings entries node)) long) in
             absurd (true≢false (sym over ∙ short)),
       )
-      go (At k) e =
+      go (Some k) e =
           let w = lowest_is too_long_at (length order) 0 k e in
           let i : k < length order = omega (arith, w.most) in (
             λ q. (get_or order k 0, order_exist b choice k i, placed_listed k i, ltb-true path_limit (length (path_at image reader strings entries (get_or order k 0))) w.holds),

@@ -9,17 +9,15 @@ use lib.Seq.{take_at}
 use borrow.Author.Tests.{lt-ltb, le-ltb}
 use Rattle.aff_format.specs.Answer.{Answer, accepted, refused, first_wrong}
 use Rattle.aff_format.specs.Refusal.{code_of_refusal}
-use Rattle.aff_format.specs.Verdict.{answer_of_verdict}
+use Rattle.aff_format.specs.Verdict.{answer_of}
 use Rattle.aff_format.specs.declared.refusal.Refusal.{Refusal}
-use Rattle.aff_format.specs.declared.verdict.Verdict.{Verdict}
-use Rattle.aff_format.specs.declared.verdict.Verdict.TheVariants.{Accepted, Refused}
+use Rattle.std.specs.Prelude.{Result, Ok, Err, IsErrAnd}
 use Rattle.aff_format.proofs.AnswerLaws.{not_both, passed, passed_value}
 use Rattle.aff_format.proofs.LowestLaws.{none_at}
 use Rattle.aff_format.proofs.VerdictLaws.{verdict_refuses, verdict_accepts}
-use Rattle.aff_reader.specs.Belongs.{ReaderBelongs}
-use Rattle.aff_open.specs.Opening.{open_answer, answer_of_opening, verdict_of, reader_after, strings_after, entries_after}
+use Rattle.aff_reader.specs.Belongs.{ReaderBelongs, reader_belongs}
+use Rattle.aff_open.specs.Opening.{open_answer, strings_after, entries_after}
 use Rattle.aff_open.specs.Sections.{form_for}
-use Rattle.aff_open.specs.declared.opening.Opening.{Opening}
 use Rattle.aff_reader.specs.declared.reader.Reader.{Reader}
 use Rattle.aff_reader.proofs.BelongsLaws.{belongs_record}
 use Rattle.aff_open.proofs.OpenedLaws.{opened_belongs}
@@ -29,7 +27,7 @@ use Rattle.aff_listing.specs.declared.choice.Choice.{Choice}
 use Rattle.aff_format.specs.passes.Capped.{capped}
 use Rattle.aff_format.proofs.CappedLaws.{capped_over, capped_exact}
 use Rattle.aff_listing.proofs.ListedLaws.{order_exist, order_length, count_most}
-use Rattle.aff_list.specs.Lister.{path_limit, path_too_long, path_checks, Ready, with_paths, judged, answer_of_prepared, lines_by, lines_after, with_order, order_after}
+use Rattle.aff_list.specs.Lister.{path_limit, path_too_long, path_checks, Ready, with_paths, judged, answer_of_prepared, lines_of, lines_by, lines_after, with_order, order_after}
 use Rattle.aff_list.specs.declared.blocks.Prepared.{Prepared}
 
 -- Whether a path is too long, by its length as it is counted.
@@ -65,69 +63,49 @@ module _ (image : List ℕ) (reader : Reader) (strings entries : List ℕ) (choi
     )
 
     -- The nodes measured are those listed, and so they decide.
-    module _ (v : Verdict) {lines : ℕ} {ns : List ℕ} (l : lines ≡ listed_count image reader strings entries choice) (n : ns ≡ order ++ drop (length order) o)
-        (m : answer_of_verdict v ≡ first_wrong (path_checks image reader strings entries (take lines ns)) (tt {0})) where
-      measured : answer_of_verdict v ≡ first_wrong (path_checks image reader strings entries order) (tt {0})
+    module _ (v : Result (Unit {0}) Refusal) {lines : ℕ} {ns : List ℕ} (l : lines ≡ listed_count image reader strings entries choice) (n : ns ≡ order ++ drop (length order) o)
+        (m : answer_of v ≡ first_wrong (path_checks image reader strings entries (take lines ns)) (tt {0})) where
+      measured : answer_of v ≡ first_wrong (path_checks image reader strings entries order) (tt {0})
       measured = m ∙ ap (λ (nodes : List ℕ). first_wrong (path_checks image reader strings entries nodes) (tt {0})) (order_front l n).1
 
-      pub paths_refuse : (q : Refusal) → v ≡ Refused q → refused (code_of_refusal q) ≡ with_paths image strings entries choice (accepted reader)
+      pub paths_refuse : (q : Refusal) → v ≡ Err q → refused (code_of_refusal q) ≡ with_paths image strings entries choice (accepted reader)
       paths_refuse q h = verdict_refuses (path_checks image reader strings entries order) v measured reader q h
 
-      pub paths_accept : v ≡ Accepted → accepted reader ≡ with_paths image strings entries choice (accepted reader)
+      pub paths_accept : v ≡ Ok tt → accepted reader ≡ with_paths image strings entries choice (accepted reader)
       paths_accept h = verdict_accepts (path_checks image reader strings entries order) v measured reader reader h refl
 
     pub order_few : listed_count image reader strings entries choice ≤ 2049
     order_few = omega (arith, count_most b choice, b.few_nodes)
 
--- What is returned and left before the first line: the answer, the record and the number of lines, the two areas, and listing order.
-abbrev pub Decided : List ℕ → Choice → List ℕ → List ℕ → List ℕ → Answer Reader → Reader → ℕ → List ℕ → List ℕ → List ℕ → Type 0
-Decided image choice strings entries numbers reported reader lines ss es ns =
-    (reported ≡ judged image choice strings entries) × ((reader ≡ reader_after (judged image choice strings entries)) × ((lines ≡ lines_after image choice strings entries)
-    × ((ss ≡ strings_after image (form_for image) strings entries) × ((es ≡ entries_after image (form_for image) strings entries) × (ns ≡ order_after image choice strings entries numbers)))))
+-- What `?` hands on of a refusal.
+pub refused_on : (o : Result Prepared Refusal) (q : Refusal) → IsErrAnd o (λ p. p ≡ q) → (answer_of_prepared o ≡ refused (code_of_refusal q)) × (lines_of o ≡ 0)
+refused_on (Ok a) q h = absurd h
+refused_on (Err p) q h = (ap (λ (x : Refusal). refused (code_of_refusal x)) h, refl)
+
+-- What is returned and left before the first line: the answer and the number of lines, the two areas, and listing order.
+abbrev pub Decided : List ℕ → Choice → List ℕ → List ℕ → List ℕ → Answer Reader → ℕ → List ℕ → List ℕ → List ℕ → Type 0
+Decided image choice strings entries numbers reported lines ss es ns =
+    (reported ≡ judged image choice strings entries) × ((lines ≡ lines_after image choice strings entries)
+    × ((ss ≡ strings_after image (form_for image) strings entries) × ((es ≡ entries_after image (form_for image) strings entries) × (ns ≡ order_after image choice strings entries numbers))))
 
 -- What opening answered.
-module _ (image : List ℕ) (choice : Choice) (strings entries numbers : List ℕ) {form ss es : List ℕ} (o : Opening) (f : form ≡ form_for image)
-    (reported : answer_of_opening o ≡ open_answer image form (length strings) (length entries))
+module _ (image : List ℕ) (choice : Choice) (strings entries numbers : List ℕ) {form ss es : List ℕ} (f : form ≡ form_for image) {a : Answer Reader}
+    (reported : a ≡ open_answer image form (length strings) (length entries))
     (s : ss ≡ strings_after image form strings entries) (e : es ≡ entries_after image form strings entries) where
-  opened_is : (v : Verdict) → o.verdict ≡ v → open_answer image form (length strings) (length entries) ≡ verdict_of v o.reader
-  opened_is v h = sym reported ∙ ap (λ (w : Verdict). verdict_of w o.reader) h
-
-  judged_is : (v : Verdict) → o.verdict ≡ v → with_paths image ss es choice (verdict_of v o.reader) ≡ judged image choice strings entries
+  pub judged_is : with_paths image ss es choice a ≡ judged image choice strings entries
   unfolding judged
-  judged_is v h = rw (s, e, sym (opened_is v h), f)
+  judged_is = rw (s, e, reported, f)
 
-  order_is : (v : Verdict) → o.verdict ≡ v → with_order image ss es choice numbers (verdict_of v o.reader) ≡ order_after image choice strings entries numbers
+  pub order_is : with_order image ss es choice numbers a ≡ order_after image choice strings entries numbers
   unfolding order_after
-  order_is v h = rw (s, e, sym (opened_is v h), f)
+  order_is = rw (s, e, reported, f)
 
-  lines_is : {a : Answer Reader} → a ≡ judged image choice strings entries → lines_by image ss es choice a ≡ lines_after image choice strings entries
+  pub lines_is : (b : Answer Reader) → b ≡ with_paths image ss es choice a → lines_by image ss es choice b ≡ lines_after image choice strings entries
   unfolding lines_after
-  lines_is j = rw (s, e, j, f)
+  lines_is b j = rw (s, e, j ∙ judged_is, f)
 
-  strings_left_lem : ss ≡ strings_after image (form_for image) strings entries
-  strings_left_lem = s ∙ ap (λ (l : List ℕ). strings_after image l strings entries) f
-
-  entries_left_lem : es ≡ entries_after image (form_for image) strings entries
-  entries_left_lem = e ∙ ap (λ (l : List ℕ). entries_after image l strings entries) f
-
-  pub prepared_refused : o.reader ≡ reader_after (answer_of_opening o) → (q : Refusal) → o.verdict ≡ Refused q
-      → Decided image choice strings entries numbers (refused (code_of_refusal q)) o.reader 0 ss es numbers
-  prepared_refused g q h =
-      let j = judged_is (Refused q) h in
-      let r = g ∙ ap (λ (w : Verdict). reader_after (verdict_of w o.reader)) h ∙ ap reader_after j in
-      (j, (r, (lines_is j, (strings_left_lem, (entries_left_lem, order_is (Refused q) h)))))
-
-  module _ (h : o.verdict ≡ Accepted) where
-    pub prepared_belongs : ReaderBelongs image o.reader ss es
-    prepared_belongs = rw (s, e) (belongs_record (opened_belongs image form strings entries (opened_is Accepted h)))
-
-    pub prepared_judged : (p : Prepared) {ns : List ℕ} → answer_of_prepared p ≡ with_paths image ss es choice (accepted o.reader)
-        → p.reader ≡ reader_after (answer_of_prepared p) → p.lines ≡ lines_by image ss es choice (answer_of_prepared p)
-        → ns ≡ with_order image ss es choice numbers (accepted o.reader)
-        → Decided image choice strings entries numbers (answer_of_prepared p) p.reader p.lines ss es ns
-    prepared_judged p a g l n =
-        let j = a ∙ judged_is Accepted h in
-        (j, (g ∙ ap reader_after j, (l ∙ lines_is j, (strings_left_lem, (entries_left_lem, n ∙ order_is Accepted h)))))
+  pub opened_ready : (r : Reader) → a ≡ accepted r → reader_belongs image r ss es ≡ true
+  opened_ready r h = rw (s, e) (opened_belongs image form strings entries (sym reported ∙ h))
 
 -- Accepted: the nodes listed are at the front of the area, and all is ready for their lines.
 pub record Listed (image : List ℕ) (reader : Reader) (strings entries : List ℕ) (choice : Choice) (lines : ℕ) (numbers : List ℕ) : Type 0 where
@@ -159,9 +137,9 @@ module _ (image : List ℕ) (choice : Choice) (strings entries numbers : List �
   unfolding judged order_after
   judged_ready a h = by_opening (open_answer image (form_for image) (length strings) (length entries)) refl a h
 
-  pub prepared_ready : (o : Prepared) {ss' es' ns : List ℕ} → Decided image choice strings entries numbers (answer_of_prepared o) o.reader o.lines ss' es' ns → o.verdict ≡ Accepted
-      → Listed image o.reader ss' es' choice o.lines ns
+  pub prepared_ready : (o : Result Prepared Refusal) {ss' es' ns : List ℕ} → Decided image choice strings entries numbers (answer_of_prepared o) (lines_of o) ss' es' ns
+      → (p : Prepared) → o ≡ Ok p → Listed image p.reader ss' es' choice p.lines ns
   unfolding lines_after
-  prepared_ready o (j, (g, (l, (s, (e, n))))) h =
-      let a : judged image choice strings entries ≡ accepted o.reader = sym j ∙ ap (λ (v : Verdict). verdict_of v o.reader) h in
-      rw (s, e, n, l, a) (judged_ready o.reader a)
+  prepared_ready o (j, (l, (s, (e, n)))) p h =
+      let a : judged image choice strings entries ≡ accepted p.reader = sym j ∙ ap answer_of_prepared h in
+      rw (s, e, n, sym (ap lines_of h) ∙ l, a) (judged_ready p.reader a)

@@ -1,12 +1,13 @@
 -- What the listers print of an image: document 01, 'The lister'; document 02, C-12. `list` prints the nodes that are not Void, `listall` all nodes.
-use Rattle.std.specs.Prelude.{◌≡◌, Bool, true, cond, List, [], ◌∷◌, ◌++◌, ◌↔◌, ℕ, ◌+◌, ◌≤◌, ◌<◌, ltb, length, get_or, take, drop, replicate}
+use Rattle.std.specs.Prelude.{◌≡◌, Bool, true, cond, List, [], ◌∷◌, ◌++◌, ◌↔◌, ℕ, ◌+◌, ◌≤◌, ◌<◌, ltb, length, get_or, take, drop, replicate, None, Result, Ok, Err}
 use Rattle.aff_format.specs.Answer.{Answer, accepted, refused, Check, check, refusal, first_wrong}
 use Rattle.aff_format.specs.Bytes.{Octets}
 use Rattle.aff_format.specs.Kind.{is_void}
 use Rattle.aff_format.specs.Lowest.{lowest_from, is_at}
-use Rattle.aff_format.specs.declared.lowest.Lowest.TheVariants.{Nothing}
+use Rattle.aff_format.specs.Refusal.{code_of_refusal}
+use Rattle.aff_format.specs.declared.refusal.Refusal.{Refusal}
 use Rattle.aff_reader.specs.Belongs.{ReaderBelongs}
-use Rattle.aff_open.specs.Opening.{open_answer, verdict_of, strings_after, entries_after}
+use Rattle.aff_open.specs.Opening.{open_answer, strings_after, entries_after}
 use Rattle.aff_open.specs.Sections.{form_for}
 use Rattle.aff_reader.specs.declared.reader.Reader.{Reader}
 use Rattle.aff_read.specs.Paths.{front_written}
@@ -65,7 +66,7 @@ module _ (image : List ℕ) (reader : Reader) (strings entries : List ℕ) where
   pub record Ready (order : List ℕ) : Type 0 where
     pub belongs : ReaderBelongs image reader strings entries
     pub exist : Exist reader order
-    pub fits : lowest_from (λ k. path_too_long (get_or order k 0)) (length order) 0 ≡ Nothing
+    pub fits : lowest_from (λ k. path_too_long (get_or order k 0)) (length order) 0 ≡ None
 
   -- A block is filled from its front with the lines of some nodes from place `from` up to place `next`: as many as fit, and one at least where one is
   -- left. The rest of it stays.
@@ -106,9 +107,14 @@ judged image choice strings entries =
     with_paths image (strings_after image (form_for image) strings entries) (entries_after image (form_for image) strings entries) choice
     (open_answer image (form_for image) (length strings) (length entries))
 
--- The answer that `begin` returns.
-abbrev pub answer_of_prepared : Prepared → Answer Reader
-answer_of_prepared b = verdict_of b.verdict b.reader
+-- The answer that `begin` returns, and its number of lines: none after a refusal.
+abbrev pub answer_of_prepared : Result Prepared Refusal → Answer Reader
+answer_of_prepared (Ok p) = accepted p.reader
+answer_of_prepared (Err q) = refused (code_of_refusal q)
+
+abbrev pub lines_of : Result Prepared Refusal → ℕ
+lines_of (Ok p) = p.lines
+lines_of (Err q) = 0
 
 -- How many lines there are: one for each node listed; none after a refusal.
 abbrev pub lines_by : List ℕ → List ℕ → List ℕ → Choice → Answer Reader → ℕ

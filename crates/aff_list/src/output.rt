@@ -6,13 +6,14 @@ ghost use Rattle.console.specs.Part.{AppendsPart};
 ghost use Rattle.aff_listing.specs.declared.choice.Choice.{Choice};
 ghost use Rattle.aff_list.specs.Lister.{input_limit, printed};
 
-use crate::blocks;
+use crate::blocks::{self, First};
 use aff_listing::Choice;
+use aff_reader::Opened;
 use std::io;
 use std::io::{Read, Write};
 
-// Prints the text of an input, block by block. After an error its first bytes are printed, but not all.
-fn print<W: Write>(out: &mut W, input: &[u8], choice: Choice) -> io::Result<()>
+// Prints the text of an input, block by block: each that is not empty by writes of its bytes. After an error its first bytes are printed, but not all.
+pub fn print<W: Write>(out: &mut W, input: &[u8], choice: Choice) -> io::Result<()>
     ensures all { OnOk result (Appends (W.contents out.old) (W.contents out.new) (printed choice input.now)) }
     ensures cut { OnErr result (AppendsPart (W.contents out.old) (W.contents out.new) (printed choice input.now)) }
 {
@@ -28,17 +29,22 @@ fn print<W: Write>(out: &mut W, input: &[u8], choice: Choice) -> io::Result<()>
         &mut order,
         &mut block,
     );
-    let reader = first.reader;
-    let lines = first.lines;
-    let used = first.used;
+    let First {
+        reader,
+        lines,
+        used,
+        mut next,
+    } = first;
     console::text(out, &block[..used])?;
-    let mut next = first.next;
+    let opened = Opened {
+        image: input,
+        reader,
+        strings: &strings,
+        entries: &entries,
+    };
     while next < lines {
-        let filled = blocks::fill(
-            input, reader, &strings, &entries, &order, lines, next, &mut block,
-        );
-        let used = filled.used;
-        console::text(out, &block[..used])?;
+        let filled = blocks::fill(&opened, &order[..lines], next, &mut block);
+        console::text(out, &block[..filled.used])?;
         next = filled.next;
     }
     Ok(())

@@ -9,8 +9,8 @@ use native.Mathlib.Numerals.{add-one}
 use native.Mathlib.Omega.{arith}
 use borrow.Author.Tests.{eqb-true, eqb-false}
 use lib.Dec.{eqb}
+use lib.Seq.{take-length}
 use lib.ListN.{length, get_or, take, length-append}
-use mir.Val.{bool_byte}
 use Rattle.aff_listing.specs.ListingOrder.{own, every, child_of, children_to, preorder, kept, kept_below}
 use Rattle.aff_listing.specs.Once.{hit, occurrences}
 use Rattle.aff_listing.proofs.OnceLaws.{hit_other, occurrences_append, cond_zero, cond_add, total, total_length, Below}
@@ -42,9 +42,15 @@ module _ (keep : ℕ → Bool) where
       (eq-or-lt_of_le h)
 
   -- One number more fits where all do.
-  pub kept_fit : (l : List ℕ) (i n : ℕ) → i < n → n ≤ length l → length (kept keep (take i l)) + length (own keep (get_or l i 0)) ≤ length (kept keep (take n l))
-  kept_fit l i n h few =
-      omega (arith, kept_growing l (i + 1) n (omega arith) few, ap length (kept_next l i (omega arith)), length-append (kept keep (take i l)) (own keep (get_or l i 0)))
+  pub kept_fit : (l : List ℕ) (i : ℕ) → i < length l → length (kept keep (take i l)) + length (own keep (get_or l i 0)) ≤ length (kept keep l)
+  kept_fit l i h =
+      omega (
+        arith,
+        kept_growing l (i + 1) (length l) (omega arith) (omega arith),
+        ap (λ (r : List ℕ). length (kept keep r)) (take-length l),
+        ap length (kept_next l i h),
+        length-append (kept keep (take i l)) (own keep (get_or l i 0)),
+      )
 
   -- ---- The order by `keep`.
 
@@ -111,15 +117,6 @@ module _ (keep : ℕ → Bool) where
   pub kept_length : (m : ℕ) (l : List ℕ) → ((k : ℕ) → k < m → occurrences k l ≡ 1) → Below m l → length (kept keep l) ≡ kept_below keep m
   kept_length m l once only =
       total_length m (kept keep l) (λ k g. kept_count k l ∙ cond_zero (keep k) (occurrences k l) (only k g)) ∙ kept_total m l once
-
-  -- One number more.
-  pub kept_more : {b : Bool} (m : ℕ) → b ≡ keep m → kept_below keep m + bool_byte b ≡ kept_below keep (m + 1)
-  unfolding kept_below
-  kept_more {b} m e = rw (add-one m, sym e) (ap (λ (j : ℕ). kept_below keep m + j) (as_number b))
-    where
-      as_number : (b : Bool) → bool_byte b ≡ cond b 1 0
-      as_number true = refl
-      as_number false = refl
 
   pub kept_none : (m : ℕ) → ((k : ℕ) → k < m → keep k ≡ false) → kept_below keep m ≡ 0
   unfolding kept_below

@@ -1,6 +1,5 @@
 -- Laws of the definitions in specs/, which proofs of this crate and of those above cite.
 pub mod ListingLaws
-pub mod ChildLaws
 pub mod OnceLaws
 pub mod KeptLaws
 pub mod ListedLaws

@@ -18,7 +18,6 @@ use Rattle.aff_listing.specs.Once.{occurrences}
 use Rattle.aff_nodes.specs.Recall.{parent_at}
 use Rattle.aff_listing.specs.declared.choice.Choice.{Choice}
 use Rattle.aff_listing.specs.declared.choice.Choice.TheVariants.{AllNodes}
-use Rattle.aff_listing.specs.passes.Children.{ParentsWithin}
 use Rattle.aff_format.specs.passes.Written.{Written}
 use Rattle.aff_listing.proofs.KeptLaws.{preorder_kept, kept_count, kept_length, kept_none, kept_most, every_below}
 use Rattle.aff_listing.proofs.ListingLaws.{preorder_same}
@@ -78,10 +77,6 @@ module _ {image : List ℕ} {reader : Reader} {strings entries : List ℕ} (b : 
   all_length = order_length b AllNodes ∙ every_below (reader.nodes + 1)
 
   module _ {parents : List ℕ} (copied : ParentsCopied (recorded_entry image entries) reader.nodes parents) where
-    -- The parents copied exist.
-    pub copied_exist : ParentsWithin (parent_in parents) reader.nodes
-    copied_exist = record { exists = λ k lo hi. rw (copied.parent k lo hi) (b.parent_exists k lo hi) }
-
     abbrev made : List ℕ
     made = preorder every (parent_in parents) (reader.nodes + 1) (reader.nodes + 1) 0
 

@@ -1,6 +1,6 @@
 -- Laws of listing order, in the terms of the passes that write it; those of a node written are of the order of every node. Assumes nothing.
 use mathlib.Core.Path.{◌≡◌, refl, sym, ap, ◌∙◌}
-use mathlib.Core.Bool.{Bool, true, false}
+use mathlib.Core.Bool.{Bool}
 use mathlib.Core.List.{List, [], ◌∷◌, ◌++◌, append-nil}
 use mathlib.Core.Logic.{⊎_elim}
 use Prim.Native.Nat.{ℕ, zero, suc, ◌+◌, ◌-◌, ◌≤◌, ◌<◌}
@@ -13,14 +13,6 @@ use Rattle.aff_listing.specs.ListingOrder.{own, every, child_of, children_to, pr
 use Rattle.aff_listing.specs.passes.Children.{NextChild}
 use Rattle.aff_format.specs.passes.Written.{Written}
 use Rattle.aff_format.proofs.WrittenLaws.{written_none, written_same, written_more, written_length}
-
-pub own_yes : (keep : ℕ → Bool) (n : ℕ) → keep n ≡ true → own keep n ≡ n ∷ []
-unfolding own
-own_yes keep n h = rw h
-
-pub own_no : (keep : ℕ → Bool) (n : ℕ) → keep n ≡ false → own keep n ≡ []
-unfolding own
-own_no keep n h = rw h
 
 module _ (f : ℕ → List ℕ) (parent : ℕ → ℕ) (n : ℕ) where
   -- The subtree of k where k is a child of n, and nothing else.

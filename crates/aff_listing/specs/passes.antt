@@ -1,2 +1,3 @@
 -- What only the contracts of inner passes cite; a user of the library needs none of it.
 pub mod Children
+pub mod Listed

@@ -2,21 +2,9 @@
 ghost use Rattle.std.specs.Prelude.{◌+◌, ◌≤◌, ◌<◌, length};
 ghost use Rattle.aff_format.specs.Limits.{node_limit};
 ghost use Rattle.aff_tables.specs.passes.Climb.{copied_parent as parent_in};
-ghost use Rattle.aff_listing.specs.passes.Children.{ChildTables, ParentsWithin, FrontFilled};
+ghost use Rattle.aff_listing.specs.passes.Children.{ChildTables, ParentsWithin};
 
 use aff_format::recorded;
-
-// Sets the first n numbers of a table.
-fn fill(table: &mut [u32], n: usize, value: u32)
-    requires { n ≤ length table.old }
-    ensures { FrontFilled value n table.new }
-{
-    let mut i: usize = 0;
-    while i < n {
-        table[i] = value;
-        i += 1;
-    }
-}
 
 // Puts node k before the children of its parent that have higher numbers.
 fn link(parents: &[u32], nodes: usize, k: usize, first: &mut [u32], next: &mut [u32])
@@ -34,10 +22,8 @@ pub fn link_all(parents: &[u32], nodes: usize, first: &mut [u32], next: &mut [u3
     requires { (nodes ≤ node_limit) × (nodes < length first.old) × (nodes < length next.old) × ParentsWithin (parent_in parents.now) nodes }
     ensures { ChildTables (parent_in parents.now) nodes 1 first.new next.new }
 {
-    fill(first, nodes + 1, nodes as u32 + 1);
-    let mut k = nodes;
-    while 0 < k {
+    first.fill(nodes as u32 + 1);
+    for k in (1..=nodes).rev() {
         link(parents, nodes, k, first, next);
-        k -= 1;
     }
 }

@@ -4,7 +4,7 @@ ghost use Rattle.aff_listing.specs.ListingOrder.{lists};
 
 use aff_format::Kind;
 
-#[derive(Clone, Copy)]
+#[derive(Clone, Copy, Debug, PartialEq, Eq)]
 pub enum Choice {
     AllNodes,
     NotVoid,

@@ -1,5 +1,5 @@
 // Listing order of an opened image, and the call that writes it. As with the other reading calls, the call first judges whether the record belongs to
-// image and areas (24); `listing_of`, which has a `requires`, does not judge again.
+// image and areas (24); `listing_of`, which takes one that does, does not judge again.
 #![tactic(auto)]
 
 pub mod choice; // which nodes a listing has

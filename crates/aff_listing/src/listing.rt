@@ -2,57 +2,48 @@
 ghost use Rattle.std.specs.Prelude.{◌≡◌, [], ◌∷◌, ◌+◌, ◌≤◌, ◌<◌, length, take};
 ghost use Rattle.aff_format.specs.Answer.{accepted};
 ghost use Rattle.aff_format.specs.Limits.{node_limit};
-ghost use Rattle.aff_reader.specs.Belongs.{ReaderBelongs};
+ghost use Rattle.aff_reader.specs.Opened.{of, opened_entry};
 ghost use Rattle.aff_reader.specs.passes.Belongs.{ParentsCopied};
 ghost use Rattle.aff_tables.specs.passes.Climb.{copied_parent as parent_in};
-ghost use Rattle.aff_format.specs.Recorded.{recorded_entry};
-ghost use Rattle.aff_format.specs.Verdict.{answer_of_number};
+ghost use Rattle.aff_format.specs.Verdict.{answer_of};
 ghost use Rattle.aff_read.specs.Paths.{front_written};
-ghost use Rattle.aff_listing.specs.ListingOrder.{own, every, children_to, preorder, kept, kept_below, is_listed, listing_order, listed_count, listing_answer};
+ghost use Rattle.aff_listing.specs.ListingOrder.{own, every, children_to, preorder, kept, kept_below, listing_order, listed_count, listing_answer};
 ghost use Rattle.aff_listing.specs.declared.choice.Choice.TheVariants.{AllNodes};
 ghost use Rattle.aff_listing.specs.passes.Children.{ChildTables};
+ghost use Rattle.aff_listing.specs.passes.Listed.{listed};
 ghost use Rattle.aff_format.specs.passes.Written.{Written};
 
 use crate::children;
 use crate::choice::Choice;
-use aff_format::{NumberAnswer, Refusal, recorded};
-use aff_reader::{Reader, belongs};
+use aff_format::{Refusal, recorded};
+use aff_reader::{Belonging, Opened};
 
 // Whether a choice lists a node.
-fn is_listed(image: &[u8], entries: &[u32], choice: Choice, node: usize) -> bool
-    ensures { result ≡ is_listed image.now entries.now choice node }
+fn is_listed(belonging: &Belonging<'_>, choice: Choice, node: usize) -> bool
+    ensures { result ≡ listed belonging.now.opened choice node }
 {
-    let entry = recorded::recorded_entry(image, entries, node);
-    let kind = entry.kind;
-    choice.lists(kind)
+    choice.lists(belonging.entry(node).kind)
 }
 
-// How many of the nodes 0 to `nodes` a choice lists. One pass over the nodes.
-#[tactic(auto, using(crate::proofs::KeptLaws::kept_most), unfolding(crate::specs::ListingOrder::kept_below))]
-fn count_listed(image: &[u8], nodes: usize, entries: &[u32], choice: Choice) -> usize
-    requires { nodes ≤ node_limit }
-    ensures { result ≡ kept_below (is_listed image.now entries.now choice) (nodes + 1) }
+// How many nodes a choice lists. One pass over the nodes.
+#[tactic(auto, unfolding(crate::specs::ListingOrder::kept_below))]
+fn count_listed(belonging: &Belonging<'_>, choice: Choice) -> usize
+    ensures { result ≡ of belonging.now.opened listed_count choice }
 {
-    let mut count: usize = 0;
-    let mut node: usize = 0;
-    while node <= nodes {
-        count += is_listed(image, entries, choice, node) as usize;
-        node += 1;
+    let mut count = 0;
+    for node in 0..=belonging.opened.reader.nodes {
+        count += is_listed(belonging, choice, node) as usize;
     }
     count
 }
 
-// Copies the parents of the nodes, for a record that belongs. One pass over the nodes.
-fn copy_parents(image: &[u8], reader: Reader, strings: &[u32], entries: &[u32], parents: &mut [u32])
-    requires { ReaderBelongs image.now reader strings.now entries.now × (reader.nodes < length parents.old) }
-    ensures { ParentsCopied (recorded_entry image.now entries.now) reader.nodes parents.new }
+// Copies the parents of the nodes. One pass over the nodes.
+fn copy_parents(belonging: &Belonging<'_>, parents: &mut [u32])
+    requires { belonging.now.opened.reader.nodes < length parents.old }
+    ensures { ParentsCopied (opened_entry belonging.now.opened) belonging.now.opened.reader.nodes parents.new }
 {
-    let nodes = reader.nodes;
-    let mut k: usize = 0;
-    while k < nodes {
-        k += 1;
-        let entry = recorded::recorded_entry(image, entries, k);
-        parents[k] = entry.parent as u32;
+    for k in 1..=belonging.opened.reader.nodes {
+        parents[k] = belonging.parent(k) as u32;
     }
 }
 
@@ -110,6 +101,7 @@ fn list_children(
 {
     let mut end = at;
     let mut k = recorded::place(first, node);
+    // It follows siblings and counts no index, so no `for` fits.
     while k <= nodes {
         end = list_node(parents, first, next, nodes, k, depth, end, order);
         k = recorded::place(next, k);
@@ -117,20 +109,14 @@ fn list_children(
     end
 }
 
-// Makes the order of all nodes, for a record that belongs, by tables made once. Returns how many they are.
-fn full_order(
-    image: &[u8],
-    reader: Reader,
-    strings: &[u32],
-    entries: &[u32],
-    order: &mut [u32; 2049],
-) -> usize
-    requires { ReaderBelongs image.now reader strings.now entries.now × (length order.old ≡ 2049) }
-    ensures { Written 0 (listing_order image.now reader strings.now entries.now AllNodes) order.old order.new result × (length order.new ≡ 2049) }
+// Makes the order of all nodes by tables made once. Returns how many they are.
+fn full_order(belonging: &Belonging<'_>, order: &mut [u32; 2049]) -> usize
+    requires { length order.old ≡ 2049 }
+    ensures { Written 0 (of belonging.now.opened listing_order AllNodes) order.old order.new result × (length order.new ≡ 2049) }
 {
-    let nodes = reader.nodes;
+    let nodes = belonging.opened.reader.nodes;
     let mut parents = [0u32; 2049];
-    copy_parents(image, reader, strings, entries, &mut parents);
+    copy_parents(belonging, &mut parents);
     let mut first = [0u32; 2049];
     let mut next = [0u32; 2049];
     children::link_all(&parents, nodes, &mut first, &mut next);
@@ -140,85 +126,64 @@ fn full_order(
 // Stores a number where the choice lists that node, and returns the place after it.
 #[tactic(auto, using(aff_format::proofs::WrittenLaws::written_one, aff_format::proofs::WrittenLaws::written_none), unfolding(crate::specs::ListingOrder::own))]
 fn put_listed(
-    image: &[u8],
-    entries: &[u32],
+    belonging: &Belonging<'_>,
     choice: Choice,
     node: u32,
     at: usize,
     out: &mut [u32],
 ) -> usize
-    requires { at + length (own (is_listed image.now entries.now choice) node) ≤ length out.old }
-    ensures { Written at (own (is_listed image.now entries.now choice) node) out.old out.new result }
+    requires { at + length (own (listed belonging.now.opened choice) node) ≤ length out.old }
+    ensures { Written at (own (listed belonging.now.opened choice) node) out.old out.new result }
 {
-    if is_listed(image, entries, choice, node as usize) {
+    if is_listed(belonging, choice, node as usize) {
         out[at] = node;
         return at + 1;
     }
     at
 }
 
-// Stores the first `count` nodes of an order at the front of an output, without those that the choice does not list. Returns how many it stored. One pass
-// over these nodes.
+// Stores the nodes of an order at the front of an output, without those that the choice does not list. Returns how many it stored. One pass over these
+// nodes.
 #[tactic(auto, using(aff_format::proofs::WrittenLaws::written_none), unfolding(crate::specs::ListingOrder::kept))]
 fn put_all_listed(
-    image: &[u8],
-    entries: &[u32],
+    belonging: &Belonging<'_>,
     choice: Choice,
     order: &[u32],
-    count: usize,
     out: &mut [u32],
 ) -> usize
-    requires { (count ≤ length order.now) × (length (kept (is_listed image.now entries.now choice) (take count order.now)) ≤ length out.old) }
-    ensures { Written 0 (kept (is_listed image.now entries.now choice) (take count order.now)) out.old out.new result }
+    requires { length (kept (listed belonging.now.opened choice) order.now) ≤ length out.old }
+    ensures { Written 0 (kept (listed belonging.now.opened choice) order.now) out.old out.new result }
 {
-    let mut end: usize = 0;
-    let mut i: usize = 0;
-    while i < count {
-        end = put_listed(image, entries, choice, order[i], end, out);
-        i += 1;
+    let mut end = 0;
+    for &node in order {
+        end = put_listed(belonging, choice, node, end, out);
     }
     end
 }
 
-// Writes the nodes that a choice lists, in listing order, at the front of an output with a place for each, for a record that belongs. Returns how many
-// they are. A few passes over the nodes: the order of all nodes is made in a table, then those listed are stored. Recursion depth is the number of levels
-// of the tree, at most 2,049, and a level takes 64 bytes as compiled for x86-64: with four tables of 8,196 bytes about 164,000 bytes of stack.
-pub fn listing_of(
-    image: &[u8],
-    reader: Reader,
-    strings: &[u32],
-    entries: &[u32],
-    choice: Choice,
-    out: &mut [u32],
-) -> usize
-    requires { ReaderBelongs image.now reader strings.now entries.now × (listed_count image.now reader strings.now entries.now choice ≤ length out.old) }
-    ensures answer { result ≡ listed_count image.now reader strings.now entries.now choice }
-    ensures output { out.new ≡ front_written (accepted result) (listing_order image.now reader strings.now entries.now choice) out.old }
+// Writes the nodes that a choice lists, in listing order, at the front of an output with a place for each. Returns how many they are. A few passes over the
+// nodes: the order of all nodes is made in a table, then those listed are stored. Recursion depth is the number of levels of the tree, at most 2,049, and
+// a level takes 64 bytes as compiled for x86-64: with four tables of 8,196 bytes about 164,000 bytes of stack.
+pub fn listing_of(belonging: &Belonging<'_>, choice: Choice, out: &mut [u32]) -> usize
+    requires { of belonging.now.opened listed_count choice ≤ length out.old }
+    ensures answer { result ≡ of belonging.now.opened listed_count choice }
+    ensures output { out.new ≡ front_written (accepted result) (of belonging.now.opened listing_order choice) out.old }
 {
     let mut order = [0u32; 2049];
-    let count = full_order(image, reader, strings, entries, &mut order);
-    put_all_listed(image, entries, choice, &order, count, out)
+    let count = full_order(belonging, &mut order);
+    put_all_listed(belonging, choice, &order[..count], out)
 }
 
 // Writes the numbers of the nodes that a choice lists, in listing order, at the front of an output; the rest of it stays: 24, 21. Returns how many it
 // wrote.
 #[tactic(auto, unfolding(crate::specs::ListingOrder::listing_answer))]
-pub fn listing(
-    image: &[u8],
-    reader: Reader,
-    strings: &[u32],
-    entries: &[u32],
-    choice: Choice,
-    out: &mut [u32],
-) -> NumberAnswer
-    ensures answer { answer_of_number result ≡ listing_answer image.now reader strings.now entries.now choice (length out.old) }
-    ensures output { out.new ≡ front_written (answer_of_number result) (listing_order image.now reader strings.now entries.now choice) out.old }
+pub fn listing(opened: &Opened<'_>, choice: Choice, out: &mut [u32]) -> Result<usize, Refusal>
+    ensures answer { answer_of result ≡ of opened.now listing_answer choice (length out.old) }
+    ensures output { out.new ≡ front_written (answer_of result) (of opened.now listing_order choice) out.old }
 {
-    if !belongs::belongs(image, reader, strings, entries) {
-        return NumberAnswer::Refused(Refusal::WrongRecord);
+    let belonging = opened.judge()?;
+    if out.len() < count_listed(&belonging, choice) {
+        return Err(Refusal::BufferTooSmall);
     }
-    if out.len() < count_listed(image, reader.nodes, entries, choice) {
-        return NumberAnswer::Refused(Refusal::BufferTooSmall);
-    }
-    NumberAnswer::Value(listing_of(image, reader, strings, entries, choice, out))
+    Ok(listing_of(&belonging, choice, out))
 }

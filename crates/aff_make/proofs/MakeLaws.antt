@@ -1,6 +1,6 @@
--- Make a child, in the terms of its code: whether a name is new, what 20 and 21 ask, and the calls after one another, which hand a
--- refusal on or leave the rest to the next. Assumes nothing.
-use mathlib.Core.Path.{◌≡◌, refl, ap, subst, ◌∙◌}
+-- Make a child, in the terms of its code: whether a name is new, what 20 and 21 ask, what an accepted make leaves, and which marks report
+-- a child of that name. Assumes nothing.
+use mathlib.Core.Path.{◌≡◌, ap, subst, ◌∙◌}
 use mathlib.Core.Bool.{Bool, true, false, cond, ◌&&◌}
 use mathlib.Core.List.{List, [], ◌∷◌, ◌++◌}
 use Prim.Native.Nat.{ℕ, ◌+◌, ◌-◌, ◌≤◌, ◌<◌}
@@ -8,32 +8,22 @@ use native.Mathlib.Omega.{arith}
 use lib.Dec.{eqb, ltb}
 use lib.ListN.{length, get_or}
 use borrow.Author.Tests.{lt-ltb, le-ltb, ltb-false}
-use Rattle.aff_format.specs.Answer.{accepted, refused, Check, first_wrong}
 use Rattle.aff_format.specs.Bytes.{spliced, laid_over}
 use Rattle.aff_format.specs.Entry.{slot_bytes}
 use Rattle.aff_format.specs.Limits.{string_limit, node_limit, text_area}
 use Rattle.aff_format.specs.Lowest.{lowest_from, is_at}
-use Rattle.aff_format.specs.Refusal.{code_of_refusal}
 use Rattle.aff_format.specs.Strings.{is_in, index_in}
-use Rattle.aff_format.specs.Verdict.{answer_of_verdict, answer_of_number}
 use Rattle.aff_format.specs.declared.kind.Kind.TheVariants.{Void}
-use Rattle.aff_format.specs.declared.refusal.Refusal.{Refusal}
-use Rattle.aff_format.specs.declared.verdict.Verdict.{Verdict}
-use Rattle.aff_format.specs.declared.verdict.Verdict.TheVariants.{Accepted, Refused}
-use Rattle.aff_format.specs.declared.verdict.NumberAnswer.TheVariants as answered
 use Rattle.aff_format.proofs.LowestLaws.{lowest_same}
 use Rattle.aff_format.proofs.StringsLaws.{is_in_index_in, index_in_within}
 use Rattle.aff_format.proofs.TestLaws.{or_false, left_short}
 use Rattle.aff_format.proofs.LaidLaws.{laid_at}
 use Rattle.aff_areas.specs.Areas.{names_in, slot_at, slot_entry}
-use Rattle.aff_areas.specs.Belongs.{WriterBelongs, writer_checks}
-use Rattle.aff_areas.specs.Writer.{writer_after, area_after}
+use Rattle.aff_areas.specs.Belongs.{WriterBelongs}
 use Rattle.aff_areas.specs.passes.Marks.{marks_of, is_marked}
 use Rattle.aff_areas.specs.declared.writer.Writer.{Writer}
-use Rattle.aff_areas.specs.declared.writer.Writing.{Writing}
-use Rattle.aff_areas.proofs.BelongsLaws.{judge_leaves, judge_refuses, judged_other}
 use Rattle.aff_areas.proofs.NameLaws.{mark_at, marks_many}
-use Rattle.aff_make.specs.Make.{added_strings, added_text, too_many, made_writer, made_text, made_tree, is_child, child_exists, child_checks}
+use Rattle.aff_make.specs.Make.{added_strings, added_text, too_many, made_text, made_tree, is_child, child_exists}
 
 -- 21, by the size and the text that the code has.
 pub buffer_short : (a s k : ℕ) {size added : ℕ} → s ≤ a → size ≡ s → added ≡ k → ltb (a - size) (13 + added) ≡ ltb a (s + 13 + k)
@@ -113,47 +103,6 @@ module _ (writer : Writer) (text name : List ℕ) where
 -- The buffer's length is the recorded one.
 pub belongs_own : {size : ℕ} {writer : Writer} {text tree : List ℕ} → WriterBelongs size writer text tree → WriterBelongs writer.length writer text tree
 belongs_own {size} {writer} {text} {tree} b = subst (λ (n : ℕ). WriterBelongs n writer text tree) b.length_recorded b
-
--- What a call promises that has some checks.
-abbrev pub Making : List Check → Writer → List ℕ → List ℕ → ℕ → List ℕ → Writing → List ℕ → List ℕ → Type 0
-Making checks writer text tree parent name r text' tree' =
-    (answer_of_number r.answer ≡ first_wrong checks (writer.nodes + 1))
-    × ((r.writer ≡ writer_after (answer_of_number r.answer) (made_writer writer text name) writer)
-    × ((text' ≡ area_after (answer_of_number r.answer) (made_text writer text name) text)
-    × (tree' ≡ area_after (answer_of_number r.answer) (made_tree writer text tree parent name) tree)))
-
-module _ (checks : List Check) (writer : Writer) (text tree : List ℕ) (parent : ℕ) (name : List ℕ) where
-  -- Refused: all is as it was.
-  pub refuses : (q : Refusal) {r : Writing} → eqb (code_of_refusal q).number 23 ≡ false → r ≡ record { answer = answered.Refused q; writer = writer }
-      → refused (code_of_refusal q) ≡ first_wrong checks (writer.nodes + 1) → Making checks writer text tree parent name r text tree
-  refuses q n e h = rw e (h, (rw n, (refl, refl)))
-
-  -- Accepted.
-  pub accepts : {next : Writer} {text' tree' : List ℕ} → accepted (writer.nodes + 1) ≡ first_wrong checks (writer.nodes + 1)
-      → next ≡ made_writer writer text name → text' ≡ made_text writer text name → tree' ≡ made_tree writer text tree parent name
-      → Making checks writer text tree parent name (record { answer = answered.Value (writer.nodes + 1); writer = next }) text' tree'
-  accepts h w t e = (h, (w, (t, e)))
-
-  -- The next call decides.
-  pub passes : (more : List Check) (r : Writing) {text' tree' : List ℕ} → first_wrong more (writer.nodes + 1) ≡ first_wrong checks (writer.nodes + 1)
-      → Making more writer text tree parent name r text' tree' → Making checks writer text tree parent name r text' tree'
-  passes more r e m = (m.0 ∙ e, m.1)
-
--- What `judge` refuses (24, 22) is the call's refusal; else the call's other checks decide.
-module _ (size : ℕ) (writer : Writer) (text tree : List ℕ) (parent : ℕ) (name : List ℕ) (v : Verdict)
-    (reported : answer_of_verdict v ≡ first_wrong (writer_checks size writer text tree) (tt {0})) where
-  pub judge_stops : (q : Refusal) {r : Writing} → v ≡ Refused q → r ≡ record { answer = answered.Refused q; writer = writer }
-      → Making (writer_checks size writer text tree ++ child_checks writer text tree parent name) writer text tree parent name r text tree
-  judge_stops q e h =
-      refuses (writer_checks size writer text tree ++ child_checks writer text tree parent name) writer text tree parent name q
-      (judged_other size writer text tree v reported q e) h (judge_refuses size writer text tree v reported (child_checks writer text tree parent name) (writer.nodes + 1) q e)
-
-  pub judge_passes : (r : Writing) {text' tree' : List ℕ} → v ≡ Accepted
-      → Making (child_checks writer text tree parent name) writer text tree parent name r text' tree'
-      → Making (writer_checks size writer text tree ++ child_checks writer text tree parent name) writer text tree parent name r text' tree'
-  judge_passes r e m =
-      passes (writer_checks size writer text tree ++ child_checks writer text tree parent name) writer text tree parent name (child_checks writer text tree parent name) r
-      (judge_leaves size writer text tree v reported (child_checks writer text tree parent name) (writer.nodes + 1) e) m
 
 -- 17: a child of that name is one whose string is marked.
 module _ {size : ℕ} {writer : Writer} {text tree : List ℕ} (b : WriterBelongs size writer text tree) (name : List ℕ) (marks₀ marks : List ℕ)

@@ -16,6 +16,10 @@ use Rattle.aff_areas.specs.Writer.{writer_edition}
 use Rattle.aff_areas.specs.declared.writer.Writer.{Writer}
 
 module _ (writer : Writer) (text : List ℕ) where
+  -- The number of a name: of the lowest string that it is, or of the next string.
+  abbrev pub string_number : List ℕ → ℕ
+  string_number name = index_in name (names_in writer text)
+
   -- A string is used again by name: a name that is one adds none, another one string with its zero.
   abbrev pub added_strings : List ℕ → ℕ
   added_strings name = cond (is_in name (names_in writer text)) 0 1
@@ -48,7 +52,7 @@ module _ (writer : Writer) (text : List ℕ) where
 
   -- The new node's entry: Void, with the lowest string that is its name.
   abbrev pub made_entry : ℕ → List ℕ → Entry
-  made_entry parent name = record { kind = Void; parent = parent; string = index_in name (names_in writer text); count = 0; offset = 0 }
+  made_entry parent name = record { kind = Void; parent = parent; string = string_number name; count = 0; offset = 0 }
 
 module _ (writer : Writer) (text tree : List ℕ) where
   -- 17: the parent has a child of that name.

@@ -1,23 +1,11 @@
 -- The blocks of a list, one after the other, and those of two lists joined: the whole blocks of p and then q. Assumes nothing.
-use Rattle.std.proofs.Common.{◌≡◌, ℕ, ◌+◌, ◌-◌, ◌*◌, ◌/◌, ◌<◌, ◌≤◌, List, ◌++◌, length, take, drop, sym, ap, ◌∙◌, add-one, arith, length-append, length-drop, take-append-drop, length-take-le}
+use Rattle.std.proofs.Common.{◌≡◌, ℕ, ◌+◌, ◌-◌, ◌*◌, ◌/◌, ◌<◌, ◌≤◌, List, ◌++◌, length, take, drop, sym, ap, ◌∙◌, arith, length-drop, take-append-drop, length-take-le}
 use lib.Seq.{take-append-le, drop-append-le, drop-append-add}
-use Rattle.aff_md5.specs.declared.State.{State}
-use Rattle.aff_md5.specs.Md5.{blocks, compress}
 use Rattle.aff_md5.specs.passes.WholeBlocks.{whole}
-
--- one more block taken in
-pub blocks_more : (h : State) (m b : List ℕ) (n : ℕ) (v w : State) → v ≡ blocks h m n → b ≡ take 64 (drop (64 * n) m)
-    → w ≡ compress v b → w ≡ blocks h m (n + 1)
-unfolding blocks
-blocks_more h m b n v w hv hb hw = rw (add-one, hw, hv, hb)
 
 -- the length of the whole blocks
 length_whole : (m : List ℕ) → length (whole m) ≡ 64 * (length m / 64)
 length_whole m = length-take-le (64 * (length m / 64)) m (omega arith)
-
--- how many blocks the joined list has
-pub whole_count : (p q : List ℕ) → length (whole p ++ q) / 64 ≡ length p / 64 + length q / 64
-whole_count p q = rw (length-append, length_whole p) (omega arith)
 
 -- a block below the number of p's is in the whole blocks of p, whatever q is
 inside : (p q : List ℕ) (n : ℕ) → n < length p / 64 → take 64 (drop (64 * n) (whole p ++ q)) ≡ take 64 (drop (64 * n) (whole p))

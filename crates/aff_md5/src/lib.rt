@@ -1,13 +1,12 @@
 // MD5, the message digest of RFC 1321. `specs/Md5.antt` defines it; `md5`, at the end, is the one public function.
 #![tactic(auto)]
 
-ghost use Rattle.std.specs.Prelude.{◌≡◌, ◌+◌, ◌*◌, ◌/◌, ◌%◌, ◌<◌, ◌≤◌, ◌++◌, length, take, drop, replicate};
-ghost use Rattle.aff_md5.specs.Md5.{rotl, word as word_of, turn as turned, mix as mix_of, step as step_of, compress as compressed, le, zeros, pad, all_blocks, output as output_of, md5 as md5_of};
-ghost use Rattle.aff_md5.specs.passes.StepTables.{Tables};
+ghost use Rattle.std.specs.Prelude.{◌≡◌, ◌+◌, ◌*◌, ◌/◌, ◌<◌, ◌≤◌, ◌++◌, length, take, drop};
+ghost use Rattle.aff_md5.specs.Md5.{word as word_of, turn as turned, mix as mix_of, step as step_of, compress as compressed, le, zeros, pad, all_blocks, output as output_of, md5 as md5_of};
 ghost use Rattle.aff_md5.specs.passes.WholeBlocks.{whole};
 
 // The four words A, B, C and D.
-#[derive(Clone, Copy)]
+#[derive(Clone, Copy, Debug, PartialEq, Eq)]
 struct State {
     a: u32,
     b: u32,
@@ -15,11 +14,10 @@ struct State {
     d: u32,
 }
 
-// The three tables of the 64 steps, by step number. An index into a constant copies the whole constant, so `md5` makes one local of
-// each table, and the functions that it calls borrow that.
+// The three tables of the 64 steps, by step number.
 
 // The additive constants.
-const T: [u32; 64] = [
+static T: [u32; 64] = [
     3614090360, 3905402710, 606105819, 3250441966, 4118548399, 1200080426, 2821735955, 4249261313,
     1770035416, 2336552879, 4294925233, 2304563134, 1804603682, 4254626195, 2792965006, 1236535329,
     4129170786, 3225465664, 643717713, 3921069994, 3593408605, 38016083, 3634488961, 3889429448,
@@ -31,14 +29,14 @@ const T: [u32; 64] = [
 ];
 
 // The shift amounts, in hexadecimal, a round in each line.
-const SHIFTS: [u8; 64] = *b"\
+static SHIFTS: [u8; 64] = *b"\
     \x07\x0c\x11\x16\x07\x0c\x11\x16\x07\x0c\x11\x16\x07\x0c\x11\x16\
     \x05\x09\x0e\x14\x05\x09\x0e\x14\x05\x09\x0e\x14\x05\x09\x0e\x14\
     \x04\x0b\x10\x17\x04\x0b\x10\x17\x04\x0b\x10\x17\x04\x0b\x10\x17\
     \x06\x0a\x0f\x15\x06\x0a\x0f\x15\x06\x0a\x0f\x15\x06\x0a\x0f\x15";
 
 // The numbers of the words, in hexadecimal, a round in each line.
-const WORDS: [u8; 64] = *b"\
+static WORDS: [u8; 64] = *b"\
     \x00\x01\x02\x03\x04\x05\x06\x07\x08\x09\x0a\x0b\x0c\x0d\x0e\x0f\
     \x01\x06\x0b\x00\x05\x0a\x0f\x04\x09\x0e\x03\x08\x0d\x02\x07\x0c\
     \x05\x08\x0b\x0e\x01\x04\x07\x0a\x0d\x00\x03\x06\x09\x0c\x0f\x02\
@@ -46,56 +44,13 @@ const WORDS: [u8; 64] = *b"\
 
 // ---- Bytes.
 
-// The number that x is; it is below 256.
-fn wide(x: u8) -> u32
-    ensures { (result ≡ x) × (result < 256) }
-{
-    x as u32
-}
-
-// The low byte of x.
-fn low(x: u64) -> u8
-    ensures { result ≡ x % 256 }
-{
-    (x % 256) as u8
-}
-
-// The four bytes of x, the low byte first.
-#[tactic(auto, using(crate::proofs::Writing::le_four))]
-fn four_bytes(x: u32) -> [u8; 4]
-    ensures { result ≡ le 4 x }
-{
-    let n = x as u64;
-    [low(n), low(n >> 8), low(n >> 16), low(n >> 24)]
-}
-
-// The eight bytes of x, the low byte first.
-#[tactic(auto, using(crate::proofs::Writing::le_eight))]
-fn eight_bytes(x: u64) -> [u8; 8]
-    ensures { result ≡ le 8 x }
-{
-    [
-        low(x),
-        low(x >> 8),
-        low(x >> 16),
-        low(x >> 24),
-        low(x >> 32),
-        low(x >> 40),
-        low(x >> 48),
-        low(x >> 56),
-    ]
-}
-
-// Writes s into b from index `at` on. The bytes of b before `at` stay; nothing is said of those after s.
+// Writes s into b from index `at` on. A function of its own, so that one contract says what `copy_from_slice` leaves at a part of an array.
+#[tactic(auto, using(crate::proofs::Writing::put_mid_over))]
 fn put(b: &mut [u8], at: usize, s: &[u8])
     requires { at + length s.now ≤ length b.old }
-    ensures { take (at + length s.now) b.new ≡ take at b.old ++ s.now }
+    ensures { b.new ≡ take at b.old ++ (s.now ++ drop (at + length s.now) b.old) }
 {
-    let mut i: usize = 0;
-    while i < s.len() {
-        b[at + i] = s[i];
-        i += 1;
-    }
+    b[at..at + s.len()].copy_from_slice(s);
 }
 
 // Writes x into b from index `at` on, the low byte first. The bytes of b before `at` stay; nothing is said of those after x.
@@ -103,61 +58,39 @@ fn put_word(b: &mut [u8], at: usize, x: u32)
     requires { at + 4 ≤ length b.old }
     ensures { take (at + 4) b.new ≡ take at b.old ++ le 4 x }
 {
-    let bytes = four_bytes(x);
-    put(b, at, &bytes);
-}
-
-// Writes n zeros into b from index `at` on. The bytes of b before `at` stay; nothing is said of those after them.
-fn clear(b: &mut [u8], at: usize, n: usize)
-    requires { at + n ≤ length b.old }
-    ensures { take (at + n) b.new ≡ take at b.old ++ replicate n 0 }
-{
-    let mut i: usize = 0;
-    while i < n {
-        b[at + i] = 0;
-        i += 1;
-    }
+    put(b, at, &x.to_le_bytes());
 }
 
 // ---- A block.
 
-// x rotated left by s bits. s % 32 equals s; with it the compiler makes one rotation of the last line.
-fn rotate(x: u32, s: u32) -> u32
-    requires { (0 < s) × (s < 32) }
-    ensures { result ≡ rotl x s }
-{
-    let n = s % 32;
-    x << n | x >> (32 - n)
-}
-
 // Word k of the block m.
 fn word(m: &[u8], k: usize) -> u32
-    requires { (length m.now ≡ 64) × (k < 16) }
+    requires block { length m.now ≡ 64 }
+    requires index { k < 16 }
     ensures { result ≡ word_of m.now k }
 {
     let i = 4 * k;
-    wide(m[i]) + wide(m[i + 1]) * 256 + wide(m[i + 2]) * 65536 + wide(m[i + 3]) * 16777216
+    u32::from_le_bytes([m[i], m[i + 1], m[i + 2], m[i + 3]])
 }
 
 // What a step makes of v, with f the round's function of v, x a word of the block, s a shift and t an additive constant.
 #[tactic(auto, unfolding(crate::specs::Md5::turn))]
 fn turn(v: State, f: u32, x: u32, s: u32, t: u32) -> State
-    requires { (0 < s) × (s < 32) }
+    requires least { 0 < s }
+    requires most { s < 32 }
     ensures { result ≡ turned v f x s t }
 {
-    let sum = std::num::wrapping_add_u32(
-        std::num::wrapping_add_u32(std::num::wrapping_add_u32(v.a, f), x),
-        t,
-    );
+    let sum = v.a.wrapping_add(f).wrapping_add(x).wrapping_add(t);
     State {
         a: v.d,
-        b: std::num::wrapping_add_u32(v.b, rotate(sum, s)),
+        b: v.b.wrapping_add(sum.rotate_left(s)),
         c: v.b,
         d: v.c,
     }
 }
 
-// The function of the round that step i is in, at x, y and z.
+// The function of the round that step i is in, at x, y and z. Comparisons, and no table of functions: one loop has the steps once, and
+// each function stands in it (request C-16).
 fn mix(i: usize, x: u32, y: u32, z: u32) -> u32
     requires { i < 64 }
     ensures { result ≡ mix_of (i / 16) x y z }
@@ -175,35 +108,34 @@ fn mix(i: usize, x: u32, y: u32, z: u32) -> u32
     }
 }
 
-// v after step i on the block m; t, s and k are the tables `T`, `SHIFTS` and `WORDS`. The word and the constant are read before `mix`:
-// so ordered, the compiler adds the word to v.a beside the computation of `mix` and not after it.
-#[tactic(auto, using(crate::proofs::StepTables::shift_positive, crate::proofs::StepTables::shift_below, crate::proofs::StepTables::word_below), unfolding(crate::specs::Md5::step))]
-fn step(v: State, m: &[u8], t: &[u32; 64], s: &[u8; 64], k: &[u8; 64], i: usize) -> State
-    requires { (length m.now ≡ 64) × Tables t.now s.now k.now × (i < 64) }
+// v after step i on the block m. The word and the constant are read before `mix`: so ordered, the compiler adds the word to v.a beside
+// the computation of `mix` and not after it.
+#[tactic(auto, unfolding(crate::specs::Md5::step))]
+fn step(v: State, m: &[u8], i: usize) -> State
+    requires block { length m.now ≡ 64 }
+    requires index { i < 64 }
     ensures { result ≡ step_of m.now i v }
 {
-    let x = word(m, wide(k[i]) as usize);
-    let c = t[i];
-    turn(v, mix(i, v.b, v.c, v.d), x, wide(s[i]), c)
+    let x = word(m, usize::from(WORDS[i]));
+    let t = T[i];
+    turn(v, mix(i, v.b, v.c, v.d), x, u32::from(SHIFTS[i]), t)
 }
 
 // h after the block m.
 #[tactic(auto, using(crate::proofs::Steps::done), unfolding(crate::specs::Md5::steps))]
-fn compress(h: State, m: &[u8], t: &[u32; 64], s: &[u8; 64], k: &[u8; 64]) -> State
-    requires { (length m.now ≡ 64) × Tables t.now s.now k.now }
+fn compress(h: State, m: &[u8]) -> State
+    requires { length m.now ≡ 64 }
     ensures { result ≡ compressed h m.now }
 {
     let mut v = h;
-    let mut i: usize = 0;
-    while i < 64 {
-        v = step(v, m, t, s, k, i);
-        i += 1;
+    for i in 0..64 {
+        v = step(v, m, i);
     }
     State {
-        a: std::num::wrapping_add_u32(h.a, v.a),
-        b: std::num::wrapping_add_u32(h.b, v.b),
-        c: std::num::wrapping_add_u32(h.c, v.c),
-        d: std::num::wrapping_add_u32(h.d, v.d),
+        a: h.a.wrapping_add(v.a),
+        b: h.b.wrapping_add(v.b),
+        c: h.c.wrapping_add(v.c),
+        d: h.d.wrapping_add(v.d),
     }
 }
 
@@ -212,40 +144,27 @@ fn compress(h: State, m: &[u8], t: &[u32; 64], s: &[u8; 64], k: &[u8; 64]) -> St
 // Block n of the whole blocks of `front` and then those of `back`.
 fn block<'a>(front: &'a [u8], back: &'a [u8], n: usize) -> &'a [u8]
     requires { n < length front.now / 64 + length back.now / 64 }
-    ensures { (result.now ≡ take 64 (drop (64 * n) (whole front.now ++ back.now))) × (length result.now ≡ 64) }
+    ensures value { result.now ≡ take 64 (drop (64 * n) (whole front.now ++ back.now)) }
+    ensures size { length result.now ≡ 64 }
 {
     let first = front.len() / 64;
     if n < first {
-        let a = 64 * n;
-        let e = a + 64;
-        return &front[a..e];
+        return &front[64 * n..64 * n + 64];
     }
-    let a = 64 * (n - first);
-    let e = a + 64;
-    &back[a..e]
+    let at = 64 * (n - first);
+    &back[at..at + 64]
 }
 
 // h after the whole blocks of `front` and then those of `back`. All blocks of a message go through this one loop, those with its padding
 // too, so that the compiled code has the steps once.
 #[tactic(auto, unfolding(crate::specs::Md5::blocks))]
-fn absorb<'a>(
-    h: State,
-    front: &'a [u8],
-    back: &'a [u8],
-    t: &[u32; 64],
-    s: &[u8; 64],
-    k: &[u8; 64],
-) -> State
-    requires { Tables t.now s.now k.now }
+fn absorb(h: State, front: &[u8], back: &[u8]) -> State
     ensures { result ≡ all_blocks h (whole front.now ++ back.now) }
 {
     let all = front.len() / 64 + back.len() / 64;
     let mut v = h;
-    let mut n: usize = 0;
-    while n < all {
-        let m = block(front, back, n);
-        v = compress(v, m, t, s, k);
-        n += 1;
+    for n in 0..all {
+        v = compress(v, block(front, back, n));
     }
     v
 }
@@ -260,19 +179,16 @@ fn padded_size(rest: usize) -> usize
 
 // The last bytes of a message, fewer than a block, with the padding for a message of so many bits: one block or two, and nothing is
 // said of the rest of the result.
-#[tactic(auto, using(crate::proofs::Padding::padded))]
 fn last(s: &[u8], bits: u64) -> [u8; 128]
     requires { length s.now < 64 }
     ensures { take (length (pad s.now bits)) result ≡ pad s.now bits }
 {
     let rest = s.len();
-    let z = (119 - rest) % 64;
-    let count = eight_bytes(bits);
-    let mut tail = [0u8; 128];
+    let end = padded_size(rest);
+    let mut tail = [0; 128];
     put(&mut tail, 0, s);
     tail[rest] = 0x80;
-    clear(&mut tail, rest + 1, z);
-    put(&mut tail, rest + 1 + z, &count);
+    put(&mut tail, end - 8, &bits.to_le_bytes());
     tail
 }
 
@@ -290,13 +206,9 @@ fn output(v: State) -> [u8; 16]
 }
 
 // The MD5 digest of a message of any length. The message is read where it is, not copied.
-#[tactic(auto, unfolding(crate::specs::Md5::additive, crate::specs::Md5::shifts, crate::specs::Md5::word_order))]
 pub fn md5(message: &[u8]) -> [u8; 16]
     ensures { result ≡ md5_of message.now }
 {
-    let t = T;
-    let s = SHIFTS;
-    let k = WORDS;
     let h = State {
         a: 0x67452301,
         b: 0xefcdab89,
@@ -304,8 +216,8 @@ pub fn md5(message: &[u8]) -> [u8; 16]
         d: 0x10325476,
     };
     let n = message.len();
-    let a = 64 * (n / 64);
-    let tail = last(&message[a..], (n as u64) << 3);
-    let e = padded_size(n % 64);
-    output(absorb(h, message, &tail[0..e], &t, &s, &k))
+    let whole = 64 * (n / 64);
+    let tail = last(&message[whole..], (n as u64) << 3);
+    let end = padded_size(n % 64);
+    output(absorb(h, message, &tail[..end]))
 }

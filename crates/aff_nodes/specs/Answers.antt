@@ -2,26 +2,12 @@
 use Rattle.std.specs.Prelude.{not, List, [], ◌∷◌, ◌++◌, ℕ, ltb, leb}
 use Rattle.aff_format.specs.Answer.{Answer, accepted, refused, Check, check, refusal, first_wrong}
 use Rattle.aff_format.specs.Element.{element_at}
-use Rattle.aff_format.specs.Refusal.{code_of_refusal}
 use Rattle.aff_format.specs.declared.element.Element.{Element}
 use Rattle.aff_format.specs.declared.kind.Kind.{Kind}
 use Rattle.aff_reader.specs.Belongs.{reader_belongs}
 use Rattle.aff_reader.specs.declared.reader.Span.{Span}
 use Rattle.aff_reader.specs.declared.reader.Reader.{Reader}
 use Rattle.aff_nodes.specs.Recall.{kind_at, count_at, name_span, data_span, span_bytes, bytes_at}
-use Rattle.aff_nodes.specs.declared.answers.KindAnswer.{KindAnswer}
-use Rattle.aff_nodes.specs.declared.answers.KindAnswer.TheVariants as kind_case
-use Rattle.aff_nodes.specs.declared.answers.PartAnswer.{PartAnswer}
-use Rattle.aff_nodes.specs.declared.answers.PartAnswer.TheVariants as part_case
-
--- The value or the refusal of document 01 in each case of an answer.
-abbrev pub answer_of_kind : KindAnswer → Answer Kind
-answer_of_kind (kind_case.Value k) = accepted k
-answer_of_kind (kind_case.Refused r) = refused (code_of_refusal r)
-
-abbrev pub answer_of_part : PartAnswer → Answer Span
-answer_of_part (part_case.At s) = accepted s
-answer_of_part (part_case.Refused r) = refused (code_of_refusal r)
 
 -- The part itself: empty where the call is refused.
 abbrev pub part_of : List ℕ → Answer Span → List ℕ

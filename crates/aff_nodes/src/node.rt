@@ -1,150 +1,95 @@
 // Name, kind, count and data of a node.
 ghost use Rattle.std.specs.Prelude.{◌≡◌, ◌+◌, ◌≤◌, length};
 ghost use Rattle.aff_format.specs.Answer.{first_wrong};
-ghost use Rattle.aff_format.specs.Element.{answer_of_element, decoded};
-ghost use Rattle.aff_format.specs.Verdict.{answer_of_verdict, answer_of_number};
-ghost use Rattle.aff_reader.specs.Belongs.{ReaderBelongs};
-ghost use Rattle.aff_nodes.specs.Answers.{answer_of_kind, answer_of_part, part_of, exists_checks, name_answer, kind_answer, count_answer, view_answer, element_answer};
+ghost use Rattle.aff_format.specs.Element.{decoded};
+ghost use Rattle.aff_format.specs.Verdict.{answer_of};
+ghost use Rattle.aff_reader.specs.Judged.{opened_of};
+ghost use Rattle.aff_reader.specs.Opened.{of};
+ghost use Rattle.aff_nodes.specs.Answers.{part_of, exists_checks, name_answer, kind_answer, count_answer, view_answer, element_answer};
 ghost use Rattle.aff_nodes.specs.Recall.{kind_at, name_span, data_span, span_bytes, bytes_at};
 
-use crate::answers::{KindAnswer, PartAnswer};
-use aff_format::{ElementAnswer, Kind, NumberAnswer, Refusal, Verdict, element, recorded};
-use aff_reader::{Reader, Span, belongs};
+use aff_format::{ElementAnswer, Kind, Refusal, element, recorded};
+use aff_reader::{Belonging, Opened, Span};
 
 // 24, 15: what every call on a node judges first.
-pub fn judge(image: &[u8], reader: Reader, strings: &[u32], entries: &[u32], node: usize) -> Verdict
-    ensures { answer_of_verdict result ≡ first_wrong (exists_checks image.now reader strings.now entries.now node) tt }
+pub fn judge<'a>(opened: &Opened<'a>, node: usize) -> Result<Belonging<'a>, Refusal>
+    ensures { answer_of (opened_of result) ≡ first_wrong (of opened.now exists_checks node) opened.now }
 {
-    if !belongs::belongs(image, reader, strings, entries) {
-        return Verdict::Refused(Refusal::WrongRecord);
+    let belonging = opened.judge()?;
+    if opened.reader.nodes < node {
+        return Err(Refusal::Absent);
     }
-    if reader.nodes < node {
-        return Verdict::Refused(Refusal::Absent);
-    }
-    Verdict::Accepted
+    Ok(belonging)
 }
 
-// Where the name of a node is, for a record that belongs.
+// Where the name of a node is.
 #[tactic(auto, using(crate::proofs::SpanLaws::name_root, crate::proofs::SpanLaws::name_other))]
-pub fn name_span(
-    image: &[u8],
-    reader: Reader,
-    strings: &[u32],
-    entries: &[u32],
-    node: usize,
-) -> Span
-    requires { ReaderBelongs image.now reader strings.now entries.now × (node ≤ reader.nodes) }
-    ensures { result ≡ name_span image.now reader strings.now entries.now node }
+pub fn name_span(belonging: &Belonging<'_>, node: usize) -> Span
+    requires { node ≤ belonging.now.opened.reader.nodes }
+    ensures { result ≡ of belonging.now.opened name_span node }
 {
     if node == 0 {
-        return Span::none();
+        return Span::default();
     }
-    let symbols = reader.symbols;
-    let entry = recorded::recorded_entry(image, entries, node);
-    let from = recorded::place(strings, entry.string as usize);
-    let end = recorded::name_end(image, from, symbols.offset + symbols.size);
+    let Opened { image, strings, .. } = belonging.opened;
+    let offset = recorded::place(strings, belonging.entry(node).string as usize);
+    let end = recorded::name_end(image, offset, belonging.symbols_end());
     Span {
-        offset: from,
-        size: end - from,
+        offset,
+        size: end - offset,
     }
 }
 
-// Where the data of a node are, for a record that belongs.
+// Where the data of a node are.
 #[tactic(auto, using(crate::proofs::SpanLaws::data_void, crate::proofs::SpanLaws::data_full))]
-pub fn data_span(
-    image: &[u8],
-    reader: Reader,
-    strings: &[u32],
-    entries: &[u32],
-    node: usize,
-) -> Span
-    requires { ReaderBelongs image.now reader strings.now entries.now × (node ≤ reader.nodes) }
-    ensures { result ≡ data_span image.now entries.now node }
+pub fn data_span(belonging: &Belonging<'_>, node: usize) -> Span
+    requires { node ≤ belonging.now.opened.reader.nodes }
+    ensures { result ≡ data_span belonging.now.opened.image.now belonging.now.opened.entries.now node }
 {
-    let entry = recorded::recorded_entry(image, entries, node);
-    let kind = entry.kind;
-    if kind.is_void() {
-        return Span::none();
+    let entry = belonging.entry(node);
+    if entry.kind.is_void() {
+        return Span::default();
     }
     Span {
         offset: entry.offset as usize,
-        size: entry.count as usize * kind.element_size(),
+        size: entry.count as usize * entry.kind.element_size(),
     }
 }
 
 // The name of a node: where it is in the image, up to its zero or to the symbol section's end. The root's is empty.
-#[tactic(auto, using(crate::proofs::JudgeLaws::judge_belongs), unfolding(crate::specs::Answers::name_answer))]
-pub fn name_bounds(
-    image: &[u8],
-    reader: Reader,
-    strings: &[u32],
-    entries: &[u32],
-    node: usize,
-) -> PartAnswer
-    ensures { answer_of_part result ≡ name_answer image.now reader strings.now entries.now node }
+#[tactic(auto, unfolding(crate::specs::Answers::name_answer))]
+pub fn name_bounds(opened: &Opened<'_>, node: usize) -> Result<Span, Refusal>
+    ensures { answer_of result ≡ of opened.now name_answer node }
 {
-    match judge(image, reader, strings, entries, node) {
-        Verdict::Refused(refusal) => PartAnswer::Refused(refusal),
-        Verdict::Accepted => PartAnswer::At(name_span(image, reader, strings, entries, node)),
-    }
+    let belonging = judge(opened, node)?;
+    Ok(name_span(&belonging, node))
 }
 
 // The kind of a node. The root is Void.
 #[tactic(auto, unfolding(crate::specs::Answers::kind_answer))]
-pub fn kind(
-    image: &[u8],
-    reader: Reader,
-    strings: &[u32],
-    entries: &[u32],
-    node: usize,
-) -> KindAnswer
-    ensures { answer_of_kind result ≡ kind_answer image.now reader strings.now entries.now node }
+pub fn kind(opened: &Opened<'_>, node: usize) -> Result<Kind, Refusal>
+    ensures { answer_of result ≡ of opened.now kind_answer node }
 {
-    match judge(image, reader, strings, entries, node) {
-        Verdict::Refused(refusal) => KindAnswer::Refused(refusal),
-        Verdict::Accepted => {
-            let entry = recorded::recorded_entry(image, entries, node);
-            let kind = entry.kind;
-            KindAnswer::Value(kind)
-        }
-    }
+    let belonging = judge(opened, node)?;
+    Ok(belonging.entry(node).kind)
 }
 
 // The count of a node's elements; 0 of a Void one.
 #[tactic(auto, unfolding(crate::specs::Answers::count_answer))]
-pub fn count(
-    image: &[u8],
-    reader: Reader,
-    strings: &[u32],
-    entries: &[u32],
-    node: usize,
-) -> NumberAnswer
-    ensures { answer_of_number result ≡ count_answer image.now reader strings.now entries.now node }
+pub fn count(opened: &Opened<'_>, node: usize) -> Result<usize, Refusal>
+    ensures { answer_of result ≡ of opened.now count_answer node }
 {
-    match judge(image, reader, strings, entries, node) {
-        Verdict::Refused(refusal) => NumberAnswer::Refused(refusal),
-        Verdict::Accepted => {
-            let entry = recorded::recorded_entry(image, entries, node);
-            NumberAnswer::Value(entry.count as usize)
-        }
-    }
+    let belonging = judge(opened, node)?;
+    Ok(belonging.entry(node).count as usize)
 }
 
 // The data of a node: where they are in the image. A Void node has none.
-#[tactic(auto, using(crate::proofs::JudgeLaws::judge_belongs), unfolding(crate::specs::Answers::view_answer))]
-pub fn view_bounds(
-    image: &[u8],
-    reader: Reader,
-    strings: &[u32],
-    entries: &[u32],
-    node: usize,
-) -> PartAnswer
-    ensures { answer_of_part result ≡ view_answer image.now reader strings.now entries.now node }
+#[tactic(auto, unfolding(crate::specs::Answers::view_answer))]
+pub fn view_bounds(opened: &Opened<'_>, node: usize) -> Result<Span, Refusal>
+    ensures { answer_of result ≡ of opened.now view_answer node }
 {
-    match judge(image, reader, strings, entries, node) {
-        Verdict::Refused(refusal) => PartAnswer::Refused(refusal),
-        Verdict::Accepted => PartAnswer::At(data_span(image, reader, strings, entries, node)),
-    }
+    let belonging = judge(opened, node)?;
+    Ok(data_span(&belonging, node))
 }
 
 // The bytes of the image that a span names, where it lies inside.
@@ -152,77 +97,45 @@ fn span_of<'a>(image: &'a [u8], span: Span) -> &'a [u8]
     requires { span.offset + span.size ≤ length image.now }
     ensures { result.now ≡ span_bytes image.now span }
 {
-    let from = span.offset;
-    let end = from + span.size;
-    &image[from..end]
+    &image[span.offset..span.offset + span.size]
 }
 
 // The name of a node, as a part of the image; empty where the call is refused.
 #[tactic(auto, using(crate::proofs::JudgeLaws::span_inside_lem, crate::proofs::SpanLaws::name_within), unfolding(crate::specs::Answers::name_answer))]
-pub fn name<'a>(
-    image: &'a [u8],
-    reader: Reader,
-    strings: &[u32],
-    entries: &[u32],
-    node: usize,
-) -> &'a [u8]
-    ensures { result.now ≡ part_of image.now (name_answer image.now reader strings.now entries.now node) }
+pub fn name<'a>(opened: &Opened<'a>, node: usize) -> &'a [u8]
+    ensures { result.now ≡ part_of opened.now.image.now (of opened.now name_answer node) }
 {
-    match name_bounds(image, reader, strings, entries, node) {
-        PartAnswer::At(span) => span_of(image, span),
-        PartAnswer::Refused(_) => &image[0..0],
+    match name_bounds(opened, node) {
+        Ok(span) => span_of(opened.image, span),
+        Err(_) => &opened.image[..0],
     }
 }
 
 // The data of a node, as a part of the image; empty where the call is refused.
 #[tactic(auto, using(crate::proofs::JudgeLaws::span_inside_lem, crate::proofs::SpanLaws::data_within), unfolding(crate::specs::Answers::view_answer))]
-pub fn view<'a>(
-    image: &'a [u8],
-    reader: Reader,
-    strings: &[u32],
-    entries: &[u32],
-    node: usize,
-) -> &'a [u8]
-    ensures { result.now ≡ part_of image.now (view_answer image.now reader strings.now entries.now node) }
+pub fn view<'a>(opened: &Opened<'a>, node: usize) -> &'a [u8]
+    ensures { result.now ≡ part_of opened.now.image.now (of opened.now view_answer node) }
 {
-    match view_bounds(image, reader, strings, entries, node) {
-        PartAnswer::At(span) => span_of(image, span),
-        PartAnswer::Refused(_) => &image[0..0],
+    match view_bounds(opened, node) {
+        Ok(span) => span_of(opened.image, span),
+        Err(_) => &opened.image[..0],
     }
 }
 
-// One element of a node's data, for a record that belongs: 16.
-pub fn element_of(
-    image: &[u8],
-    reader: Reader,
-    strings: &[u32],
-    entries: &[u32],
-    node: usize,
-    index: usize,
-) -> ElementAnswer
-    requires { ReaderBelongs image.now reader strings.now entries.now × (node ≤ reader.nodes) }
-    ensures { answer_of_element result ≡ decoded (kind_at image.now entries.now node) (bytes_at image.now entries.now node) index }
+// One element of a node's data: 16.
+pub fn element_of(belonging: &Belonging<'_>, node: usize, index: usize) -> ElementAnswer
+    requires { node ≤ belonging.now.opened.reader.nodes }
+    ensures { answer_of result ≡ decoded (kind_at belonging.now.opened.image.now belonging.now.opened.entries.now node) (bytes_at belonging.now.opened.image.now belonging.now.opened.entries.now node) index }
 {
-    let entry = recorded::recorded_entry(image, entries, node);
-    let kind = entry.kind;
-    let span = data_span(image, reader, strings, entries, node);
-    element::decode(kind, span_of(image, span), index)
+    let data = span_of(belonging.opened.image, data_span(belonging, node));
+    element::decode(belonging.entry(node).kind, data, index)
 }
 
 // One element of a node's data.
-#[tactic(auto, using(crate::proofs::JudgeLaws::judge_belongs, crate::proofs::ElementLaws::element_decoded), unfolding(crate::specs::Answers::element_answer))]
-pub fn element(
-    image: &[u8],
-    reader: Reader,
-    strings: &[u32],
-    entries: &[u32],
-    node: usize,
-    index: usize,
-) -> ElementAnswer
-    ensures { answer_of_element result ≡ element_answer image.now reader strings.now entries.now node index }
+#[tactic(auto, unfolding(crate::specs::Answers::element_answer))]
+pub fn element(opened: &Opened<'_>, node: usize, index: usize) -> ElementAnswer
+    ensures { answer_of result ≡ of opened.now element_answer node index }
 {
-    match judge(image, reader, strings, entries, node) {
-        Verdict::Refused(refusal) => ElementAnswer::Refused(refusal),
-        Verdict::Accepted => element_of(image, reader, strings, entries, node, index),
-    }
+    let belonging = judge(opened, node)?;
+    element_of(&belonging, node, index)
 }

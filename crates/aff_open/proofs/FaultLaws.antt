@@ -21,8 +21,7 @@ use Rattle.aff_format.specs.declared.edition.Edition.{Edition}
 use Rattle.aff_format.specs.declared.entry.Entry.{Entry}
 use Rattle.aff_format.specs.Subkey.{subkey_from, is_sound, break_place}
 use Rattle.aff_format.specs.declared.refusal.RefusalCode.{RefusalCode}
-use Rattle.aff_format.specs.declared.subkey.Grammar.{Grammar}
-use Rattle.aff_format.specs.declared.subkey.Grammar.TheVariants.{Sound, BreaksAt}
+use Rattle.std.specs.Prelude.{Option, Some, None}
 use Rattle.aff_format.proofs.BreaksLaws.{subkey_exact, subkey_breaks}
 use Rattle.aff_format.proofs.ClimbLaws.{reaches_within}
 use Rattle.aff_format.proofs.LowestLaws.{none_holds, holds_none, none_at}
@@ -139,10 +138,10 @@ module _ (e : Edition) (ss : List (List ℕ)) (es : List Entry) (k second : ℕ)
   unfolding name_break
   break_is h = go (leb (length ss) string) refl (subkey_from e 0 name) refl h
     where
-      go : (b : Bool) → leb (length ss) string ≡ b → (g : Grammar) → subkey_from e 0 name ≡ g → cond b 0 (break_place g) ≡ second → NameBreak e ss es k second
+      go : (b : Bool) → leb (length ss) string ≡ b → (g : Option ℕ) → subkey_from e 0 name ≡ g → cond b 0 (break_place g) ≡ second → NameBreak e ss es k second
       go true l g f q = no_string_is (leb-true (length ss) string l) (sym q)
-      go false l Sound f q = sound_name (leb-false (length ss) string l) ((subkey_exact e name).0 (ap is_sound f)) (sym q)
-      go false l (BreaksAt p) f q = breaks (leb-false (length ss) string l) ((subkey_breaks e name second).0 (f ∙ ap BreaksAt q))
+      go false l None f q = sound_name (leb-false (length ss) string l) ((subkey_exact e name).0 (ap is_sound f)) (sym q)
+      go false l (Some p) f q = breaks (leb-false (length ss) string l) ((subkey_breaks e name second).0 (f ∙ ap Some q))
 
   is_break : NameBreak e ss es k second → in_name ≡ second
   unfolding name_break

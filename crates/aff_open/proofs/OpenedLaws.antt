@@ -13,7 +13,7 @@ use Rattle.aff_format.specs.Recorded.{found_entry, recorded_entry, recorded_stri
 use Rattle.aff_format.specs.declared.section.Section.TheVariants.{Symbol, Tree, Data}
 use Rattle.aff_format.specs.declared.edition.Edition.{Edition}
 use Rattle.aff_format.specs.declared.entry.Entry.{Entry}
-use Rattle.aff_format.specs.declared.entry.FoundEntry.TheVariants.{Whole}
+use Rattle.std.specs.Prelude.{Some}
 use Rattle.aff_format.proofs.AnswerLaws.{passed, passed_value, clear_accepts, clear_both}
 use Rattle.aff_format.proofs.EditionLaws.{edition_of_number}
 use Rattle.aff_format.proofs.EntryLaws.{data_asks}
@@ -26,7 +26,7 @@ use Rattle.aff_tables.proofs.SymbolLaws.{string_placed}
 use Rattle.aff_tables.proofs.TreeTableLaws.{entry_found}
 use Rattle.aff_reader.specs.Belongs.{reader_belongs, ReaderBelongs}
 use Rattle.aff_open.specs.Opening.{lengths_wrong, up_to_tables, open_checks, open_answer, nodes_checked, tables_answer, sizes_in, string_places, node_places, reader_for, strings_after, entries_after, string_in, entry_in, span_of}
-use Rattle.aff_open.specs.passes.Opening.{Readable, StringsLaid, EntriesLaid}
+use Rattle.aff_open.specs.passes.Opening.{IsReadable, StringsLaid, EntriesLaid}
 use Rattle.aff_open.specs.Sections.{edition_in, section_offset, section_size, section_bytes, strings_in, nodes_in}
 use Rattle.aff_reader.specs.declared.reader.Reader.{Reader}
 use Rattle.aff_reader.proofs.BelongsLaws.{record_belongs}
@@ -77,7 +77,7 @@ module _ (image form strings entries : List ℕ) {r : Reader} (h : open_answer i
   lengths : lengths_wrong image form (length strings) (length entries) ≡ false
   lengths = tables_lengths image form strings entries found
 
-  readable : Readable e image
+  readable : IsReadable e image
   readable = tables_readable image form strings entries found
 
   -- The areas are as the tables filled them.
@@ -130,7 +130,7 @@ module _ (image form strings entries : List ℕ) {r : Reader} (h : open_answer i
       (string_placed image (section_offset e Symbol image) (section_size e Symbol image) (zeros strings) (omega (arith, laid_strings.placed.few, strings_long))
       (section_inside Symbol readable) i l)
 
-  entries_whole : (k : ℕ) → 0 < k → k ≤ m → found_entry image es k ≡ Whole (node k)
+  entries_whole : (k : ℕ) → 0 < k → k ≤ m → found_entry image es k ≡ Some (node k)
   unfolding section_bytes
   entries_whole k lo hi =
       rw (laid_entries.are k lo hi, entries_after_lem)

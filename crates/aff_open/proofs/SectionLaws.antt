@@ -1,45 +1,36 @@
 -- Laws of the text, the header and the sections of an image. Assumes nothing.
 use mathlib.Core.Path.{◌≡◌, refl}
-use mathlib.Core.Bool.{true, false, not, true≢false}
+use mathlib.Core.Bool.{false, not, true≢false}
 use mathlib.Core.List.{List}
-use Prim.Native.Nat.{ℕ, ◌+◌, ◌≤◌, ◌<◌}
+use Prim.Native.Nat.{ℕ, ◌+◌, ◌≤◌}
 use native.Mathlib.Omega.{arith}
-use lib.Dec.{ltb}
 use lib.ListN.{length, take}
-use borrow.Author.Tests.{ltb-false, lt-ltb}
+use borrow.Author.Tests.{ltb-false}
 use Rattle.aff_format.specs.Answer.{accepted, first_wrong}
 use Rattle.aff_format.specs.Bytes.{same_bytes}
-use Rattle.aff_format.specs.Edition.{editions, header_size, section_header_at, section_sum_at, signature_text, is_known, or_two}
+use Rattle.aff_format.specs.Edition.{editions, header_size, section_sum_at, signature_text, is_known, or_two}
 use Rattle.aff_format.specs.declared.section.Section.{Section}
 use Rattle.aff_format.specs.declared.section.Section.TheVariants.{Symbol, Tree, Data}
 use Rattle.aff_format.specs.declared.edition.Edition.{Edition}
-use Rattle.aff_format.specs.declared.edition.FoundEdition.{FoundEdition}
-use Rattle.aff_format.specs.declared.edition.FoundEdition.TheVariants.{Known, Unknown}
+use Rattle.std.specs.Prelude.{Option, Some, None}
 use Rattle.aff_format.proofs.AnswerLaws.{passed}
-use Rattle.aff_format.proofs.EditionLaws.{section_header_most, section_sum_last, section_header_sizes, found_passes, edition_of_text}
+use Rattle.aff_format.proofs.EditionLaws.{section_header_most, section_sum_last, found_passes, edition_of_text}
 use Rattle.aff_format.proofs.SameLaws.{same_eq}
 use Rattle.aff_open.specs.Sections.{text_edition, edition_in, section_offset, section_size, ends_past, sum_wrong}
-use Rattle.aff_open.specs.Opening.{header_checks, inside_checks, section_checks}
+use Rattle.aff_open.specs.Opening.{header_checks, section_checks}
 
 -- The text of an edition: the image begins with it, and with no other's.
-pub text_known : (e : Edition) (image : List ℕ) → text_edition image ≡ Known e → take 20 image ≡ signature_text e
+pub text_known : (e : Edition) (image : List ℕ) → text_edition image ≡ Some e → take 20 image ≡ signature_text e
 unfolding text_edition
 text_known e image h = same_eq _ _ (found_passes (λ d. same_bytes (take 20 image) (signature_text d)) editions h)
 
-pub known_text : (e : Edition) (image : List ℕ) → take 20 image ≡ signature_text e → text_edition image ≡ Known e
+pub known_text : (e : Edition) (image : List ℕ) → take 20 image ≡ signature_text e → text_edition image ≡ Some e
 unfolding text_edition same_bytes signature_text
 known_text e image h = rw h (edition_of_text e)
 
--- The fields of a section header, and its sum, lie inside an image that has a whole header.
-pub fields_inside : (e : Edition) (s : Section) (image : List ℕ) → header_size e ≤ length image → section_header_at e s + 24 ≤ length image
-fields_inside e s image h = omega (arith, section_header_most e s, section_header_sizes e)
-
+-- The sum of a section lies inside an image that has a whole header.
 pub sum_inside : (e : Edition) (s : Section) (image : List ℕ) → header_size e ≤ length image → section_sum_at e s + 16 ≤ length image
 sum_inside e s image h = omega (arith, section_header_most e s, section_sum_last e s)
-
--- Whether `size` from `from` on end past `length`, decided without their sum.
-pub begins_past : (from size length : ℕ) → length < from → ltb length (from + size) ≡ true
-begins_past from size length h = lt-ltb length (from + size) (omega arith)
 
 pub ends_inside : (e : Edition) (s : Section) (image : List ℕ) → ends_past e s image ≡ false
     → section_offset e s image + section_size e s image ≤ length image
@@ -47,19 +38,14 @@ unfolding ends_past
 ends_inside e s image h = ltb-false _ _ h
 
 -- What is known after accepted checks: those of the header, 6, and 6 and 7.
-pub known_is : (f : FoundEdition) → not (is_known f) ≡ false → f ≡ Known (or_two f)
-known_is (Known e) h = refl
-known_is Unknown h = absurd (true≢false h)
+pub known_is : (f : Option Edition) → not (is_known f) ≡ false → f ≡ Some (or_two f)
+known_is (Some e) h = refl
+known_is None h = absurd (true≢false h)
 
 module _ {A : Type 0} (image : List ℕ) (a : A) {b : A} where
   pub header_clear : (form : List ℕ) → first_wrong (header_checks image form) a ≡ accepted b
-      → (text_edition image ≡ Known (edition_in image)) × (header_size (edition_in image) ≤ length image)
+      → (text_edition image ≡ Some (edition_in image)) × (header_size (edition_in image) ≤ length image)
   header_clear form h = let p = passed (header_checks image form) a h in (known_is (text_edition image) p.1.0, ltb-false _ _ p.1.1.0)
-
-  pub inside_clear : (e : Edition) → first_wrong (inside_checks e image) a ≡ accepted b → (s : Section) → ends_past e s image ≡ false
-  inside_clear e h Symbol = (passed (inside_checks e image) a h).0
-  inside_clear e h Tree = (passed (inside_checks e image) a h).1.0
-  inside_clear e h Data = (passed (inside_checks e image) a h).1.1.0
 
   pub section_clear : (e : Edition) → first_wrong (section_checks e image) a ≡ accepted b
       → (s : Section) → (ends_past e s image ≡ false) × (sum_wrong e s image ≡ false)

@@ -1,7 +1,7 @@
 -- How the passes of an opening up to its tables join: a refusal of one is the answer, and what one passes the next decides; and what holds of an image
 -- that passes these. Assumes nothing.
-use mathlib.Core.Path.{◌≡◌, sym, ap, subst, ◌∙◌}
-use mathlib.Core.Bool.{true, false, not}
+use mathlib.Core.Path.{◌≡◌, refl, sym, ap, subst, ◌∙◌}
+use mathlib.Core.Bool.{true, false, not, true≢false}
 use mathlib.Core.List.{List, ◌++◌}
 use Prim.Native.Nat.{ℕ, ◌+◌, ◌≤◌, ◌<◌}
 use native.Mathlib.Omega.{arith}
@@ -11,60 +11,44 @@ use borrow.Author.Tests.{eqb-true, ltb-false, not-false}
 use Rattle.aff_format.specs.Answer.{Answer, accepted, refused, first_wrong, Clear}
 use Rattle.aff_format.specs.Bytes.{part, laid_over}
 use Rattle.aff_format.specs.Edition.{header_size}
-use Rattle.aff_format.specs.Refusal.{code_of_refusal}
 use Rattle.aff_format.specs.Strings.{strings_of}
 use Rattle.aff_format.specs.declared.section.Section.{Section}
 use Rattle.aff_format.specs.declared.section.Section.TheVariants.{Symbol, Tree}
 use Rattle.aff_format.specs.declared.edition.Edition.{Edition}
-use Rattle.aff_format.specs.declared.refusal.Refusal.{Refusal}
 use Rattle.aff_format.specs.declared.refusal.Refusal.TheVariants.{WrongLength}
-use Rattle.aff_format.proofs.AnswerLaws.{not_both, passed, passed_value, refused_before, passed_before, clear_both, clear_accepts}
+use Rattle.aff_format.proofs.AnswerLaws.{passed, same_refusal, refused_before, passed_value, passed_before, clear_both, clear_accepts}
 use Rattle.aff_format.proofs.TestLaws.{or_false}
 use Rattle.aff_tables.specs.Tables.{entries_in}
-use Rattle.aff_tables.specs.declared.symbols.Symbols.{Symbols}
-use Rattle.aff_tables.specs.declared.tree.TreeTable.{TreeTable}
-use Rattle.aff_tables.specs.passes.Results.{answer_of_symbols, answer_of_tree}
 use Rattle.aff_tables.proofs.LinkLaws.{distinct_by_repeats}
-use Rattle.aff_tables.proofs.SymbolLaws.{SymbolTable, places_inside, string_recorded, symbols_reported, symbols_clear}
-use Rattle.aff_tables.proofs.TreeTableLaws.{TableOfTree, entries_few, entries_are}
-use Rattle.aff_open.specs.Opening.{lengths_wrong, header_checks, section_checks, symbols_checked, tree_checked, table_checks, body_checks, up_to_tables, span_of, sizes_in, tables_answer, answer_of_tables, area_filled, string_places, node_places, strings_filled, entries_filled}
-use Rattle.aff_open.specs.passes.Opening.{Readable, StringsLaid, EntriesLaid, symbols_in}
+use Rattle.aff_tables.proofs.SymbolLaws.{places_inside, string_recorded, symbols_clear, symbols_reported}
+use Rattle.aff_tables.proofs.TreeTableLaws.{entries_few, entries_are}
+use Rattle.aff_open.specs.Opening.{lengths_wrong, header_checks, section_checks, symbols_checked, tree_checked, table_checks, body_checks, up_to_tables, span_of, sizes_in, tables_answer, area_filled, string_places, node_places, strings_filled, entries_filled}
+use Rattle.aff_open.specs.passes.Opening.{symbols_in, IsReadable, StringsLaid, EntriesLaid}
 use Rattle.aff_open.specs.Sections.{edition_in, section_offset, section_size, section_records, section_bytes, ends_past, strings_in, nodes_in}
 use Rattle.aff_reader.specs.declared.reader.Span.{Span}
-use Rattle.aff_open.specs.declared.tables.OpenedTables.{OpenedTables}
-use Rattle.aff_open.specs.declared.tables.OpenedTables.TheVariants as tables
+use Rattle.std.specs.Prelude.{Result, Ok, Err, is_ok, IsErrAnd}
+use Rattle.aff_format.specs.Refusal.{code_of_refusal}
+use Rattle.aff_format.specs.declared.refusal.RefusalCode.{RefusalCode}
 use Rattle.aff_open.specs.declared.tables.TableSizes.{TableSizes}
 use Rattle.aff_open.proofs.SectionLaws.{section_clear, header_clear}
+use Rattle.aff_format.specs.Verdict.{answer_of}
+use Rattle.aff_format.specs.declared.refusal.Refusal.{Refusal}
 
 -- ---- A section of a readable image.
 
-pub section_inside : {e : Edition} {image : List ℕ} (s : Section) → Readable e image → section_offset e s image + section_size e s image ≤ length image
+pub section_inside : {e : Edition} {image : List ℕ} (s : Section) → IsReadable e image → section_offset e s image + section_size e s image ≤ length image
 unfolding ends_past
 section_inside s r = ltb-false _ _ (r.inside s)
 
-pub span_inside_lem : {e : Edition} {image : List ℕ} {t : Span} (s : Section) → Readable e image → t ≡ span_of e s image → t.offset + t.size ≤ length image
+pub span_inside_lem : {e : Edition} {image : List ℕ} {t : Span} (s : Section) → IsReadable e image → t ≡ span_of e s image → t.offset + t.size ≤ length image
 span_inside_lem s r is = rw is (section_inside s r)
 
 -- Sections that pass their checks can be read.
 pub readable_by : (e : Edition) (image : List ℕ) → header_size e ≤ length image → length image < 2147483648
-    → first_wrong (section_checks e image) (tt {0}) ≡ accepted (tt {0}) → Readable e image
+    → first_wrong (section_checks e image) (tt {0}) ≡ accepted (tt {0}) → IsReadable e image
 readable_by e image whole short h = record { whole = whole; inside = λ s. (section_clear image (tt {0}) e h s).0; short = short }
 
 -- ---- The tables of the two sections.
-
-module _ (e : Edition) (image : List ℕ) {t : Span} {records : ℕ} (area₀ area : List ℕ) where
-  pub symbols_by : t ≡ span_of e Symbol image → records ≡ section_records e Symbol image → (r : Symbols)
-      → SymbolTable e records image t.offset t.size area₀ area r
-      → (r ≡ symbols_in e image) × ((n : ℕ) → answer_of_symbols r ≡ accepted n → area ≡ laid_over area₀ (string_places e image))
-  unfolding section_bytes
-  symbols_by is ir r h = rw (is, ir) at h
-
-  pub tree_by_lem : t ≡ span_of e Tree image → records ≡ section_records e Tree image → (r : TreeTable)
-      → TableOfTree e records image t.offset t.size area₀ area r
-      → (answer_of_tree r ≡ first_wrong (tree_checked e image) (length (nodes_in e image)))
-      × ((n : ℕ) → answer_of_tree r ≡ accepted n → area ≡ laid_over area₀ (node_places e image))
-  unfolding section_bytes
-  tree_by_lem is ir r h = rw (is, ir) at h
 
 -- An accepted tree table: its entries are laid into the area.
 pub entries_laid : (e : Edition) (image area entries : List ℕ) (n : ℕ) → first_wrong (tree_checked e image) (length (nodes_in e image)) ≡ accepted n
@@ -81,7 +65,7 @@ entries_laid e image area entries n h long is =
     }
 
 -- An accepted symbol table: its strings are laid into the area, and no two are equal.
-pub strings_laid : (e : Edition) (image area strings : List ℕ) (n : ℕ) → Readable e image → first_wrong (symbols_checked e image) (length (strings_in e image)) ≡ accepted n
+pub strings_laid : (e : Edition) (image area strings : List ℕ) (n : ℕ) → IsReadable e image → first_wrong (symbols_checked e image) (length (strings_in e image)) ≡ accepted n
     → length area ≡ 2048 → strings ≡ laid_over area (string_places e image) → StringsLaid e image strings n
 unfolding section_bytes
 strings_laid e image area strings n r h long is =
@@ -97,38 +81,82 @@ strings_laid e image area strings n r h long is =
       distinct = λ i j hi hj e. distinct_by_repeats (strings_of l) distinct i j (omega arith) (omega arith) e;
     }
 
--- What the symbol table reports decides its checks.
-pub symbols_decide : (e : Edition) (image : List ℕ) {s : Symbols} → s ≡ symbols_in e image
-    → first_wrong (symbols_checked e image) (length (strings_in e image)) ≡ answer_of_symbols s
-symbols_decide e image is = sym (ap answer_of_symbols is ∙ symbols_reported e (section_records e Symbol image) (section_bytes e Symbol image))
-
--- A refused symbol table refuses the opening with its own refusal, and no area is filled.
-pub symbols_refuse : {X : Type 0} (r : Refusal) (e : Edition) (image : List ℕ) {s : Symbols} → s ≡ symbols_in e image → answer_of_symbols s ≡ refused (code_of_refusal r)
-    → (answer_of_tables (tables.Refused r) ≡ first_wrong (table_checks e image) (sizes_in e image))
-    × ((a : TableSizes) → answer_of_tables (tables.Refused r) ≡ accepted a → X)
-symbols_refuse r e image is bad = (
-  sym (refused_before (symbols_checked e image) (tree_checked e image) (length (strings_in e image)) (sizes_in e image) (symbols_decide e image is ∙ bad)),
-  λ a q. not_both q,
-)
-
 -- ---- After the header.
 
--- The image's edition decides; what else holds of the edition found holds of it.
-pub header_joins : (image form : List ℕ) (e : Edition) (o : OpenedTables) (F : Edition → Type 0) → first_wrong (header_checks image form) (edition_in image) ≡ accepted e
-    → answer_of_tables o ≡ first_wrong (body_checks e image) (sizes_in e image) → F e
-    → (answer_of_tables o ≡ first_wrong (header_checks image form ++ body_checks (edition_in image) image) (sizes_in (edition_in image) image)) × F (edition_in image)
-header_joins image form e o F h reported f =
-    let q : edition_in image ≡ e = passed_value (header_checks image form) (edition_in image) h in (
-      reported ∙ ap (λ (d : Edition). first_wrong (body_checks d image) (sizes_in d image)) (sym q)
-          ∙ sym (passed_before (header_checks image form) (body_checks (edition_in image) image) (edition_in image) (sizes_in (edition_in image) image) h),
-      subst F (sym q) f,
-    )
+-- What `?` hands on.
+pub handed_on : {A : Type 0} (r : Result A Refusal) (q : Refusal) → IsErrAnd r (λ p. p ≡ q) → answer_of r ≡ refused (code_of_refusal q)
+handed_on (Ok a) q h = absurd h
+handed_on (Err p) q h = ap (λ (x : Refusal). refused (code_of_refusal x)) h
 
-pub header_whole : (image form : List ℕ) (e : Edition) → first_wrong (header_checks image form) (edition_in image) ≡ accepted e → header_size e ≤ length image
-header_whole image form e h =
-    subst (λ (d : Edition). header_size d ≤ length image) (passed_value (header_checks image form) (edition_in image) h) (header_clear image (edition_in image) form h).1
+-- A refusal of the header is the answer.
+pub header_refused : (image form : List ℕ) {t : RefusalCode} → first_wrong (header_checks image form) (edition_in image) ≡ refused t
+    → refused t ≡ first_wrong (header_checks image form ++ body_checks (edition_in image) image) (sizes_in (edition_in image) image)
+header_refused image form h =
+    sym (refused_before (header_checks image form) (body_checks (edition_in image) image) (edition_in image) (sizes_in (edition_in image) image) h)
+
+-- Each stage: where it refuses, that is the answer; where it passes, the next one decides.
+module _ (image form : List ℕ) {e : Edition} (headed : first_wrong (header_checks image form) (edition_in image) ≡ accepted e) where
+  abbrev whole : Answer TableSizes
+  whole = first_wrong (header_checks image form ++ body_checks (edition_in image) image) (sizes_in (edition_in image) image)
+
+  pub edition_is : edition_in image ≡ e
+  edition_is = passed_value (header_checks image form) (edition_in image) headed
+
+  pub header_whole : header_size e ≤ length image
+  header_whole = subst (λ (d : Edition). header_size d ≤ length image) edition_is (header_clear image (edition_in image) form headed).1
+
+  with_header : {a : Answer TableSizes} → a ≡ first_wrong (body_checks e image) (sizes_in e image) → a ≡ whole
+  with_header reported =
+      reported ∙ ap (λ (d : Edition). first_wrong (body_checks d image) (sizes_in d image)) (sym edition_is)
+      ∙ sym (passed_before (header_checks image form) (body_checks (edition_in image) image) (edition_in image) (sizes_in (edition_in image) image) headed)
+
+  pub sections_refused : {t : RefusalCode} → first_wrong (section_checks e image) (tt {0}) ≡ refused t → refused t ≡ whole
+  sections_refused h = with_header (sym (refused_before (section_checks e image) (table_checks e image) (tt {0}) (sizes_in e image) h))
+
+  module _ (sound : first_wrong (section_checks e image) (tt {0}) ≡ accepted (tt {0})) where
+    pub readable_after : length image < 2147483648 → IsReadable e image
+    readable_after short =
+        readable_by e image header_whole short sound
+
+    with_sections : {a : Answer TableSizes} → a ≡ first_wrong (table_checks e image) (sizes_in e image) → a ≡ whole
+    with_sections reported = with_header (reported ∙ sym (passed_before (section_checks e image) (table_checks e image) (tt {0}) (sizes_in e image) sound))
+
+    pub symbols_refused : {t : RefusalCode} → first_wrong (symbols_checked e image) (length (strings_in e image)) ≡ refused t → refused t ≡ whole
+    symbols_refused h =
+        with_sections (sym (refused_before (symbols_checked e image) (tree_checked e image) (length (strings_in e image)) (sizes_in e image) h))
+
+    module _ {n : ℕ} (counted : first_wrong (symbols_checked e image) (length (strings_in e image)) ≡ accepted n) where
+      with_symbols : {a : Answer TableSizes} → a ≡ first_wrong (tree_checked e image) (sizes_in e image) → a ≡ whole
+      with_symbols reported =
+          with_sections (reported ∙ sym (passed_before (symbols_checked e image) (tree_checked e image) (length (strings_in e image)) (sizes_in e image) counted))
+
+      pub tree_refused : {t : RefusalCode} → first_wrong (tree_checked e image) (length (nodes_in e image)) ≡ refused t → refused t ≡ whole
+      tree_refused h = with_symbols (sym (same_refusal (tree_checked e image) (length (nodes_in e image)) (sizes_in e image) h))
+
+      pub tables_found : {m : ℕ} → first_wrong (tree_checked e image) (length (nodes_in e image)) ≡ accepted m
+          → accepted (record { edition = e; strings = n; nodes = m }) ≡ whole
+      tables_found {m} h =
+          let p : length (strings_in e image) ≡ n = passed_value (symbols_checked e image) (length (strings_in e image)) counted in
+          let q : length (nodes_in e image) ≡ m = passed_value (tree_checked e image) (length (nodes_in e image)) h in
+          with_symbols (rw (← p, ← q) (sym (clear_accepts (tree_checked e image) (sizes_in e image) (passed (tree_checked e image) (length (nodes_in e image)) h))))
+
+-- The symbol table's result is the answer of its checks.
+pub symbols_answer : (e : Edition) (image : List ℕ) (r : Result ℕ Refusal) → r ≡ symbols_in e image
+    → first_wrong (symbols_checked e image) (length (strings_in e image)) ≡ answer_of r
+symbols_answer e image r is = sym (ap answer_of is ∙ symbols_reported e (section_records e Symbol image) (section_bytes e Symbol image))
 
 -- ---- The areas.
+
+-- Sound tables fill a cleared area; a refusal leaves it cleared.
+pub filled_is : {A : Type 0} (r : Result A Refusal) (area places laid : List ℕ) → area ≡ replicate (length area) 0
+    → ((a : A) → answer_of r ≡ accepted a → laid ≡ laid_over area places) → is_ok r ≡ true → laid ≡ area_filled (answer_of r) area places
+filled_is (Ok a) area places laid zero is h = is a refl ∙ ap (λ (l : List ℕ). laid_over l places) zero
+filled_is (Err q) area places laid zero is h = absurd (true≢false (sym h))
+
+pub cleared_is : {A : Type 0} (r : Result A Refusal) (area places laid : List ℕ) → length laid ≡ length area → is_ok r ≡ false
+    → replicate (length laid) 0 ≡ area_filled (answer_of r) area places
+cleared_is (Ok a) area places laid e h = absurd (true≢false h)
+cleared_is (Err q) area places laid e h = ap (λ (k : ℕ). replicate k 0) e
 
 -- What is passed has the right lengths.
 pub lengths_right : (image form : List ℕ) (strings entries : ℕ) → lengths_wrong image form strings entries ≡ false
@@ -140,45 +168,34 @@ lengths_right image form strings entries h =
     let (e, f) = or_false (not (eqb entries 2048)) _ d in
     (eqb-true _ _ (not-false _ a), eqb-true _ _ (not-false _ c), eqb-true _ _ (not-false _ e), omega (arith, ltb-false 2147483647 (length image) f))
 
-pub zeros_long : (l : List ℕ) (n : ℕ) → l ≡ replicate n 0 → length l ≡ n → l ≡ replicate (length l) 0
-zeros_long l n is h = is ∙ ap (λ (k : ℕ). replicate k 0) (sym h)
-
--- An area of zeros that was filled, and one that was cleared again.
-pub filled_area : (area₀ area places : List ℕ) → area₀ ≡ replicate (length area₀) 0 → area ≡ laid_over area₀ places
-    → area ≡ laid_over (replicate (length area₀) 0) places
-filled_area area₀ area places z is = is ∙ ap (λ (l : List ℕ). laid_over l places) z
-
-pub cleared_area : (area₀ s area : List ℕ) → area ≡ replicate (length s) 0 → length s ≡ length area₀ → area ≡ replicate (length area₀) 0
-cleared_area area₀ s area is long = is ∙ ap (λ (k : ℕ). replicate k 0) long
-
 pub area_length : {A : Type 0} (answer : Answer A) (a b places : List ℕ) → length a ≡ length b → area_filled answer a places ≡ area_filled answer b places
 area_length (accepted r) a b places h = rw h
 area_length (refused t) a b places h = rw h
 
 -- The whole of it: 1 changes nothing; else the areas are cleared first.
-abbrev pub TablesOpen : List ℕ → List ℕ → OpenedTables → List ℕ → List ℕ → List ℕ → List ℕ → Type 0
+abbrev pub TablesOpen : List ℕ → List ℕ → Result TableSizes Refusal → List ℕ → List ℕ → List ℕ → List ℕ → Type 0
 TablesOpen image form o strings₀ strings entries₀ entries =
-    (answer_of_tables o ≡ tables_answer image form (length strings₀) (length entries₀))
+    (answer_of o ≡ tables_answer image form (length strings₀) (length entries₀))
     × ((strings ≡ strings_filled image form strings₀ entries₀) × (entries ≡ entries_filled image form strings₀ entries₀))
 
 pub lengths_opens : (image form strings entries : List ℕ) → lengths_wrong image form (length strings) (length entries) ≡ true
-    → TablesOpen image form (tables.Refused WrongLength) strings strings entries entries
+    → TablesOpen image form (Err WrongLength) strings strings entries entries
 unfolding up_to_tables strings_filled entries_filled
 lengths_opens image form strings entries wrong = (rw wrong, (rw wrong, rw wrong))
 
-pub cleared_opens : (image form : List ℕ) (o : OpenedTables) (strings₀ s strings entries₀ e entries : List ℕ)
+pub cleared_opens : (image form : List ℕ) (o : Result TableSizes Refusal) (strings₀ s strings entries₀ e entries : List ℕ)
     → lengths_wrong image form (length strings₀) (length entries₀) ≡ false → length s ≡ length strings₀ → length e ≡ length entries₀
-    → answer_of_tables o ≡ first_wrong (header_checks image form ++ body_checks (edition_in image) image) (sizes_in (edition_in image) image)
-    → strings ≡ area_filled (answer_of_tables o) s (string_places (edition_in image) image)
-    → entries ≡ area_filled (answer_of_tables o) e (node_places (edition_in image) image)
+    → answer_of o ≡ first_wrong (header_checks image form ++ body_checks (edition_in image) image) (sizes_in (edition_in image) image)
+    → strings ≡ area_filled (answer_of o) s (string_places (edition_in image) image)
+    → entries ≡ area_filled (answer_of o) e (node_places (edition_in image) image)
     → TablesOpen image form o strings₀ strings entries₀ entries
 unfolding up_to_tables strings_filled entries_filled
 cleared_opens image form o strings₀ s strings entries₀ e entries right ls le reported ss es =
-    let t : answer_of_tables o ≡ tables_answer image form (length strings₀) (length entries₀) = reported ∙ rw right in (
+    let t : answer_of o ≡ tables_answer image form (length strings₀) (length entries₀) = reported ∙ rw right in (
       t,
       (
-        ss ∙ area_length (answer_of_tables o) s strings₀ _ ls ∙ ap (λ (x : Answer TableSizes). area_filled x strings₀ (string_places (edition_in image) image)) t ∙ rw right,
-        es ∙ area_length (answer_of_tables o) e entries₀ _ le ∙ ap (λ (x : Answer TableSizes). area_filled x entries₀ (node_places (edition_in image) image)) t ∙ rw right,
+        ss ∙ area_length (answer_of o) s strings₀ _ ls ∙ ap (λ (x : Answer TableSizes). area_filled x strings₀ (string_places (edition_in image) image)) t ∙ rw right,
+        es ∙ area_length (answer_of o) e entries₀ _ le ∙ ap (λ (x : Answer TableSizes). area_filled x entries₀ (node_places (edition_in image) image)) t ∙ rw right,
       ),
     )
 
@@ -212,7 +229,7 @@ module _ (image form strings entries : List ℕ) {s : TableSizes} (h : tables_an
   symbols : Clear (symbols_checked e image) × Clear (tree_checked e image)
   symbols = clear_both (symbols_checked e image) (tree_checked e image) sections.1
 
-  pub tables_readable : Readable e image
+  pub tables_readable : IsReadable e image
   tables_readable =
       readable_by e image (header_clear image e form (clear_accepts (header_checks image form) e headers.0)).1
       (lengths_right image form (length strings) (length entries) tables_lengths).3 (clear_accepts (section_checks e image) (tt {0}) sections.0)

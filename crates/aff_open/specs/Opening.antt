@@ -4,23 +4,17 @@ use Rattle.aff_format.specs.Answer.{Answer, accepted, refused, Check, check, ref
 use Rattle.aff_format.specs.Bytes.{part, same_bytes, laid_over}
 use Rattle.aff_format.specs.Edition.{edition_number, header_size, least_header, is_known}
 use Rattle.aff_format.specs.Limits.{image_limit, string_limit, node_limit}
-use Rattle.aff_format.specs.Refusal.{code_of_refusal}
 use Rattle.aff_format.specs.Strings.{places_of}
 use Rattle.aff_format.specs.declared.section.Section.{Section}
 use Rattle.aff_format.specs.declared.section.Section.TheVariants.{Symbol, Tree, Data}
 use Rattle.aff_format.specs.declared.edition.Edition.{Edition}
 use Rattle.aff_format.specs.declared.entry.Entry.{Entry}
-use Rattle.aff_format.specs.declared.verdict.Verdict.{Verdict}
-use Rattle.aff_format.specs.declared.verdict.Verdict.TheVariants.{Accepted, Refused}
 use Rattle.aff_tables.specs.Nodes.{Contents, contents_of, node_checks}
 use Rattle.aff_tables.specs.Tables.{entry_places, node_entry, symbol_checks, tree_checks}
 use Rattle.aff_reader.specs.Reader.{no_reader}
 use Rattle.aff_open.specs.Sections.{text_edition, edition_in, section_offset, section_size, section_records, section_bytes, header_sum_wrong, ends_past, sum_wrong, strings_in, nodes_in}
-use Rattle.aff_open.specs.declared.opening.Opening.{Opening}
 use Rattle.aff_reader.specs.declared.reader.Span.{Span}
 use Rattle.aff_reader.specs.declared.reader.Reader.{Reader}
-use Rattle.aff_open.specs.declared.tables.OpenedTables.{OpenedTables}
-use Rattle.aff_open.specs.declared.tables.OpenedTables.TheVariants as tables
 use Rattle.aff_open.specs.declared.tables.TableSizes.{TableSizes}
 
 -- 1: an area is not 2,048 numbers, the form not 12 bytes, or the image too long.
@@ -106,10 +100,6 @@ sizes_in e image = record { edition = e; strings = length (strings_in e image); 
 abbrev pub tables_answer : List ℕ → List ℕ → ℕ → ℕ → Answer TableSizes
 tables_answer image form strings entries = first_wrong (up_to_tables image form strings entries) (sizes_in (edition_in image) image)
 
-abbrev pub answer_of_tables : OpenedTables → Answer TableSizes
-answer_of_tables (tables.Found s) = accepted s
-answer_of_tables (tables.Refused r) = refused (code_of_refusal r)
-
 abbrev pub span_of : Edition → Section → List ℕ → Span
 span_of e s image = record { offset = section_offset e s image; size = section_size e s image }
 
@@ -133,14 +123,6 @@ reader_for e image = reader_with e image (length (strings_in e image)) (length (
 -- The answer.
 abbrev pub open_answer : List ℕ → List ℕ → ℕ → ℕ → Answer Reader
 open_answer image form strings entries = first_wrong (open_checks image form strings entries) (reader_for (edition_in image) image)
-
-abbrev pub verdict_of : Verdict → Reader → Answer Reader
-verdict_of Accepted r = accepted r
-verdict_of (Refused q) r = refused (code_of_refusal q)
-
--- What document 01 hands back in each case.
-abbrev pub answer_of_opening : Opening → Answer Reader
-answer_of_opening o = verdict_of o.verdict o.reader
 
 -- The record: all zero after a refusal.
 abbrev pub reader_after : Answer Reader → Reader

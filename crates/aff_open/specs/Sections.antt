@@ -1,12 +1,11 @@
 -- Header and sections of an image: document 01, 'Layout of a file'. Numbers are exact: no sum wraps.
-use Rattle.std.specs.Prelude.{Bool, cond, not, List, ℕ, ◌+◌, ltb, length, take}
+use Rattle.std.specs.Prelude.{◌≡◌, Bool, false, cond, not, List, ℕ, ◌+◌, ltb, length, take, Option}
 use Rattle.aff_md5.specs.Md5.{md5}
 use Rattle.aff_format.specs.Bytes.{part, same_bytes}
 use Rattle.aff_format.specs.Edition.{editions, signature_text, has_counts, section_header_at, section_sum_at, header_sum_at, number_form, first_edition, or_two}
 use Rattle.aff_format.specs.Number.{be_of}
 use Rattle.aff_format.specs.declared.section.Section.{Section}
 use Rattle.aff_format.specs.declared.edition.Edition.{Edition}
-use Rattle.aff_format.specs.declared.edition.FoundEdition.{FoundEdition}
 use Rattle.aff_format.specs.Strings.{strings_of}
 use Rattle.aff_format.specs.Limits.{node_limit}
 use Rattle.aff_format.specs.declared.section.Section.TheVariants.{Symbol, Tree}
@@ -14,7 +13,7 @@ use Rattle.aff_format.specs.declared.entry.Entry.{Entry}
 use Rattle.aff_tables.specs.Tables.{bytes_after_entries, entries_in}
 
 -- The edition whose text an image begins with.
-unfoldable pub text_edition : List ℕ → FoundEdition
+unfoldable pub text_edition : List ℕ → Option Edition
 text_edition image = first_edition (λ e. same_bytes (take 20 image) (signature_text e)) editions
 
 abbrev pub edition_in : List ℕ → Edition
@@ -48,6 +47,10 @@ header_sum_wrong e image = not (same_bytes (part (header_sum_at e) 16 image) (md
 -- 6: a section ends past the image.
 unfoldable pub ends_past : Edition → Section → List ℕ → Bool
 ends_past e s image = ltb (length image) (section_offset e s image + section_size e s image)
+
+-- No section ends past the image.
+abbrev pub AllInside : Edition → List ℕ → Type 0
+AllInside e image = (s : Section) → ends_past e s image ≡ false
 
 -- 7: a section's sum is wrong.
 unfoldable pub sum_wrong : Edition → Section → List ℕ → Bool

@@ -7,4 +7,4 @@ pub mod tables; // opening up to the tables
 mod opening; // opening
 
 pub use header::form_for;
-pub use opening::{Opening, open};
+pub use opening::{open, record_left};

@@ -1,4 +1,4 @@
--- The chain of nodes that a lookup settles: made on the way up, and settled on the way down. Assumes nothing.
+-- The chain of nodes that a lookup settles, made on the way up. Assumes nothing.
 use mathlib.Core.Path.{◌≡◌, refl, sym, ap, ◌∙◌}
 use mathlib.Core.Bool.{true}
 use mathlib.Core.List.{List}
@@ -14,7 +14,7 @@ use Rattle.aff_reader.specs.Belongs.{ReaderBelongs}
 use Rattle.aff_format.specs.Recorded.{recorded_entry}
 use Rattle.aff_reader.specs.declared.reader.Reader.{Reader}
 use Rattle.aff_reader.proofs.BelongsLaws.{parent_within}
-use Rattle.aff_read.specs.passes.Fit.{fit_at, FitsSettled, Climbable, Chain}
+use Rattle.aff_read.specs.passes.Fit.{FitsSettled, Climbable, Chain}
 use Rattle.aff_nodes.specs.Recall.{parent_at}
 use Rattle.aff_read.proofs.FitLaws.{climb_left}
 
@@ -120,15 +120,3 @@ module _ {image entries fits : List ℕ} {nodes node : ℕ} (c : Climbable image
                   let z : nodes - (count + 1) ≡ nodes - count - 1 = omega arith in
                   rw z (more e.parent up).1;
             }
-
--- The way down: node j of the chain has its fit when that of node j + 1, its parent, is there.
-module _ {image : List ℕ} {reader : Reader} {strings entries path chain names fits : List ℕ} {count : ℕ} (s : FitsSettled image reader strings entries path fits)
-    (c : Chain image entries reader.nodes chain names count) where
-  pub top_fit : {top : ℕ} → top ≡ get_or chain count 0 → (get_or fits (get_or chain count 0) 0 ≡ 0 → ⊥) → get_or fits top 0 ≡ fit_at image reader strings entries path (get_or chain count 0)
-  top_fit is settled = rw is (s.reported (get_or chain count 0) (c.exist count (omega arith)) settled)
-
-  module _ {k fit : ℕ} (few : k ≤ count) (more : 0 < k) (reported : fit ≡ fit_at image reader strings entries path (get_or chain k 0)) where
-    pub parent_fit : fit ≡ fit_at image reader strings entries path (parent_at image entries (get_or chain (k - 1) 0))
-    parent_fit =
-        let z : k ≡ k - 1 + 1 = omega arith in
-        reported ∙ ap (fit_at image reader strings entries path) (ap (λ (j : ℕ). get_or chain j 0) z ∙ c.parents (k - 1) (omega arith))

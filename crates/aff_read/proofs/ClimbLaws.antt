@@ -147,9 +147,6 @@ climbing_start strings entries node there inside =
     record { there = there; inside = inside; steps = 0; is = refl; noted = λ j l. absurd (omega arith) }
 
 module _ {image : List ℕ} {reader : Reader} {strings entries : List ℕ} {node : ℕ} {table : List ℕ} {at : ℕ} (c : Climbing image reader strings entries node table at) where
-  pub climbing_done : at ≡ 0 → ClimbNoted image reader strings entries table node
-  climbing_done z = record { inside = c.inside; steps = c.steps; ends = c.is ∙ z; noted = c.noted }
-
   module _ (b : ReaderBelongs image reader strings entries) (other : at ≡ 0 → ⊥) (p : ℕ) (up : p ≡ parent_at image entries at) where
     pub climbing_less : length (front_at Raw image reader strings entries p) < length (front_at Raw image reader strings entries at)
     climbing_less =

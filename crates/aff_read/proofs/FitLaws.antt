@@ -1,6 +1,6 @@
 -- How far the path of a node goes along a given path: by its parent's fit, and whether it is the whole path. Assumes nothing.
 use mathlib.Core.Path.{◌≡◌, refl, sym, ap, ◌∙◌}
-use mathlib.Core.Bool.{Bool, true, false, ◌&&◌}
+use mathlib.Core.Bool.{Bool, true, false}
 use mathlib.Core.List.{List, [], ◌∷◌, ◌++◌}
 use mathlib.Core.Logic.{⊎_elim}
 use Prim.Native.Nat.{ℕ, zero, suc, ◌+◌, ◌-◌, ◌≤◌, ◌<◌}
@@ -10,7 +10,7 @@ use native.Mathlib.Omega.{arith}
 use lib.Dec.{eqb}
 use lib.ListN.{length, get_or, drop, set, replicate, length-set, length-replicate, get_or-replicate, drop_of_length-le}
 use lib.Seq.{drop-cons, get_or-set_same, get_or-set_other}
-use borrow.Author.Tests.{eq-eqb, ne_eqb, eqb-true, eqb-false}
+use borrow.Author.Tests.{eq-eqb, ne_eqb, eqb-true}
 use Rattle.aff_format.specs.Bytes.{same_bytes}
 use Rattle.aff_format.specs.Strings.{up_to_zero}
 use Rattle.aff_format.specs.Tree.{reaches_by}
@@ -166,31 +166,7 @@ module _ {image : List ℕ} {reader : Reader} {strings entries : List ℕ} (b : 
           → fit_from name (drop (above - 2 + 1) path) (above - 2 + 1) ≡ fit_at image reader strings entries path node
       below_slash e name is = rw is (fit_on 47 own path (above - 2) inside (sym e)) ∙ sym below_more.1 ∙ sym fit_is
 
--- The path of the root.
-pub root_long : (path : List ℕ) → (length path ≡ 1 → ⊥) → false ≡ same_bytes (47 ∷ []) path
-unfolding same_bytes
-root_long [] n = refl
-root_long (x ∷ []) n = absurd (n refl)
-root_long (x ∷ y ∷ path) n = go (eqb 47 x)
-  where
-    go : (b : Bool) → false ≡ b && false
-    go true = refl
-    go false = refl
-
-pub root_one : (path : List ℕ) → length path ≡ 1 → eqb (get_or path 0 0) 47 ≡ same_bytes (47 ∷ []) path
-unfolding same_bytes
-root_one [] h = absurd (omega arith)
-root_one (x ∷ []) h = go (eqb x 47) refl
-  where
-    go : (b : Bool) → eqb x 47 ≡ b → b ≡ eqb 47 x && true
-    go true e = rw (eq-eqb 47 x (sym (eqb-true x 47 e)))
-    go false e = rw (ne_eqb 47 x (λ q. eqb-false x 47 e (sym q)))
-root_one (x ∷ y ∷ path) h = absurd (omega arith)
-
 module _ (image : List ℕ) (reader : Reader) (strings entries path : List ℕ) where
-  pub root_has : (node : ℕ) → node ≡ 0 → same_bytes (47 ∷ []) path ≡ same_bytes (path_at image reader strings entries node) path
-  root_has node z = rw z
-
   pub other_has : (node fit : ℕ) → (node ≡ 0 → ⊥) → fit ≡ fit_at image reader strings entries path node
       → eqb fit (length path + 2) ≡ same_bytes (path_at image reader strings entries node) path
   unfolding fit_at
@@ -221,25 +197,3 @@ climb_left parent zero node p h up e = absurd (let z = eqb-true node 0 e in omeg
 climb_left parent (suc left) node p h up e =
     let s : suc left - 1 ≡ left = omega arith in
     (omega arith, rw (s, up) (sym (reaches_up parent left node (λ q. omega arith)) ∙ e))
-
-module _ {image : List ℕ} {reader : Reader} {strings entries path fits : List ℕ} (s : FitsSettled image reader strings entries path fits) (node : ℕ) where
-  module _ (there : node ≤ reader.nodes) (after : List ℕ) (other-node : 0 < node) (is : after ≡ set fits node (fit_at image reader strings entries path node)) where
-    reported_next : get_or after node 0 ≡ fit_at image reader strings entries path node
-    reported_next = rw is (get_or-set_same fits node (fit_at image reader strings entries path node) 0 (omega (arith, s.wide)))
-
-    kept_next : (k : ℕ) → (k ≡ node → ⊥) → get_or after k 0 ≡ get_or fits k 0
-    kept_next k n = rw is (get_or-set_other fits node k (fit_at image reader strings entries path node) 0 n)
-
-    reported_one : (k : ℕ) → k ≤ reader.nodes → (get_or after k 0 ≡ 0 → ⊥) → (b : Bool) → eqb k node ≡ b → get_or after k 0 ≡ fit_at image reader strings entries path k
-    reported_one k m f true e = rw (eqb-true k node e) reported_next
-    reported_one k m f false e =
-        let q = kept_next k (eqb-false k node e) in
-        q ∙ s.reported k m (λ z. f (q ∙ z))
-
-    pub settled_next : FitsSettled image reader strings entries path after
-    settled_next =
-        record {
-          wide = omega (arith, s.wide, ap length is, length-set fits node (fit_at image reader strings entries path node));
-          root = λ q. s.root (sym (kept_next 0 (λ z. omega arith)) ∙ q);
-          reported = λ k m f. reported_one k m f (eqb k node) refl;
-        }

@@ -13,9 +13,7 @@ use Rattle.aff_format.specs.Answer.{Answer, accepted, refused, check, refusal, r
 use Rattle.aff_format.specs.Bytes.{same_bytes}
 use Rattle.aff_format.specs.Lowest.{is_at}
 use Rattle.aff_format.specs.Path.{path_grammar, is_path}
-use Rattle.aff_format.specs.declared.lowest.Lowest.{Lowest}
-use Rattle.aff_format.specs.declared.lowest.Lowest.TheVariants.{Nothing, At}
-use Rattle.aff_format.specs.declared.subkey.Grammar.TheVariants.{Sound, BreaksAt}
+use Rattle.std.specs.Prelude.{Option, Some, None}
 use Rattle.aff_format.proofs.AnswerLaws.{not_both}
 use Rattle.aff_format.proofs.LowestLaws.{lowest_is, none_holds}
 use Rattle.aff_format.proofs.SameLaws.{same_eq, same_ne}
@@ -43,16 +41,16 @@ module _ (image : List ℕ) (reader : Reader) (strings entries path : List ℕ) 
   unfolding lookup_answer lookup_of_answer
   lookup_belongs h = rw h
 
-  pub lookup_breaks : (p : ℕ) → path_grammar (edition_by reader.edition) path ≡ BreaksAt p → refused (refusal_at 14 p) ≡ answer_of
+  pub lookup_breaks : (p : ℕ) → path_grammar (edition_by reader.edition) path ≡ Some p → refused (refusal_at 14 p) ≡ answer_of
   unfolding lookup_of_answer
   lookup_breaks p h = rw h
 
-  module _ (sound : path_grammar (edition_by reader.edition) path ≡ Sound) where
-    pub lookup_none : found image reader strings entries path ≡ Nothing → refused (refusal 15) ≡ answer_of
+  module _ (sound : path_grammar (edition_by reader.edition) path ≡ None) where
+    pub lookup_none : found image reader strings entries path ≡ None → refused (refusal 15) ≡ answer_of
     unfolding lookup_of_answer
     lookup_none h = rw (sound, h)
 
-    pub lookup_at : (n : ℕ) → found image reader strings entries path ≡ At n → accepted n ≡ answer_of
+    pub lookup_at : (n : ℕ) → found image reader strings entries path ≡ Some n → accepted n ≡ answer_of
     unfolding lookup_of_answer
     lookup_at n h = rw (sound, h)
 
@@ -69,7 +67,7 @@ module _ (image : List ℕ) (reader : Reader) (strings entries path : List ℕ) 
   abbrev has_path : ℕ → Bool
   has_path k = same_bytes (path_at image reader strings entries k) path
 
-  found_lowest : (n : ℕ) → found image reader strings entries path ≡ At n → LowestWith image reader strings entries path n
+  found_lowest : (n : ℕ) → found image reader strings entries path ≡ Some n → LowestWith image reader strings entries path n
   unfolding found
   found_lowest n h =
       let l = lowest_is has_path (reader.nodes + 1) 0 n h in
@@ -79,7 +77,7 @@ module _ (image : List ℕ) (reader : Reader) (strings entries path : List ℕ) 
         least = λ k m. same_ne _ _ (l.before k (omega arith) m);
       }
 
-  found_none : found image reader strings entries path ≡ Nothing → NoneWith image reader strings entries path
+  found_none : found image reader strings entries path ≡ None → NoneWith image reader strings entries path
   unfolding found
   found_none h = λ k m. same_ne _ _ (none_holds has_path (reader.nodes + 1) 0 h k (omega arith) (omega arith))
 
@@ -92,15 +90,15 @@ module _ (image : List ℕ) (reader : Reader) (strings entries path : List ℕ) 
     belonging : lookup_of_answer image reader strings entries path ≡ lookup_answer image reader strings entries path
     belonging = lookup_belongs image reader strings entries path (record_belongs b)
 
-    sound : path_grammar (edition_by reader.edition) path ≡ Sound
+    sound : path_grammar (edition_by reader.edition) path ≡ None
     sound = sound_is (path_grammar (edition_by reader.edition) path) p
 
     looked : Looked
     looked = go (found image reader strings entries path) refl
       where
-        go : (l : Lowest) → found image reader strings entries path ≡ l → Looked
-        go (At n) h = at n (lookup_at image reader strings entries path sound n h ∙ belonging) (found_lowest n h)
-        go Nothing h = none (lookup_none image reader strings entries path sound h ∙ belonging) (found_none h)
+        go : (l : Option ℕ) → found image reader strings entries path ≡ l → Looked
+        go (Some n) h = at n (lookup_at image reader strings entries path sound n h ∙ belonging) (found_lowest n h)
+        go None h = none (lookup_none image reader strings entries path sound h ∙ belonging) (found_none h)
 
     -- Accepted is n exactly where n is the lowest node with the path.
     pub lookup_accepts : (n : ℕ) → (lookup_answer image reader strings entries path ≡ accepted n) ↔ LowestWith image reader strings entries path n
@@ -120,7 +118,7 @@ module _ (image : List ℕ) (reader : Reader) (strings entries path : List ℕ) 
 
   -- 14 with place p exactly where the path breaks at p.
   pub lookup_malformed : ReaderBelongs image reader strings entries → (p : ℕ)
-      → (lookup_answer image reader strings entries path ≡ refused (refusal_at 14 p)) ↔ (path_grammar (edition_by reader.edition) path ≡ BreaksAt p)
+      → (lookup_answer image reader strings entries path ≡ refused (refusal_at 14 p)) ↔ (path_grammar (edition_by reader.edition) path ≡ Some p)
   unfolding lookup_of_answer
   lookup_malformed b p =
       let q = lookup_belongs image reader strings entries path (record_belongs b) in

@@ -28,9 +28,6 @@ module _ (s : Spelling) {image : List ℕ} {reader : Reader} {strings entries : 
       omega arith
 
 module _ {s : Spelling} {image : List ℕ} {reader : Reader} {strings entries : List ℕ} (b : ReaderBelongs image reader strings entries) where
-  pub measure_start : (node limit : ℕ) → node ≤ reader.nodes → Measured s image reader strings entries node limit limit node
-  measure_start node limit h = record { there = h; few = omega arith; counted = omega arith }
-
   module _ {node limit left at own : ℕ} (m : Measured s image reader strings entries node limit left at) (is : own ≡ capped left (length (written_name s image reader strings entries at) + 1)) where
     pub measure_past : left < own → limit + 1 ≡ capped limit (length (spelled_path_at s image reader strings entries node))
     measure_past h =

@@ -1,5 +1,5 @@
 -- Path and lookup: document 01, 'Reading keys', 'Order'.
-use Rattle.std.specs.Prelude.{not, List, [], ◌∷◌, ◌++◌, ℕ, ◌+◌, ltb, length, drop, take, ◌≡◌}
+use Rattle.std.specs.Prelude.{not, List, [], ◌∷◌, ◌++◌, ℕ, ◌+◌, ltb, length, drop, take, ◌≡◌, Option, Some, None}
 use Rattle.aff_format.specs.Answer.{Answer, accepted, refused, Check, check, refusal, first_wrong}
 use Rattle.aff_format.specs.Bytes.{same_bytes}
 use Rattle.aff_format.specs.Edition.{edition_by}
@@ -7,8 +7,6 @@ use Rattle.aff_format.specs.Lowest.{lowest_from, is_at}
 use Rattle.aff_format.specs.Path.{path_grammar}
 use Rattle.aff_format.specs.Subkey.{check_grammar}
 use Rattle.aff_format.specs.Tree.{path_by}
-use Rattle.aff_format.specs.declared.lowest.Lowest.{Lowest}
-use Rattle.aff_format.specs.declared.lowest.Lowest.TheVariants.{Nothing, At}
 use Rattle.aff_reader.specs.Belongs.{reader_belongs}
 use Rattle.aff_reader.specs.declared.reader.Reader.{Reader}
 use Rattle.aff_nodes.specs.Answers.{exists_checks}
@@ -28,9 +26,9 @@ front_written (accepted n) text out = text ++ drop (length text) out
 front_written (refused t) text out = out
 
 -- The place of the lowest, 0 where there is none.
-abbrev pub lowest_or0 : Lowest → ℕ
-lowest_or0 Nothing = 0
-lowest_or0 (At k) = k
+abbrev pub lowest_or0 : Option ℕ → ℕ
+lowest_or0 None = 0
+lowest_or0 (Some k) = k
 
 module _ (image : List ℕ) (reader : Reader) (strings entries : List ℕ) where
   -- Path: 24, 15, 21.
@@ -40,7 +38,7 @@ module _ (image : List ℕ) (reader : Reader) (strings entries : List ℕ) where
       (length (path_at image reader strings entries node))
 
   -- The lowest node with a path.
-  unfoldable pub found : List ℕ → Lowest
+  unfoldable pub found : List ℕ → Option ℕ
   found path = lowest_from (λ k. same_bytes (path_at image reader strings entries k) path) (reader.nodes + 1) 0
 
   -- 14, with the place in the path at which it breaks; 15.

@@ -2,20 +2,21 @@
 ghost use Rattle.std.specs.Prelude.{◌≡◌, [], ◌∷◌, ◌+◌, ◌-◌, ◌^◌, ◌≤◌, ◌<◌, length, get_or, take, drop};
 ghost use Rattle.aff_format.specs.Bytes.{same_bytes, part};
 ghost use Rattle.aff_format.specs.Limits.{node_limit};
-ghost use Rattle.aff_reader.specs.Belongs.{ReaderBelongs};
-ghost use Rattle.aff_format.specs.Recorded.{recorded_entry, name_from};
-ghost use Rattle.aff_format.specs.Verdict.{answer_of_number};
+ghost use Rattle.aff_reader.specs.Opened.{of, opened_entry};
+ghost use Rattle.aff_format.specs.Recorded.{name_from};
+ghost use Rattle.aff_format.specs.Verdict.{answer_of};
 ghost use Rattle.aff_read.specs.Paths.{spelled_path_at, path_answer, front_written, found, lookup_answer, lookup_of_answer};
 ghost use Rattle.aff_format.specs.passes.Capped.{capped};
 ghost use Rattle.aff_read.specs.passes.Climb.{table_parent, table_name, table_front, TableInside, NotedMore, ClimbNoted};
+ghost use Rattle.aff_read.specs.passes.Held.{holds};
 ghost use Rattle.aff_read.specs.passes.Fit.{fit_from, fit_at, FitsSettled, Climbable, Chain};
-ghost use Rattle.aff_nodes.specs.Recall.{parent_at, name_at, name_span, path_at};
+ghost use Rattle.aff_nodes.specs.Recall.{name_at, name_span, path_at};
 ghost use Rattle.aff_format.specs.passes.Written.{Written, text_answer};
 ghost use Rattle.aff_spelling.specs.Spelling.{spelled};
 
-use aff_format::{Edition, Grammar, Lowest, NumberAnswer, Refusal, Verdict, bytes, recorded};
+use aff_format::{Edition, Refusal, bytes, path as format_path, recorded};
 use aff_nodes::node;
-use aff_reader::{Reader, belongs};
+use aff_reader::{Belonging, Opened};
 use aff_spelling::{Spelling, spelling};
 
 // Where the string that begins at a place ends, or, where it is longer than a limit, the place one byte past the limit. No byte after that is read.
@@ -30,39 +31,25 @@ fn name_stop(image: &[u8], from: usize, end: usize, limit: usize) -> usize
     recorded::name_end(image, from, from + limit + 1)
 }
 
-// The parent of a node; the root is its own.
-fn parent_of(image: &[u8], entries: &[u32], node: usize) -> usize
-    ensures { result ≡ parent_at image.now entries.now node }
-{
-    let entry = recorded::recorded_entry(image, entries, node);
-    entry.parent as usize
-}
-
 // Where the name of a node begins.
 #[tactic(auto, unfolding(aff_nodes::specs::Recall::name_span))]
-fn name_place(image: &[u8], reader: Reader, strings: &[u32], entries: &[u32], node: usize) -> usize
-    ensures { result ≡ (name_span image.now reader strings.now entries.now node).offset }
+fn name_place(belonging: &Belonging<'_>, node: usize) -> usize
+    ensures { result ≡ (of belonging.now.opened name_span node).offset }
 {
     if node == 0 {
         return 0;
     }
-    let entry = recorded::recorded_entry(image, entries, node);
-    recorded::place(strings, entry.string as usize)
+    recorded::place(
+        belonging.opened.strings,
+        belonging.entry(node).string as usize,
+    )
 }
 
 // The length of a slash and a node's name as it is written, counted no further than one past a limit. No byte of the name is read past the limit.
-#[tactic(auto, using(crate::proofs::FrontLaws::root_name, crate::proofs::FrontLaws::name_starts, crate::proofs::FrontLaws::name_counted, aff_format::proofs::CappedLaws::capped_next))]
-fn own_length(
-    spelling: Spelling,
-    image: &[u8],
-    reader: Reader,
-    strings: &[u32],
-    entries: &[u32],
-    node: usize,
-    limit: usize,
-) -> usize
-    requires { ReaderBelongs image.now reader strings.now entries.now × (node ≤ reader.nodes) × (limit < 2 ^ 63) }
-    ensures { result ≡ capped limit (length (spelled spelling (name_at image.now reader strings.now entries.now node)) + 1) }
+#[tactic(auto, using(crate::proofs::FrontLaws::root_name, crate::proofs::FrontLaws::name_counted, aff_format::proofs::CappedLaws::capped_next))]
+fn own_length(spelling: Spelling, belonging: &Belonging<'_>, node: usize, limit: usize) -> usize
+    requires { (node ≤ belonging.now.opened.reader.nodes) × (limit < 2 ^ 63) }
+    ensures { result ≡ capped limit (length (spelled spelling (of belonging.now.opened name_at node)) + 1) }
 {
     if node == 0 {
         return 1;
@@ -70,62 +57,52 @@ fn own_length(
     if limit == 0 {
         return 1;
     }
-    let symbols = reader.symbols;
-    let from = name_place(image, reader, strings, entries, node);
-    let stop = name_stop(image, from, symbols.offset + symbols.size, limit - 1);
+    let image = belonging.opened.image;
+    let from = name_place(belonging, node);
+    let stop = name_stop(image, from, belonging.symbols_end(), limit - 1);
     spelling::spelled_length(spelling, &image[from..stop], limit - 1) + 1
 }
 
 // The length of a node's path as it is written, counted no further than one past a limit. Each step of the climb counts a byte at least, and no name is read
 // past the limit: at most `limit` bytes, and `limit` + 1 steps.
-#[tactic(auto, using(crate::proofs::StepLaws::measure_done))]
 pub fn path_length(
     spelling: Spelling,
-    image: &[u8],
-    reader: Reader,
-    strings: &[u32],
-    entries: &[u32],
+    belonging: &Belonging<'_>,
     node: usize,
     limit: usize,
 ) -> usize
-    requires { ReaderBelongs image.now reader strings.now entries.now × (node ≤ reader.nodes) × (limit < 2 ^ 63) }
-    ensures { result ≡ capped limit (length (spelled_path_at spelling image.now reader strings.now entries.now node)) }
+    requires { (node ≤ belonging.now.opened.reader.nodes) × (limit < 2 ^ 63) }
+    ensures { result ≡ capped limit (length (of belonging.now.opened (spelled_path_at spelling) node)) }
 {
     let mut left = limit;
     let mut at = node;
+    // It follows parents and counts no index, so no `for` fits.
     loop {
-        let own = own_length(spelling, image, reader, strings, entries, at, left);
+        let own = own_length(spelling, belonging, at, left);
         if left < own {
             return limit + 1;
         }
         left -= own;
-        at = parent_of(image, entries, at);
+        at = belonging.parent(at);
         if at == 0 {
             return limit - left;
         }
     }
 }
 
-// Stores a node other than the root in the table of a climb, for a record that belongs: its parent, and where its name begins and ends in the
+// Stores a node other than the root in the table of a climb: its parent, and where its name begins and ends in the
 // image. Reads one entry and one name. Returns the parent.
-fn note(
-    image: &[u8],
-    reader: Reader,
-    strings: &[u32],
-    entries: &[u32],
-    node: usize,
-    table: &mut [u32; 6147],
-) -> usize
-    requires reader_belongs { ReaderBelongs image.now reader strings.now entries.now × (0 < node) × (node ≤ reader.nodes) }
-    requires table_inside { TableInside image.now table.old }
-    ensures parent { result ≡ parent_at image.now entries.now node }
-    ensures table { NotedMore image.now reader strings.now entries.now table.old table.new node }
+fn note(belonging: &Belonging<'_>, node: usize, table: &mut [u32; 6147]) -> usize
+    requires node_exists { (0 < node) × (node ≤ belonging.now.opened.reader.nodes) }
+    requires table_inside { TableInside belonging.now.opened.image.now table.old }
+    ensures parent { result ≡ (opened_entry belonging.now.opened node).parent }
+    ensures table { holds belonging.now.opened NotedMore table.old table.new node }
 {
-    let symbols = reader.symbols;
-    let entry = recorded::recorded_entry(image, entries, node);
+    let Opened { image, strings, .. } = belonging.opened;
+    let entry = belonging.entry(node);
     let parent = entry.parent as usize;
     let from = recorded::place(strings, entry.string as usize);
-    let end = recorded::name_end(image, from, symbols.offset + symbols.size);
+    let end = recorded::name_end(image, from, belonging.symbols_end());
     let at = 3 * node;
     table[at] = parent as u32;
     table[at + 1] = from as u32;
@@ -134,22 +111,16 @@ fn note(
 }
 
 // Stores the nodes of the climb from a node to the root, and no others, in the table of the climb.
-#[tactic(auto, using(crate::proofs::ClimbLaws::climbing_start, crate::proofs::ClimbLaws::climbing_next))]
-fn note_climb(
-    image: &[u8],
-    reader: Reader,
-    strings: &[u32],
-    entries: &[u32],
-    node: usize,
-    table: &mut [u32; 6147],
-)
-    requires reader_belongs { ReaderBelongs image.now reader strings.now entries.now × (node ≤ reader.nodes) }
-    requires table_inside { TableInside image.now table.old }
-    ensures { ClimbNoted image.now reader strings.now entries.now table.new node }
+#[tactic(auto, using(crate::proofs::ClimbLaws::climbing_start))]
+fn note_climb(belonging: &Belonging<'_>, node: usize, table: &mut [u32; 6147])
+    requires node_exists { (node ≤ belonging.now.opened.reader.nodes) }
+    requires table_inside { TableInside belonging.now.opened.image.now table.old }
+    ensures { holds belonging.now.opened ClimbNoted table.new node }
 {
     let mut at = node;
+    // It follows parents.
     while at != 0 {
-        at = note(image, reader, strings, entries, at, table);
+        at = note(belonging, at, table);
     }
 }
 
@@ -205,62 +176,40 @@ fn write_front(
     put_own(spelling, image, table, node, at, out)
 }
 
-// Writes the path of a node in a spelling, for a record that belongs: 21. It measures first, so that at most three times the output's length is read: to measure,
+// Writes the path of a node in a spelling: 21. It measures first, so that at most three times the output's length is read: to measure,
 // to find each name's end, to copy; four times where names are escaped, since a name is then read twice to measure it. The stack holds the table of the climb,
 // 24,588 bytes, and the frames of `write_front`: about 123,000 bytes for a climb of 2,048 nodes.
 pub fn path_of(
     spelling: Spelling,
-    image: &[u8],
-    reader: Reader,
-    strings: &[u32],
-    entries: &[u32],
+    belonging: &Belonging<'_>,
     node: usize,
     out: &mut [u8],
-) -> NumberAnswer
-    requires { ReaderBelongs image.now reader strings.now entries.now × (node ≤ reader.nodes) }
-    ensures answer { answer_of_number result ≡ text_answer (length out.old) (spelled_path_at spelling image.now reader strings.now entries.now node) }
-    ensures output { out.new ≡ front_written (answer_of_number result) (spelled_path_at spelling image.now reader strings.now entries.now node) out.old }
+) -> Result<usize, Refusal>
+    requires { (node ≤ belonging.now.opened.reader.nodes) }
+    ensures answer { answer_of result ≡ text_answer (length out.old) (of belonging.now.opened (spelled_path_at spelling) node) }
+    ensures output { out.new ≡ front_written (answer_of result) (of belonging.now.opened (spelled_path_at spelling) node) out.old }
 {
     let limit = out.len();
-    if limit < path_length(spelling, image, reader, strings, entries, node, limit) {
-        return NumberAnswer::Refused(Refusal::BufferTooSmall);
+    if limit < path_length(spelling, belonging, node, limit) {
+        return Err(Refusal::BufferTooSmall);
     }
     if node == 0 {
-        return NumberAnswer::Value(bytes::put_run(b"/", 0, out));
+        return Ok(bytes::put_run(b"/", 0, out));
     }
     let mut table = [0u32; 6147];
-    note_climb(image, reader, strings, entries, node, &mut table);
-    NumberAnswer::Value(write_front(spelling, image, &table, node, reader.nodes, out))
+    note_climb(belonging, node, &mut table);
+    let Opened { image, reader, .. } = belonging.opened;
+    Ok(write_front(spelling, image, &table, node, reader.nodes, out))
 }
 
 // Writes the path of a node, root first, at the front of an output; the rest of it stays: 24, 15, 21. Returns the path's length.
-#[tactic(auto, using(aff_nodes::proofs::JudgeLaws::judge_belongs), unfolding(crate::specs::Paths::path_answer))]
-pub fn path(
-    image: &[u8],
-    reader: Reader,
-    strings: &[u32],
-    entries: &[u32],
-    node: usize,
-    out: &mut [u8],
-) -> NumberAnswer
-    ensures answer { answer_of_number result ≡ path_answer image.now reader strings.now entries.now node (length out.old) }
-    ensures output { out.new ≡ front_written (answer_of_number result) (path_at image.now reader strings.now entries.now node) out.old }
+#[tactic(auto, unfolding(crate::specs::Paths::path_answer))]
+pub fn path(opened: &Opened<'_>, node: usize, out: &mut [u8]) -> Result<usize, Refusal>
+    ensures answer { answer_of result ≡ of opened.now path_answer node (length out.old) }
+    ensures output { out.new ≡ front_written (answer_of result) (of opened.now path_at node) out.old }
 {
-    match node::judge(image, reader, strings, entries, node) {
-        Verdict::Refused(refusal) => NumberAnswer::Refused(refusal),
-        Verdict::Accepted => path_of(Spelling::Raw, image, reader, strings, entries, node, out),
-    }
-}
-
-// Whether a path is the root's.
-#[tactic(auto, using(crate::proofs::FitLaws::root_long, crate::proofs::FitLaws::root_one))]
-fn is_root(path: &[u8]) -> bool
-    ensures { result ≡ same_bytes (47 ∷ []) path.now }
-{
-    if path.len() != 1 {
-        return false;
-    }
-    path[0] == b'/'
+    let belonging = node::judge(opened, node)?;
+    path_of(Spelling::Raw, &belonging, node, out)
 }
 
 // Whether a path has the string that begins at a place from `at` on: 2 more than where it ends there, or 1 where it does not. One pass
@@ -270,20 +219,15 @@ fn fit_from(image: &[u8], from: usize, end: usize, path: &[u8], at: usize) -> us
     requires { (from ≤ end) × (end ≤ length image.now) × (at ≤ length path.now) }
     ensures { result ≡ fit_from (name_from image.now end from) (drop at path.now) at }
 {
-    let mut k = from;
     let mut n = at;
-    while k < end {
+    for k in from..end {
         let byte = image[k];
         if byte == 0 {
             return n + 2;
         }
-        if path.len() <= n {
+        if path.len() <= n || byte != path[n] {
             return 1;
         }
-        if byte != path[n] {
-            return 1;
-        }
-        k += 1;
         n += 1;
     }
     n + 2
@@ -291,21 +235,17 @@ fn fit_from(image: &[u8], from: usize, end: usize, path: &[u8], at: usize) -> us
 
 // The fit of a node is n + 2 where its path, nothing for the root, is the first n bytes of the given one, and 1 where it is not. This is the
 // fit of a node that is not the root, by that of its parent: a slash and the name are to follow.
-#[tactic(auto, using(crate::proofs::FitLaws::below_none, crate::proofs::FitLaws::below_end, crate::proofs::FitLaws::below_other, crate::proofs::FitLaws::below_slash, crate::proofs::FrontLaws::name_begins, crate::proofs::FrontLaws::name_there))]
 fn fit_below(
-    image: &[u8],
-    reader: Reader,
-    strings: &[u32],
-    entries: &[u32],
+    belonging: &Belonging<'_>,
     path: &[u8],
     node: usize,
     string: usize,
     above: usize,
 ) -> usize
-    requires reader_belongs { ReaderBelongs image.now reader strings.now entries.now × (node ≤ reader.nodes) × (0 < node) }
-    requires string_value { string ≡ (recorded_entry image.now entries.now node).string }
-    requires above_value { above ≡ fit_at image.now reader strings.now entries.now path.now (parent_at image.now entries.now node) }
-    ensures { result ≡ fit_at image.now reader strings.now entries.now path.now node }
+    requires node_exists { (node ≤ belonging.now.opened.reader.nodes) × (0 < node) }
+    requires string_value { string ≡ (opened_entry belonging.now.opened node).string }
+    requires above_value { above ≡ of belonging.now.opened fit_at path.now (opened_entry belonging.now.opened node).parent }
+    ensures { result ≡ of belonging.now.opened fit_at path.now node }
 {
     if above <= 1 {
         return 1;
@@ -317,34 +257,33 @@ fn fit_below(
     if path[at] != b'/' {
         return 1;
     }
-    let symbols = reader.symbols;
+    let Opened { image, strings, .. } = belonging.opened;
     let from = recorded::place(strings, string);
-    fit_from(image, from, symbols.offset + symbols.size, path, at + 1)
+    fit_from(image, from, belonging.symbols_end(), path, at + 1)
 }
 
 // Climbs from a node to the first one whose fit is stored, itself or an ancestor. Stores the nodes on the way and then that one in `chain`, and the
 // string numbers of those on the way in `names`. Returns how many are on the way.
 #[tactic(auto, using(crate::proofs::ChainLaws::at_exists, crate::proofs::ChainLaws::few_more))]
 fn climb(
-    image: &[u8],
-    entries: &[u32],
-    nodes: usize,
+    belonging: &Belonging<'_>,
     node: usize,
     fits: &[usize; 2049],
     chain: &mut [u32],
     names: &mut [u32],
 ) -> usize
-    requires climbable { Climbable image.now entries.now fits.now nodes node }
+    requires climbable { Climbable belonging.now.opened.image.now belonging.now.opened.entries.now fits.now belonging.now.opened.reader.nodes node }
     requires chain_len { (length chain.old ≡ 2049) × (length names.old ≡ 2049) }
-    ensures chain { Chain image.now entries.now nodes chain.new names.new result }
+    ensures chain { Chain belonging.now.opened.image.now belonging.now.opened.entries.now belonging.now.opened.reader.nodes chain.new names.new result }
     ensures first { get_or chain.new 0 0 ≡ node }
     ensures settled { get_or fits.now (get_or chain.new result 0) 0 ≡ 0 → ⊥ }
 {
     let mut count: usize = 0;
     let mut at = node;
     chain[0] = node as u32;
+    // It follows parents.
     while fits[at] == 0 {
-        let entry = recorded::recorded_entry(image, entries, at);
+        let entry = belonging.entry(at);
         names[count] = entry.string;
         at = entry.parent as usize;
         count += 1;
@@ -355,31 +294,25 @@ fn climb(
 
 // Computes and stores the fits of the nodes of a chain, parents first. Returns the fit of the chain's first node.
 fn settle_chain(
-    image: &[u8],
-    reader: Reader,
-    strings: &[u32],
-    entries: &[u32],
+    belonging: &Belonging<'_>,
     path: &[u8],
     chain: &[u32],
     names: &[u32],
     count: usize,
     fits: &mut [usize; 2049],
 ) -> usize
-    requires reader_belongs { ReaderBelongs image.now reader strings.now entries.now }
-    requires fits_settled { FitsSettled image.now reader strings.now entries.now path.now fits.old }
-    requires chain { Chain image.now entries.now reader.nodes chain.now names.now count }
+    requires fits_settled { holds belonging.now.opened FitsSettled path.now fits.old }
+    requires chain { Chain belonging.now.opened.image.now belonging.now.opened.entries.now belonging.now.opened.reader.nodes chain.now names.now count }
     requires top_settled { get_or fits.old (get_or chain.now count 0) 0 ≡ 0 → ⊥ }
-    ensures settled { FitsSettled image.now reader strings.now entries.now path.now fits.new }
-    ensures fit { result ≡ fit_at image.now reader strings.now entries.now path.now (get_or chain.now 0 0) }
+    ensures settled { holds belonging.now.opened FitsSettled path.now fits.new }
+    ensures fit { result ≡ of belonging.now.opened fit_at path.now (get_or chain.now 0 0) }
 {
     let top = recorded::place(chain, count);
-    let mut k = count;
     let mut fit = fits[top];
-    while 0 < k {
-        k -= 1;
+    for k in (0..count).rev() {
         let node = recorded::place(chain, k);
         let string = recorded::place(names, k);
-        fit = fit_below(image, reader, strings, entries, path, node, string, fit);
+        fit = fit_below(belonging, path, node, string, fit);
         fits[node] = fit;
     }
     fit
@@ -387,122 +320,80 @@ fn settle_chain(
 
 // Returns the fit of a node other than the root. Computes and stores it, and before it those of its ancestors, unless they are stored already.
 fn settle(
-    image: &[u8],
-    reader: Reader,
-    strings: &[u32],
-    entries: &[u32],
+    belonging: &Belonging<'_>,
     path: &[u8],
     node: usize,
     chain: &mut [u32],
     names: &mut [u32],
     fits: &mut [usize; 2049],
 ) -> usize
-    requires reader_belongs { ReaderBelongs image.now reader strings.now entries.now × (0 < node) × (node ≤ reader.nodes) }
-    requires fits_settled { FitsSettled image.now reader strings.now entries.now path.now fits.old }
+    requires node_exists { (0 < node) × (node ≤ belonging.now.opened.reader.nodes) }
+    requires fits_settled { holds belonging.now.opened FitsSettled path.now fits.old }
     requires chain_len { (length chain.old ≡ 2049) × (length names.old ≡ 2049) }
-    ensures settled { FitsSettled image.now reader strings.now entries.now path.now fits.new }
-    ensures fit { result ≡ fit_at image.now reader strings.now entries.now path.now node }
+    ensures settled { holds belonging.now.opened FitsSettled path.now fits.new }
+    ensures fit { result ≡ of belonging.now.opened fit_at path.now node }
 {
-    let count = climb(image, entries, reader.nodes, node, fits, chain, names);
-    settle_chain(
-        image, reader, strings, entries, path, chain, names, count, fits,
-    )
+    let count = climb(belonging, node, fits, chain, names);
+    settle_chain(belonging, path, chain, names, count, fits)
 }
 
 // Whether the path of a node is the given one.
 #[tactic(auto, using(crate::proofs::FitLaws::other_has))]
 fn has_path(
-    image: &[u8],
-    reader: Reader,
-    strings: &[u32],
-    entries: &[u32],
+    belonging: &Belonging<'_>,
     path: &[u8],
     node: usize,
     chain: &mut [u32],
     names: &mut [u32],
     fits: &mut [usize; 2049],
 ) -> bool
-    requires reader_belongs { ReaderBelongs image.now reader strings.now entries.now × (node ≤ reader.nodes) }
-    requires fits_settled { FitsSettled image.now reader strings.now entries.now path.now fits.old }
+    requires node_exists { (node ≤ belonging.now.opened.reader.nodes) }
+    requires fits_settled { holds belonging.now.opened FitsSettled path.now fits.old }
     requires chain_len { (length chain.old ≡ 2049) × (length names.old ≡ 2049) }
-    ensures settled { FitsSettled image.now reader strings.now entries.now path.now fits.new }
-    ensures answer { result ≡ same_bytes (path_at image.now reader strings.now entries.now node) path.now }
+    ensures settled { holds belonging.now.opened FitsSettled path.now fits.new }
+    ensures answer { result ≡ same_bytes (of belonging.now.opened path_at node) path.now }
 {
     if node == 0 {
-        return is_root(path);
+        return bytes::same(b"/", path);
     }
-    settle(
-        image, reader, strings, entries, path, node, chain, names, fits,
-    ) == path.len() + 2
+    settle(belonging, path, node, chain, names, fits) == path.len() + 2
 }
 
-// The lowest node whose path is the given one, for a record that belongs. The fit of a node is computed once at most: its entry is read once, and its
+// The lowest node whose path is the given one. The fit of a node is computed once at most: its entry is read once, and its
 // name compared only where its parent fits, up to the first byte that differs and no further than the path goes. No recursion: the stack holds three
 // arrays, 32,784 bytes.
-#[tactic(auto, using(aff_format::proofs::LowestLaws::lowest_here, aff_format::proofs::LowestLaws::lowest_on, aff_format::proofs::LowestLaws::lowest_end))]
-pub fn lowest_match(
-    image: &[u8],
-    reader: Reader,
-    strings: &[u32],
-    entries: &[u32],
-    path: &[u8],
-) -> Lowest
-    requires { ReaderBelongs image.now reader strings.now entries.now }
-    ensures { result ≡ found image.now reader strings.now entries.now path.now }
+pub fn lowest_match(belonging: &Belonging<'_>, path: &[u8]) -> Option<usize>
+    ensures { result ≡ of belonging.now.opened found path.now }
 {
     let mut chain = [0u32; 2049];
     let mut names = [0u32; 2049];
     let mut fits = [0usize; 2049];
     fits[0] = 2;
-    let mut k: usize = 0;
-    while k <= reader.nodes {
-        if has_path(
-            image, reader, strings, entries, path, k, &mut chain, &mut names, &mut fits,
-        ) {
-            return Lowest::At(k);
+    for k in 0..=belonging.opened.reader.nodes {
+        if has_path(belonging, path, k, &mut chain, &mut names, &mut fits) {
+            return Some(k);
         }
-        k += 1;
     }
-    Lowest::Nothing
+    None
 }
 
-// The lowest node whose path is the given one, for a record that belongs: 14, with the place at which the path breaks, 15.
+// The lowest node whose path is the given one: 14, with the place at which the path breaks, 15.
 #[tactic(auto, using(crate::proofs::LookupLaws::lookup_breaks, crate::proofs::LookupLaws::lookup_at, crate::proofs::LookupLaws::lookup_none))]
-pub fn lookup_of(
-    image: &[u8],
-    reader: Reader,
-    strings: &[u32],
-    entries: &[u32],
-    path: &[u8],
-) -> NumberAnswer
-    requires { ReaderBelongs image.now reader strings.now entries.now }
-    ensures { answer_of_number result ≡ lookup_of_answer image.now reader strings.now entries.now path.now }
+pub fn lookup_of(belonging: &Belonging<'_>, path: &[u8]) -> Result<usize, Refusal>
+    ensures { answer_of result ≡ of belonging.now.opened lookup_of_answer path.now }
 {
-    match aff_format::path::grammar(Edition::by_number(reader.edition), path) {
-        Grammar::BreaksAt(place) => {
-            return NumberAnswer::Refused(Refusal::Malformed(place));
-        }
-        Grammar::Sound => {}
+    let edition = Edition::by_number(belonging.opened.reader.edition);
+    if let Some(place) = format_path::grammar(edition, path) {
+        return Err(Refusal::Malformed(place));
     }
-    match lowest_match(image, reader, strings, entries, path) {
-        Lowest::At(node) => NumberAnswer::Value(node),
-        Lowest::Nothing => NumberAnswer::Refused(Refusal::Absent),
-    }
+    lowest_match(belonging, path).ok_or(Refusal::Absent)
 }
 
 // The lowest node whose path is the given one: 24, 14 with the place in the path, 15.
-#[tactic(auto, using(crate::proofs::LookupLaws::lookup_wrong, crate::proofs::LookupLaws::lookup_belongs))]
-pub fn lookup(
-    image: &[u8],
-    reader: Reader,
-    strings: &[u32],
-    entries: &[u32],
-    path: &[u8],
-) -> NumberAnswer
-    ensures { answer_of_number result ≡ lookup_answer image.now reader strings.now entries.now path.now }
+#[tactic(auto, unfolding(crate::specs::Paths::lookup_answer, crate::specs::Paths::lookup_of_answer))]
+pub fn lookup(opened: &Opened<'_>, path: &[u8]) -> Result<usize, Refusal>
+    ensures { answer_of result ≡ of opened.now lookup_answer path.now }
 {
-    if !belongs::belongs(image, reader, strings, entries) {
-        return NumberAnswer::Refused(Refusal::WrongRecord);
-    }
-    lookup_of(image, reader, strings, entries, path)
+    let belonging = opened.judge()?;
+    lookup_of(&belonging, path)
 }

@@ -14,11 +14,7 @@ use Rattle.aff_format.specs.Limits.{image_limit, string_limit, node_limit}
 use Rattle.aff_format.specs.Lowest.{lowest_from, is_at, none_from}
 use Rattle.aff_format.specs.Tree.{reaches_by}
 use Rattle.aff_format.specs.declared.edition.Edition.{Edition}
-use Rattle.aff_format.specs.declared.edition.FoundEdition.{FoundEdition}
-use Rattle.aff_format.specs.declared.edition.FoundEdition.TheVariants.{Known, Unknown}
-use Rattle.aff_format.specs.declared.entry.FoundEntry.TheVariants.{Whole}
-use Rattle.aff_format.specs.declared.lowest.Lowest.{Lowest}
-use Rattle.aff_format.specs.declared.lowest.Lowest.TheVariants.{Nothing}
+use Rattle.std.specs.Prelude.{Option, Some, None}
 use Rattle.aff_format.proofs.EntryLaws.{entry_inside}
 use Rattle.aff_format.proofs.KindLaws.{entry_size_bounds}
 use Rattle.aff_format.proofs.LowestLaws.{none_holds, holds_none, none_at}
@@ -34,9 +30,9 @@ use Rattle.aff_reader.proofs.LostLaws.{Kept, string_asks, entry_kept, kept_entry
 use Rattle.aff_format.proofs.RecordedLaws.{recorded_found, name_ends}
 use Rattle.aff_tables.proofs.ParentLaws.{copied_climbs, copied_linked}
 
-known : (f : FoundEdition) → is_known f ≡ true → (e : Edition) × (f ≡ Known e)
-known (Known e) h = (e, refl)
-known Unknown h = absurd (false≢true h)
+known : (f : Option Edition) → is_known f ≡ true → (e : Edition) × (f ≡ Some e)
+known (Some e) h = (e, refl)
+known None h = absurd (false≢true h)
 
 module _ (image : List ℕ) (reader : Reader) (strings entries : List ℕ) where
   -- The test in the order of the passes.
@@ -89,15 +85,15 @@ sections_hold image reader h =
 
 -- ---- Strings and nodes, where the lowest that is lost is none.
 
-strings_kept : (from end : ℕ) (strings : List ℕ) (count : ℕ) → lowest_from (string_lost from end strings) count 0 ≡ Nothing
+strings_kept : (from end : ℕ) (strings : List ℕ) (count : ℕ) → lowest_from (string_lost from end strings) count 0 ≡ None
     → (i : ℕ) → i < count → (from ≤ get_or strings i 0) × (get_or strings i 0 < end)
 strings_kept from end strings count none i l =
     (string_asks from end strings i).0 (none_holds (string_lost from end strings) count 0 none i (omega arith) (omega arith))
 
-module _ (image : List ℕ) (strings nodes : ℕ) (entries : List ℕ) (none : lowest_from (node_lost image strings nodes entries) nodes 1 ≡ Nothing) where
+module _ (image : List ℕ) (strings nodes : ℕ) (entries : List ℕ) (none : lowest_from (node_lost image strings nodes entries) nodes 1 ≡ None) where
   -- Each entry is whole and has no fault.
   pub nodes_kept : (k : ℕ) → 0 < k → k ≤ nodes
-      → (found_entry image entries k ≡ Whole (recorded_entry image entries k)) × Kept (length image) strings nodes (recorded_entry image entries k)
+      → (found_entry image entries k ≡ Some (recorded_entry image entries k)) × Kept (length image) strings nodes (recorded_entry image entries k)
   unfolding node_lost
   nodes_kept k l h =
       rw (recorded_found image entries k l)
@@ -112,9 +108,9 @@ module _ (image : List ℕ) (strings nodes : ℕ) (entries : List ℕ) (none : l
 
 -- The climbs by copied parents decide.
 pub climbs_decide : (image : List ℕ) (reader : Reader) (entries : List ℕ) {parents : List ℕ}
-    → lowest_from (node_lost image reader.strings reader.nodes entries) reader.nodes 1 ≡ Nothing
+    → lowest_from (node_lost image reader.strings reader.nodes entries) reader.nodes 1 ≡ None
     → ParentsCopied (recorded_entry image entries) reader.nodes parents
-    → (l : Lowest) → lowest_from (λ k. not (reaches_by (copied_parent parents) reader.nodes k)) reader.nodes 1 ≡ l
+    → (l : Option ℕ) → lowest_from (λ k. not (reaches_by (copied_parent parents) reader.nodes k)) reader.nodes 1 ≡ l
     → nodes_belong image reader entries ≡ not (is_at l)
 unfolding nodes_belong
 climbs_decide image reader entries {parents} none copied l e =
@@ -173,12 +169,12 @@ module _ {image : List ℕ} {reader : Reader} {strings entries : List ℕ} (b : 
   unfolding sections_inside span_inside
   sections_true = rw (le-leb _ _ b.symbols_inside, le-leb _ _ b.tree_inside, le-leb _ _ b.data_inside)
 
-  strings_none : lowest_from (string_lost reader.symbols.offset (reader.symbols.offset + reader.symbols.size) strings) reader.strings 0 ≡ Nothing
+  strings_none : lowest_from (string_lost reader.symbols.offset (reader.symbols.offset + reader.symbols.size) strings) reader.strings 0 ≡ None
   strings_none =
       holds_none _ reader.strings 0
       (λ i l m. (string_asks _ _ strings i).1 (b.string_begins i (omega arith), b.string_before_end i (omega arith)))
 
-  nodes_none : lowest_from (node_lost image reader.strings reader.nodes entries) reader.nodes 1 ≡ Nothing
+  nodes_none : lowest_from (node_lost image reader.strings reader.nodes entries) reader.nodes 1 ≡ None
   unfolding node_lost
   nodes_none =
       holds_none _ reader.nodes 1
@@ -187,7 +183,7 @@ module _ {image : List ℕ} {reader : Reader} {strings entries : List ℕ} (b : 
       kept_entry (length image) reader.strings reader.nodes (recorded_entry image entries k) (found_entry image entries k) (b.entry_whole k l h)
       (record { parent = b.parent_exists k l h; string = b.string_exists k l h; inside = b.node_data k l h }))
 
-  climbs_none : lowest_from (climb_endless reader.nodes (recorded_entry image entries)) reader.nodes 1 ≡ Nothing
+  climbs_none : lowest_from (climb_endless reader.nodes (recorded_entry image entries)) reader.nodes 1 ≡ None
   unfolding climb_endless
   climbs_none = holds_none _ reader.nodes 1 (λ k l m. rw (b.climb_ends k l (omega arith)))
 

@@ -1,15 +1,13 @@
 -- 24 for the reader: document 01, 'Numbers handed back', the paragraph after the table, with request C-13. All that is recorded is judged, and
 -- nothing else.
-use Rattle.std.specs.Prelude.{◌≡◌, Bool, true, false, ◌&&◌, ◌||◌, List, ℕ, ◌+◌, ◌*◌, ◌≤◌, ◌<◌, eqb, ltb, leb, length, get_or}
+use Rattle.std.specs.Prelude.{◌≡◌, Bool, true, false, ◌&&◌, ◌||◌, List, ℕ, ◌+◌, ◌*◌, ◌≤◌, ◌<◌, eqb, ltb, leb, length, get_or, Option, Some, None}
 use Rattle.aff_format.specs.Edition.{edition_of, is_known}
 use Rattle.aff_format.specs.Kind.{element_size, is_void}
 use Rattle.aff_format.specs.Limits.{image_limit, string_limit, node_limit}
 use Rattle.aff_format.specs.Lowest.{none_from}
 use Rattle.aff_format.specs.Tree.{reaches_by}
 use Rattle.aff_format.specs.declared.edition.Edition.{Edition}
-use Rattle.aff_format.specs.declared.edition.FoundEdition.TheVariants.{Known}
-use Rattle.aff_format.specs.declared.entry.FoundEntry.{FoundEntry}
-use Rattle.aff_format.specs.declared.entry.FoundEntry.TheVariants.{Whole, Broken}
+use Rattle.aff_format.specs.declared.entry.Entry.{Entry}
 use Rattle.aff_format.specs.Entry.{no_parent, no_string, outside}
 use Rattle.aff_tables.specs.Nodes.{climb_endless}
 use Rattle.aff_format.specs.Recorded.{found_entry, recorded_entry}
@@ -43,9 +41,9 @@ strings_belong reader strings =
     none_from (string_lost reader.symbols.offset (reader.symbols.offset + reader.symbols.size) strings) reader.strings 0
 
 -- An entry falls outside the image or its type does not exist; its parent or string number does not exist; its data fall outside the image.
-abbrev pub entry_lost : ℕ → ℕ → ℕ → FoundEntry → Bool
-entry_lost size strings nodes Broken = true
-entry_lost size strings nodes (Whole e) = no_parent nodes e || (no_string strings e || outside 0 size e)
+abbrev pub entry_lost : ℕ → ℕ → ℕ → Option Entry → Bool
+entry_lost size strings nodes None = true
+entry_lost size strings nodes (Some e) = no_parent nodes e || (no_string strings e || outside 0 size e)
 
 unfoldable pub node_lost : List ℕ → ℕ → ℕ → List ℕ → ℕ → Bool
 node_lost image strings nodes entries k = entry_lost (length image) strings nodes (found_entry image entries k)
@@ -79,7 +77,7 @@ pub record ReaderBelongs (image : List ℕ) (reader : Reader) (strings entries :
   pub few_nodes : reader.nodes ≤ node_limit
   -- The recorded edition exists.
   pub edition : Edition
-  pub edition_recorded : edition_of reader.edition ≡ Known edition
+  pub edition_recorded : edition_of reader.edition ≡ Some edition
   -- Each section lies inside the image.
   pub symbols_inside : reader.symbols.offset + reader.symbols.size ≤ length image
   pub tree_inside : reader.tree.offset + reader.tree.size ≤ length image
@@ -88,7 +86,7 @@ pub record ReaderBelongs (image : List ℕ) (reader : Reader) (strings entries :
   pub string_begins : (i : ℕ) → i < reader.strings → reader.symbols.offset ≤ get_or strings i 0
   pub string_before_end : (i : ℕ) → i < reader.strings → get_or strings i 0 < reader.symbols.offset + reader.symbols.size
   -- Each entry is one of the image, with a type that exists; its parent and its string exist; its data lie inside the image.
-  pub entry_whole : (k : ℕ) → 0 < k → k ≤ reader.nodes → found_entry image entries k ≡ Whole (recorded_entry image entries k)
+  pub entry_whole : (k : ℕ) → 0 < k → k ≤ reader.nodes → found_entry image entries k ≡ Some (recorded_entry image entries k)
   pub parent_exists : (k : ℕ) → 0 < k → k ≤ reader.nodes → (recorded_entry image entries k).parent ≤ reader.nodes
   pub string_exists : (k : ℕ) → 0 < k → k ≤ reader.nodes → (recorded_entry image entries k).string < reader.strings
   pub node_data : (k : ℕ) → 0 < k → k ≤ reader.nodes → is_void (recorded_entry image entries k).kind ≡ false

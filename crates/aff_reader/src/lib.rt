@@ -2,6 +2,10 @@
 #![tactic(auto)]
 
 mod reader; // the record
-pub mod belongs; // whether it belongs to what is passed
+mod opened; // the record with what is passed with it
+mod belonging; // a record that belongs to what is passed with it
+mod belongs; // whether it does
 
+pub use belonging::Belonging;
+pub use opened::Opened;
 pub use reader::{Reader, Span};

@@ -3,14 +3,14 @@ ghost use Rattle.std.specs.Prelude.{◌≡◌};
 ghost use Rattle.aff_reader.specs.Reader.{no_span, no_reader};
 
 // A section: where it begins, and its bytes.
-#[derive(Clone, Copy)]
+#[derive(Clone, Copy, Debug, PartialEq, Eq, Default)]
 pub struct Span {
     pub offset: usize,
     pub size: usize,
 }
 
 // What an accepted opening found. It belongs to the image and the two areas that were passed.
-#[derive(Clone, Copy)]
+#[derive(Clone, Copy, Debug, PartialEq, Eq, Default)]
 pub struct Reader {
     pub length: usize,
     pub edition: u32,
@@ -26,7 +26,7 @@ impl Span {
     pub fn none() -> Span
         ensures { result ≡ no_span }
     {
-        Span { offset: 0, size: 0 }
+        Span::default()
     }
 }
 
@@ -35,15 +35,6 @@ impl Reader {
     pub fn none() -> Reader
         ensures { result ≡ no_reader }
     {
-        Reader {
-            length: 0,
-            edition: 0,
-            symbols: Span { offset: 0, size: 0 },
-            tree: Span { offset: 0, size: 0 },
-            data: Span { offset: 0, size: 0 },
-            strings: 0,
-            nodes: 0,
-            records: 0,
-        }
+        Reader::default()
     }
 }

@@ -21,7 +21,7 @@ use Rattle.aff_format.specs.Subkey.{is_subkey}
 use Rattle.aff_format.specs.Tree.{Node, Tree, root, tree_node}
 use Rattle.aff_format.specs.declared.edition.Edition.{Edition}
 use Rattle.aff_format.specs.declared.entry.Entry.{Entry}
-use Rattle.aff_format.specs.declared.entry.FoundEntry.TheVariants.{Whole}
+use Rattle.std.specs.Prelude.{Some}
 use Rattle.aff_format.specs.declared.kind.Kind.{Kind}
 use Rattle.aff_format.specs.declared.kind.Kind.TheVariants.{Void, Char, Int, Double, Complex}
 use Rattle.aff_format.proofs.ClimbLaws.{absurd_bool}
@@ -278,7 +278,7 @@ module _ (s : State) (tree : Tree) {layout : DataLayout} (g : Invariant s tree l
   pub storables : Storables g.entries
   storables = each_storable (writer_edition s.writer) (names_of tree) s.buffer s.writer.end g.strings_few small 1 g.entries tree g.each (omega (arith, g.nodes_few))
 
-  found_in : (k : ℕ) → 0 < k → k ≤ length tree → found_slot s.tree k ≡ Whole (node_entry g.entries k)
+  found_in : (k : ℕ) → 0 < k → k ≤ length tree → found_slot s.tree k ≡ Some (node_entry g.entries k)
   found_in k lo hi = rw g.tree_is (slot_found g.entries g.tree_rest storables k lo (omega (arith, count_same)))
 
   pub entry_in_lem : (k : ℕ) → k ≤ length tree → slot_entry s.tree k ≡ node_entry g.entries k

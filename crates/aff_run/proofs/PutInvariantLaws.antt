@@ -20,8 +20,7 @@ use Rattle.aff_format.specs.Limits.{tree_area}
 use Rattle.aff_format.specs.Tree.{Node, Tree, root, tree_node}
 use Rattle.aff_format.specs.declared.entry.Entry.{Entry}
 use Rattle.aff_format.specs.declared.kind.Kind.{Kind}
-use Rattle.aff_format.specs.declared.kind.FoundKind.{FoundKind}
-use Rattle.aff_format.specs.declared.kind.FoundKind.TheVariants.{Known, Unknown}
+use Rattle.std.specs.Prelude.{Option, Some, None}
 use Rattle.aff_format.proofs.AlignLaws.{aligned_multiple}
 use Rattle.aff_format.proofs.BytesLaws.{length_part, length_spliced, take_spliced, part_spliced, part_part, drop_take}
 use Rattle.aff_format.proofs.EntryLaws.{length_slot_bytes}
@@ -84,9 +83,9 @@ part_grown p q n x l h e f =
 -- ---- What an accepted put found.
 
 -- A type that holds data, and a length that is a multiple of its element.
-pub data_right : (f : FoundKind) (n : ℕ) → wrong_data f n ≡ false → (is_void (data_kind f) ≡ false) × (n % element_size (data_kind f) ≡ 0)
-data_right Unknown n h = absurd (true≢false h)
-data_right (Known k) n h =
+pub data_right : (f : Option Kind) (n : ℕ) → wrong_data f n ≡ false → (is_void (data_kind f) ≡ false) × (n % element_size (data_kind f) ≡ 0)
+data_right None n h = absurd (true≢false h)
+data_right (Some k) n h =
     let a = or_false (is_void k) (not (eqb (n % element_size k) 0)) h in (a.0, eqb-true (n % element_size k) 0 (not-false (eqb (n % element_size k) 0) a.1))
 
 -- The tree in which a Void node has data.

@@ -12,7 +12,7 @@ use Rattle.aff_format.specs.Bytes.{spliced}
 use Rattle.aff_format.specs.Entry.{entry_bytes, slot_bytes, Storable, no_entry, or_none}
 use Rattle.aff_format.specs.Kind.{entry_size}
 use Rattle.aff_format.specs.declared.entry.Entry.{Entry}
-use Rattle.aff_format.specs.declared.entry.FoundEntry.TheVariants.{Whole}
+use Rattle.std.specs.Prelude.{Some}
 use Rattle.aff_format.proofs.EntryLaws.{length_slot_bytes, slot_front, slot_round_trip, length_entry_bytes}
 use Rattle.aff_format.proofs.KindLaws.{entry_size_bounds}
 use Rattle.aff_tables.specs.Tables.{node_entry, tree_bytes}
@@ -62,7 +62,7 @@ module _ (es : List Entry) (rest : List ℕ) (s : Storables es) where
   abbrev area : List ℕ
   area = slots_of es ++ rest
 
-  pub slot_found : (k : ℕ) → 0 < k → k ≤ length es → found_slot area k ≡ Whole (node_entry es k)
+  pub slot_found : (k : ℕ) → 0 < k → k ≤ length es → found_slot area k ≡ Some (node_entry es k)
   slot_found zero lo hi = absurd (omega arith)
   slot_found (suc k) lo hi =
       let z : suc k - 1 ≡ k = omega arith in

@@ -13,8 +13,8 @@ use Rattle.aff_format.specs.Answer.{Answer, accepted, refused, refusal}
 use Rattle.aff_format.specs.Kind.{kind_code, kind_of}
 use Rattle.aff_format.specs.Tree.{Node, Tree, root, tree_node}
 use Rattle.aff_format.specs.declared.edition.Edition.{Edition}
-use Rattle.aff_format.specs.declared.kind.FoundKind.{FoundKind}
-use Rattle.aff_format.specs.declared.kind.FoundKind.TheVariants.{Known, Unknown}
+use Rattle.std.specs.Prelude.{Option, Some, None}
+use Rattle.aff_format.specs.declared.kind.Kind.{Kind}
 use Rattle.aff_format.specs.declared.kind.Kind.TheVariants.{Void}
 use Rattle.aff_format.proofs.AnswerLaws.{not_both, passed}
 use Rattle.aff_format.proofs.KindLaws.{code_of_kind}
@@ -186,9 +186,9 @@ node_apart fit tree (d ∷ ds) n h apart = node_apart fit (with_put tree d) ds n
 type_shown : (type n : ℕ) → wrong_data (kind_of type) n ≡ false → kind_code (data_kind (kind_of type)) ≡ type
 type_shown type n h = go (kind_of type) refl
   where
-    go : (f : FoundKind) → kind_of type ≡ f → kind_code (data_kind (kind_of type)) ≡ type
-    go (Known k) e = ap (λ (f : FoundKind). kind_code (data_kind f)) e ∙ code_of_kind type k e
-    go Unknown e = absurd (true≢false (ap (λ (f : FoundKind). wrong_data f n) (sym e) ∙ h))
+    go : (f : Option Kind) → kind_of type ≡ f → kind_code (data_kind (kind_of type)) ≡ type
+    go (Some k) e = ap (λ (f : Option Kind). kind_code (data_kind f)) e ∙ code_of_kind type k e
+    go None e = absurd (true≢false (ap (λ (f : Option Kind). wrong_data f n) (sym e) ∙ h))
 
 put_nodes : (tree : Tree) (ds : List PutData) → AllFit tree ds → NodesPut (put_all tree ds) ds
 put_nodes tree [] fit = tt

@@ -1,9 +1,8 @@
 -- What is printed for some bytes, as the passes measure and write it, byte after byte; and how far a name must be read to measure it. Assumes nothing.
 use mathlib.Core.Path.{◌≡◌, refl, sym, ap, ◌∙◌}
-use mathlib.Core.Bool.{Bool, true, false}
 use mathlib.Core.List.{List, [], ◌∷◌, ◌++◌}
 use mathlib.Core.Logic.{⊎_elim}
-use Prim.Native.Nat.{ℕ, ◌+◌, ◌-◌, ◌/◌, ◌%◌, ◌≤◌, ◌<◌}
+use Prim.Native.Nat.{ℕ, ◌+◌, ◌-◌, ◌≤◌, ◌<◌}
 use native.Mathlib.Numerals.{add-one}
 use native.Mathlib.Omega.{arith}
 use lib.ListN.{length, get_or, take, drop, length-append, take-append-drop, drop_of_length-le}
@@ -13,21 +12,10 @@ use Rattle.aff_format.specs.passes.Written.{Written}
 use Rattle.aff_format.proofs.CappedLaws.{capped_within, capped_past}
 use Rattle.aff_format.proofs.ClimbLaws.{le_or_lt}
 use Rattle.aff_format.proofs.WrittenLaws.{written_none, written_same, written_more, written_length}
-use Rattle.aff_spelling.specs.Spelling.{hex_digit, is_plain, shown_byte, shown, spelled}
+use Rattle.aff_spelling.specs.Spelling.{shown_byte, shown, spelled}
 use Rattle.aff_spelling.specs.declared.spelling.Spelling.{Spelling}
 use Rattle.aff_spelling.specs.declared.spelling.Spelling.TheVariants.{Raw, Escaped}
 use Rattle.aff_spelling.proofs.SpellingLaws.{length_shown, shown_append, shown_one}
-
--- ---- One byte.
-
-module _ (x : ℕ) {t : Bool} (is : t ≡ is_plain x) where
-  pub byte_plain : t ≡ true → x ∷ [] ≡ shown_byte x
-  unfolding shown_byte
-  byte_plain h = rw (sym is ∙ h)
-
-  pub byte_escaped : t ≡ false → {high low : ℕ} → high ≡ hex_digit (x / 16) → low ≡ hex_digit (x % 16) → 92 ∷ 120 ∷ high ∷ low ∷ [] ≡ shown_byte x
-  unfolding shown_byte
-  byte_escaped h d e = rw (sym is ∙ h, d, e)
 
 -- ---- Byte after byte.
 

@@ -15,7 +15,7 @@ use Rattle.aff_format.specs.Subkey.{is_letter, is_digit, narrow_first, narrow_ne
 use Rattle.aff_format.specs.Tree.{front_by, path_by}
 use Rattle.aff_format.specs.declared.edition.Edition.{Edition}
 use Rattle.aff_format.specs.declared.edition.Edition.TheVariants.{One, Two}
-use Rattle.aff_format.specs.declared.lowest.Lowest.TheVariants.{Nothing}
+use Rattle.std.specs.Prelude.{None}
 use Rattle.aff_format.proofs.BreaksLaws.{subkey_exact}
 use Rattle.aff_format.proofs.LowestLaws.{none_holds}
 use Rattle.aff_format.proofs.TestLaws.{both}
@@ -182,7 +182,7 @@ not_plain x h = go (is_plain x) refl
 unlisted : ℕ → Bool
 unlisted n = not (eqb (hex_digit n) (get_or hex_digits n 0))
 
-none_unlisted : lowest_from unlisted 16 0 ≡ Nothing
+none_unlisted : lowest_from unlisted 16 0 ≡ None
 unfolding lowest_from unlisted hex_digit
 none_unlisted = refl
 

@@ -7,7 +7,7 @@ ghost use Rattle.aff_spelling.specs.Spelling.{hex_digit, is_plain, shown_byte, s
 use aff_format::bytes;
 
 // The bytes of a name themselves; or as the listers print them: a byte below 33, above 126 or equal to 92 as `\x` and two small hex digits (request C-15).
-#[derive(Clone, Copy)]
+#[derive(Clone, Copy, Debug, PartialEq, Eq)]
 pub enum Spelling {
     Raw,
     Escaped,
@@ -18,13 +18,7 @@ pub enum Spelling {
 fn is_plain(x: u8) -> bool
     ensures { result ≡ is_plain x }
 {
-    if x < 33 {
-        return false;
-    }
-    if 126 < x {
-        return false;
-    }
-    x != b'\\'
+    matches!(x, 33..=126) && x != b'\\'
 }
 
 // A hex digit as a character.
@@ -33,7 +27,7 @@ fn hex_digit(n: u8) -> u8
     requires { n < 16 }
     ensures { result ≡ hex_digit n }
 {
-    if n < 10 { b'0' + n } else { 87 + n }
+    if n < 10 { b'0' + n } else { b'a' + (n - 10) }
 }
 
 // How many bytes are printed for a byte.
@@ -64,14 +58,12 @@ fn shown_length(run: &[u8], limit: usize) -> usize
     ensures { result ≡ capped limit (length (shown run.now)) }
 {
     let mut left = limit;
-    let mut k: usize = 0;
-    while k < run.len() {
-        let own = shown_size(run[k]);
+    for &x in run {
+        let own = shown_size(x);
         if left < own {
             return limit + 1;
         }
         left -= own;
-        k += 1;
     }
     limit - left
 }
@@ -83,10 +75,8 @@ fn put_shown(run: &[u8], at: usize, out: &mut [u8]) -> usize
     ensures { Written at (shown run.now) out.old out.new result }
 {
     let mut end = at;
-    let mut k: usize = 0;
-    while k < run.len() {
-        end = put_shown_byte(run[k], end, out);
-        k += 1;
+    for &x in run {
+        end = put_shown_byte(x, end, out);
     }
     end
 }
@@ -97,13 +87,7 @@ pub fn spelled_length(spelling: Spelling, run: &[u8], limit: usize) -> usize
     ensures { result ≡ capped limit (length (spelled spelling run.now)) }
 {
     match spelling {
-        Spelling::Raw => {
-            if run.len() <= limit {
-                run.len()
-            } else {
-                limit + 1
-            }
-        }
+        Spelling::Raw => run.len().min(limit + 1),
         Spelling::Escaped => shown_length(run, limit),
     }
 }

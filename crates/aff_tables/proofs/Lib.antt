@@ -3,7 +3,6 @@ pub mod ParentLaws
 pub mod MarkLaws
 pub mod OrderLaws
 pub mod SortedLaws
-pub mod ShiftLaws
 pub mod SearchLaws
 pub mod EndLaws
 pub mod RepeatLaws

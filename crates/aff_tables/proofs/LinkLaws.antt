@@ -18,10 +18,7 @@ use Rattle.aff_format.specs.Strings.{is_in, index_in}
 use Rattle.aff_format.specs.Subkey.{subkey_from, is_sound, break_place, is_subkey, shifted}
 use Rattle.aff_format.specs.declared.edition.Edition.{Edition}
 use Rattle.aff_format.specs.declared.entry.Entry.{Entry}
-use Rattle.aff_format.specs.declared.lowest.Lowest.{Lowest}
-use Rattle.aff_format.specs.declared.lowest.Lowest.TheVariants.{Nothing}
-use Rattle.aff_format.specs.declared.subkey.Grammar.{Grammar}
-use Rattle.aff_format.specs.declared.subkey.Grammar.TheVariants.{Sound, BreaksAt}
+use Rattle.std.specs.Prelude.{Option, Some, None}
 use Rattle.aff_format.proofs.LowestLaws.{lowest_same, none_holds, holds_none}
 use Rattle.aff_format.proofs.SameLaws.{same_refl, ne_same}
 use Rattle.aff_format.proofs.StringsLaws.{is_in_none, none_is_in, is_in_index_in, index_in_found}
@@ -30,40 +27,40 @@ use Rattle.aff_format.proofs.TestLaws.{or_false}
 use Rattle.aff_tables.specs.passes.Distinct.{sibling_taken}
 use Rattle.aff_format.specs.Entry.{no_parent, outside}
 use Rattle.aff_tables.specs.Nodes.{Contents, link_wrong, name_break, climb_endless, name_taken, data_outside}
-use Rattle.aff_tables.specs.passes.Results.{bit, Judged, link_bad, Copied, AllDistinct}
+use Rattle.aff_tables.specs.passes.Results.{Judged, link_bad, Copied, AllDistinct}
 use Rattle.aff_format.specs.Recorded.{name_from}
 use Rattle.aff_tables.specs.Tables.{repeats}
 use Rattle.aff_tables.proofs.ParentLaws.{reaches_same}
 use Rattle.aff_format.proofs.RecordedLaws.{name_part}
 
 -- Strings judged one by one.
-pub judged_name : (e : Edition) (image : List ℕ) (from end to : ℕ) (finding g : Grammar) → (from ≤ end) × (end ≤ length image)
+pub judged_name : (e : Edition) (image : List ℕ) (from end to : ℕ) (finding g : Option ℕ) → (from ≤ end) × (end ≤ length image)
     → to ≡ from + length (name_from image end from) → finding ≡ subkey_from e from (part from (to - from) image) → finding ≡ g
-    → bit (is_sound g) ≡ bit (is_subkey e (name_from image end from))
+    → is_sound g ≡ is_subkey e (name_from image end from)
 judged_name e image from end to finding g h t r q = rw (← q, r, name_part image end from to h.0 h.1 t, sound_shift e from (name_from image end from))
 
 -- The place at which a string breaks, by the place in the image that the rule finds.
-module _ (e : Edition) (image : List ℕ) (from end to : ℕ) (g : Grammar) (within : (from ≤ end) × (end ≤ length image))
+module _ (e : Edition) (image : List ℕ) (from end to : ℕ) (g : Option ℕ) (within : (from ≤ end) × (end ≤ length image))
     (ends : to ≡ from + length (name_from image end from)) (finds : g ≡ subkey_from e from (part from (to - from) image)) where
-  abbrev alone : Grammar
+  abbrev alone : Option ℕ
   alone = subkey_from e 0 (name_from image end from)
 
   finds_shifted : g ≡ shifted from alone
   finds_shifted = finds ∙ rw (name_part image end from to within.0 within.1 ends) (subkey_shift e from (name_from image end from))
 
-  pub break_sound : g ≡ Sound → 0 ≡ break_place alone
+  pub break_sound : g ≡ None → 0 ≡ break_place alone
   break_sound q = go alone (sym finds_shifted ∙ q)
     where
-      go : (r : Grammar) → shifted from r ≡ Sound → 0 ≡ break_place r
-      go Sound h = refl
-      go (BreaksAt o) h = absurd (true≢false (sym (ap is_sound h)))
+      go : (r : Option ℕ) → shifted from r ≡ None → 0 ≡ break_place r
+      go None h = refl
+      go (Some o) h = absurd (true≢false (sym (ap is_sound h)))
 
-  pub break_at : (p : ℕ) → g ≡ BreaksAt p → (from ≤ p) × (p - from ≡ break_place alone)
+  pub break_at : (p : ℕ) → g ≡ Some p → (from ≤ p) × (p - from ≡ break_place alone)
   break_at p q = go alone (sym finds_shifted ∙ q)
     where
-      go : (r : Grammar) → shifted from r ≡ BreaksAt p → (from ≤ p) × (p - from ≡ break_place r)
-      go Sound h = absurd (true≢false (ap is_sound h))
-      go (BreaksAt o) h = let n : from + o ≡ p = ap break_place h in (omega arith, omega arith)
+      go : (r : Option ℕ) → shifted from r ≡ Some p → (from ≤ p) × (p - from ≡ break_place r)
+      go None h = absurd (true≢false (ap is_sound h))
+      go (Some o) h = let n : from + o ≡ p = ap break_place h in (omega arith, omega arith)
 
 -- The second number of 10, by whether the string exists.
 module _ (e : Edition) (strings : ℕ) (string : ℕ → List ℕ) (entry : Entry) where
@@ -75,15 +72,15 @@ module _ (e : Edition) (strings : ℕ) (string : ℕ → List ℕ) (entry : Entr
   unfolding name_break
   break_some h = rw (lt-leb strings entry.string h)
 
-pub judged_more : (e : Edition) (image : List ℕ) (end : ℕ) (places : List ℕ) (i : ℕ) (sound : List ℕ) (p v : ℕ) → i < length sound
-    → Judged e image end places i sound → p ≡ get_or places i 0 → v ≡ bit (is_subkey e (name_from image end p))
+pub judged_more : (e : Edition) (image : List ℕ) (end : ℕ) (places : List ℕ) (i : ℕ) (sound : List Bool) (p : ℕ) (v : Bool) → i < length sound
+    → Judged e image end places i sound → p ≡ get_or places i 0 → v ≡ is_subkey e (name_from image end p)
     → Judged e image end places (i + 1) (set sound i v)
 judged_more e image end places i sound p v h j q r =
-    below_more _ i (λ k l. get_or-set_other sound i k v 0 (λ y. omega arith) ∙ j k l) (get_or-set_same sound i v 0 h ∙ r ∙ rw q)
+    below_more _ i (λ k l. get_or-set_other sound i k v false (λ y. omega arith) ∙ j k l) (get_or-set_same sound i v false h ∙ r ∙ rw q)
 
 -- Where they are judged, an entry is bad by the judgements where it is by the strings.
-pub links_judged : (e : Edition) (c : Contents) (sound : List ℕ) (r : Lowest)
-    → ((i : ℕ) → i < c.strings → get_or sound i 0 ≡ bit (is_subkey e (c.string i)))
+pub links_judged : (e : Edition) (c : Contents) (sound : List Bool) (r : Option ℕ)
+    → ((i : ℕ) → i < c.strings → get_or sound i false ≡ is_subkey e (c.string i))
     → r ≡ lowest_from (λ k. link_bad c.nodes c.strings sound (c.entry k)) c.nodes 1
     → r ≡ lowest_from (link_wrong e c) c.nodes 1
 unfolding link_wrong
@@ -91,32 +88,28 @@ links_judged e c sound r j q =
     q ∙ lowest_same _ _ c.nodes 1
     (λ k lo hi. ap (λ (b : Bool). no_parent c.nodes (c.entry k) || b) (go (c.entry k).string (leb c.strings (c.entry k).string) refl))
   where
-    zero_bit : (b : Bool) → eqb (bit b) 0 ≡ not b
-    zero_bit true = refl
-    zero_bit false = refl
-
-    go : (s : ℕ) (b : Bool) → leb c.strings s ≡ b → (b || eqb (get_or sound s 0) 0) ≡ (b || not (is_subkey e (c.string s)))
+    go : (s : ℕ) (b : Bool) → leb c.strings s ≡ b → (b || not (get_or sound s false)) ≡ (b || not (is_subkey e (c.string s)))
     go s true h = refl
-    go s false h = rw (j s (leb-false c.strings s h)) (zero_bit (is_subkey e (c.string s)))
+    go s false h = rw (j s (leb-false c.strings s h))
 
 -- An entry that is not bad has a parent that exists.
-pub parent_good : (nodes strings : ℕ) (sound : List ℕ) (e : Entry) → link_bad nodes strings sound e ≡ false → e.parent ≤ nodes
+pub parent_good : (nodes strings : ℕ) (sound : List Bool) (e : Entry) → link_bad nodes strings sound e ≡ false → e.parent ≤ nodes
 parent_good nodes strings sound e h = ltb-false nodes e.parent (or_false _ _ h).0
 
 -- Parents and string numbers copied node by node.
-set_copied : (l : List ℕ) (f : ℕ → ℕ) (k v : ℕ) → k + 1 < length l → ((j : ℕ) → 0 < j → j ≤ k → get_or l j 0 ≡ f j) → v ≡ f (k + 1)
-    → (j : ℕ) → 0 < j → j ≤ k + 1 → get_or (set l (k + 1) v) j 0 ≡ f j
+set_copied : (l : List ℕ) (f : ℕ → ℕ) (k v : ℕ) → k < length l → ((j : ℕ) → 0 < j → j ≤ k - 1 → get_or l j 0 ≡ f j) → v ≡ f k
+    → (j : ℕ) → 0 < j → j ≤ k → get_or (set l k v) j 0 ≡ f j
 set_copied l f k v h c e j lo hi =
-    ⊎_elim (λ (z : j ≡ k + 1). rw z (get_or-set_same l (k + 1) v 0 h ∙ e))
-    (λ (z : j < k + 1). get_or-set_other l (k + 1) j v 0 (λ y. omega arith) ∙ c j lo (omega arith))
+    ⊎_elim (λ (z : j ≡ k). rw z (get_or-set_same l k v 0 h ∙ e))
+    (λ (z : j < k). get_or-set_other l k j v 0 (λ y. omega arith) ∙ c j lo (omega arith))
     (eq-or-lt_of_le hi)
 
 module _ (entry : ℕ → Entry) (parents names : List ℕ) where
   pub copied_none : Copied entry 0 parents names
   copied_none = record { parent = λ j lo hi. absurd (omega arith); name = λ j lo hi. absurd (omega arith) }
 
-  pub copied_more : (k : ℕ) → k + 1 < length parents → k + 1 < length names → Copied entry k parents names
-      → (e : Entry) → e ≡ entry (k + 1) → Copied entry (k + 1) (set parents (k + 1) e.parent) (set names (k + 1) e.string)
+  pub copied_more : (k : ℕ) → k < length parents → k < length names → Copied entry (k - 1) parents names
+      → (e : Entry) → e ≡ entry k → Copied entry k (set parents k e.parent) (set names k e.string)
   copied_more k p n c e q =
       record {
         parent = set_copied parents (λ j. (entry j).parent) k e.parent p c.parent (rw q);
@@ -141,10 +134,10 @@ module _ (e : Edition) (c : Contents) where
     λ (p, s, n). rw (le-ltb c.nodes (c.entry k).parent p, lt-leb c.strings (c.entry k).string s, n),
   )
 
-  pub links_clear : lowest_from (link_wrong e c) c.nodes 1 ≡ Nothing → (k : ℕ) → 0 < k → k ≤ c.nodes → Linkable k
+  pub links_clear : lowest_from (link_wrong e c) c.nodes 1 ≡ None → (k : ℕ) → 0 < k → k ≤ c.nodes → Linkable k
   links_clear h k lo hi = (link_asks k).0 (none_holds (link_wrong e c) c.nodes 1 h k (omega arith) (omega arith))
 
-  pub clear_links : ((k : ℕ) → 0 < k → k ≤ c.nodes → Linkable k) → lowest_from (link_wrong e c) c.nodes 1 ≡ Nothing
+  pub clear_links : ((k : ℕ) → 0 < k → k ≤ c.nodes → Linkable k) → lowest_from (link_wrong e c) c.nodes 1 ≡ None
   clear_links h = holds_none (link_wrong e c) c.nodes 1 (λ k lo hi. (link_asks k).1 (h k (omega arith) (omega arith)))
 
 -- 12 by the copied numbers. (11: `copied_climbs`.)
@@ -253,7 +246,7 @@ module _ (ss : List (List ℕ)) where
           let l : i < k = omega (arith, length-take-le k ss (omega arith)) in
           (i, l, sym (get_or-take k ss i [] l) ∙ index_in_found x (take k ss) m)
 
-  pub distinct_by_repeats : lowest_from (repeats ss) (length ss) 0 ≡ Nothing
+  pub distinct_by_repeats : lowest_from (repeats ss) (length ss) 0 ≡ None
       → (i j : ℕ) → i < length ss → j < length ss → get_or ss i [] ≡ get_or ss j [] → i ≡ j
   distinct_by_repeats h i j m n e = go (ltb i j) refl (ltb j i) refl
     where

@@ -14,9 +14,9 @@ use lib.Seq.{get_or-set_same, get_or-set_other}
 use borrow.Author.Tests.{ne_eqb, eqb-true, eqb-false}
 use Rattle.aff_format.specs.Lowest.{lowest_from}
 use Rattle.aff_format.specs.Tree.{reaches_by}
-use Rattle.aff_format.specs.declared.lowest.Lowest.TheVariants.{Nothing, At}
+use Rattle.std.specs.Prelude.{Some, None}
 use Rattle.aff_format.proofs.ClimbLaws.{reaches_root, reaches_up, longer, settled, absurd_bool}
-use Rattle.aff_format.proofs.LowestLaws.{lowest_here, lowest_on, lowest_end}
+use Rattle.aff_format.proofs.StdLaws.{lowest_met, lowest_past, lowest_none}
 use Rattle.aff_tables.specs.passes.Climb.{Marked, Climbed}
 
 same_bool : (a b : Bool) → (a ≡ true → b ≡ true) → (b ≡ true → a ≡ true) → a ≡ b
@@ -180,27 +180,28 @@ unmarked parent nodes k n h =
 abbrev endless : (ℕ → ℕ) → ℕ → ℕ → Bool
 endless parent nodes k = not (reaches_by parent nodes k)
 
--- The climbs from the first k nodes came to the root: the lowest of the other nodes whose climb does not is the lowest of all.
+-- The climbs from the nodes below k came to the root: the lowest of the others whose climb does not is the lowest of all.
 pub record Passed (parent : ℕ → ℕ) (nodes k : ℕ) (marks : List ℕ) : Type 0 where
-  pub within : k ≤ nodes
-  pub marked : Marked parent nodes (k + 1) marks
-  pub rest : lowest_from (endless parent nodes) (nodes - k) (k + 1) ≡ lowest_from (endless parent nodes) nodes 1
+  pub marked : Marked parent nodes k marks
+  pub rest : lowest_from (endless parent nodes) (nodes + 1 - k) k ≡ lowest_from (endless parent nodes) nodes 1
 
-pub none_passed : (parent : ℕ → ℕ) (nodes n : ℕ) → nodes < n → Passed parent nodes 0 (replicate n 0)
-none_passed parent nodes n h = record { within = omega arith; marked = unmarked parent nodes 1 n h; rest = rw sub-zero }
+pub none_passed : (parent : ℕ → ℕ) (nodes n : ℕ) → nodes < n → Passed parent nodes 1 (replicate n 0)
+none_passed parent nodes n h = let z : nodes + 1 - 1 ≡ nodes = omega arith in record { marked = unmarked parent nodes 1 n h; rest = rw z }
 
-module _ {parent : ℕ → ℕ} {nodes k : ℕ} {marks : List ℕ} (p : Passed parent nodes k marks) where
-  pub all_passed : nodes ≤ k → Nothing ≡ lowest_from (endless parent nodes) nodes 1
-  all_passed l = lowest_end (endless parent nodes) nodes k 1 l ∙ p.rest
+module _ {parent : ℕ → ℕ} {nodes k : ℕ} {marks after : List ℕ} {r : Bool} (p : Passed parent nodes k marks) (l : k ≤ nodes)
+    (c : Climbed parent nodes k after r) where
+  pub next_passed : r ≡ true → Passed parent nodes (k + 1) after
+  next_passed e =
+      record {
+        marked = c.marked e;
+        rest = sym (lowest_past (endless parent nodes) (nodes + 1 - k) (nodes + 1 - (k + 1)) k (omega arith) (ap not (sym c.answer ∙ e))) ∙ p.rest;
+      }
 
-  module _ {after : List ℕ} {r : Bool} (l : k < nodes) (c : Climbed parent nodes (k + 1) after r) where
-    pub next_passed : r ≡ true → Passed parent nodes (k + 1) after
-    next_passed e =
-        record {
-          within = omega arith;
-          marked = c.marked e;
-          rest = lowest_on (endless parent nodes) nodes k 1 l (ap not (sym c.answer ∙ e)) ∙ p.rest;
-        }
+  pub next_endless : r ≡ false → Some k ≡ lowest_from (endless parent nodes) nodes 1
+  next_endless e = sym (lowest_met (endless parent nodes) (nodes + 1 - k) k (omega arith) (ap not (sym c.answer ∙ e))) ∙ p.rest
 
-    pub next_endless : r ≡ false → At (k + 1) ≡ lowest_from (endless parent nodes) nodes 1
-    next_endless e = lowest_here (endless parent nodes) nodes k 1 l (ap not (sym c.answer ∙ e)) ∙ p.rest
+  pub last_passed : r ≡ true → nodes ≤ k → None ≡ lowest_from (endless parent nodes) nodes 1
+  last_passed e h =
+      sym (lowest_past (endless parent nodes) (nodes + 1 - k) 0 k (omega arith) (ap not (sym c.answer ∙ e))
+      ∙ lowest_none (endless parent nodes) 0 (k + 1) refl)
+      ∙ p.rest

@@ -8,8 +8,7 @@ use Rattle.aff_format.specs.Answer.{Answer, refused, refusal_at, refusal_with, f
 use Rattle.aff_format.specs.Limits.{node_limit}
 use Rattle.aff_format.specs.Lowest.{lowest_from, check_lowest}
 use Rattle.aff_format.specs.declared.edition.Edition.{Edition}
-use Rattle.aff_format.specs.declared.lowest.Lowest.{Lowest}
-use Rattle.aff_format.specs.declared.lowest.Lowest.TheVariants.{Nothing, At}
+use Rattle.std.specs.Prelude.{Option, Some, None}
 use Rattle.aff_format.specs.declared.refusal.RefusalCode.{RefusalCode}
 use Rattle.aff_format.proofs.AnswerLaws.{numbers_reported}
 use Rattle.aff_format.proofs.LowestLaws.{lowest_is, clear_lowest, numbers_lowest}
@@ -20,9 +19,9 @@ use Rattle.aff_tables.proofs.LinkLaws.{links_clear, copied_siblings, Alike, link
 use Rattle.aff_tables.proofs.ParentLaws.{copied_linked, copied_climbs}
 
 -- Sound links, copied.
-module _ (e : Edition) (c : Contents) (parents names : List ℕ) (r : Lowest)
-    (is : r ≡ lowest_from (link_wrong e c) c.nodes 1) (none : r ≡ Nothing) (copied : Copied c.entry c.nodes parents names) where
-  sound : lowest_from (link_wrong e c) c.nodes 1 ≡ Nothing
+module _ (e : Edition) (c : Contents) (parents names : List ℕ) (r : Option ℕ)
+    (is : r ≡ lowest_from (link_wrong e c) c.nodes 1) (none : r ≡ None) (copied : Copied c.entry c.nodes parents names) where
+  sound : lowest_from (link_wrong e c) c.nodes 1 ≡ None
   sound = sym is ∙ none
 
   up : (k : ℕ) → 0 < k → k ≤ c.nodes → (c.entry k).parent ≤ c.nodes
@@ -41,7 +40,7 @@ module _ (e : Edition) (c : Contents) (parents names : List ℕ) (r : Lowest)
         copied_siblings c parents names copied (λ k lo hi. (links_clear e c sound k lo hi).1) apart,
       )
 
-three : {A : Type 0} (v : A) {b b' c c' d d' : Lowest} → b ≡ b' → c ≡ c' → d ≡ d'
+three : {A : Type 0} (v : A) {b b' c c' d d' : Option ℕ} → b ≡ b' → c ≡ c' → d ≡ d'
     → first_wrong (check_lowest (refusal_at 11) b ∷ check_lowest (refusal_at 12) c ∷ check_lowest (refusal_at 13) d ∷ []) v
     ≡ first_wrong (check_lowest (refusal_at 11) b' ∷ check_lowest (refusal_at 12) c' ∷ check_lowest (refusal_at 13) d' ∷ []) v
 three v q r s = λ i. first_wrong (check_lowest (refusal_at 11) (q i) ∷ check_lowest (refusal_at 12) (r i) ∷ check_lowest (refusal_at 13) (s i) ∷ []) v
@@ -52,7 +51,7 @@ pub checked_alike : {A : Type 0} (e : Edition) (from size : ℕ) {c d : Contents
 checked_alike {A} e from size {c} {d} alike v = go (lowest_from (link_wrong e c) c.nodes 1) refl
   where
     -- The answer where 10 finds `l`.
-    by : Contents → Lowest → Answer A
+    by : Contents → Option ℕ → Answer A
     by x l =
         first_wrong
         (check_lowest (bad_link e x) l
@@ -62,23 +61,23 @@ checked_alike {A} e from size {c} {d} alike v = go (lowest_from (link_wrong e c)
         ∷ [])
         v
 
-    both : (l : Lowest) → lowest_from (link_wrong e c) c.nodes 1 ≡ l → by c l ≡ by d l
+    both : (l : Option ℕ) → lowest_from (link_wrong e c) c.nodes 1 ≡ l → by c l ≡ by d l
         → first_wrong (node_checks e from size c) v ≡ first_wrong (node_checks e from size d) v
     both l h q = ap (by c) h ∙ q ∙ sym (ap (by d) (sym (links_same alike e) ∙ h))
 
-    go : (l : Lowest) → lowest_from (link_wrong e c) c.nodes 1 ≡ l → first_wrong (node_checks e from size c) v ≡ first_wrong (node_checks e from size d) v
-    go (At k) h =
+    go : (l : Option ℕ) → lowest_from (link_wrong e c) c.nodes 1 ≡ l → first_wrong (node_checks e from size c) v ≡ first_wrong (node_checks e from size d) v
+    go (Some k) h =
         let l = lowest_is (link_wrong e c) c.nodes 1 k h in
-        both (At k) h (ap (λ (n : ℕ). refused (refusal_with 10 k n)) (break_same alike e k l.least (omega (arith, l.most))))
-    go Nothing h =
+        both (Some k) h (ap (λ (n : ℕ). refused (refusal_with 10 k n)) (break_same alike e k l.least (omega (arith, l.most))))
+    go None h =
         let up : (k : ℕ) → 0 < k → k ≤ c.nodes → (c.entry k).parent ≤ c.nodes = λ k lo hi. (links_clear e c h k lo hi).0 in
         let named : (k : ℕ) → 0 < k → k ≤ c.nodes → (c.entry k).string < c.strings = λ k lo hi. (links_clear e c h k lo hi).1 in
-        both Nothing h (three v (climbs_same alike up) (names_same alike named) (data_same alike from size))
+        both None h (three v (climbs_same alike up) (names_same alike named) (data_same alike from size))
 
 -- Accepted checks: no node has a fault.
-four_clear : (report : ℕ → RefusalCode) (a b c d : Lowest)
+four_clear : (report : ℕ → RefusalCode) (a b c d : Option ℕ)
     → Clear (check_lowest report a ∷ check_lowest (refusal_at 11) b ∷ check_lowest (refusal_at 12) c ∷ check_lowest (refusal_at 13) d ∷ [])
-    → (a ≡ Nothing) × (b ≡ Nothing) × (c ≡ Nothing) × (d ≡ Nothing)
+    → (a ≡ None) × (b ≡ None) × (c ≡ None) × (d ≡ None)
 four_clear report a b c d h =
     let (p, f) = clear_lowest report a (check_lowest (refusal_at 11) b ∷ check_lowest (refusal_at 12) c ∷ check_lowest (refusal_at 13) d ∷ []) h in
     let (q, g) = clear_lowest (refusal_at 11) b (check_lowest (refusal_at 12) c ∷ check_lowest (refusal_at 13) d ∷ []) f in
@@ -86,14 +85,14 @@ four_clear report a b c d h =
     (p, q, r, (clear_lowest (refusal_at 13) d [] k).0)
 
 pub nodes_clear : (e : Edition) (from size : ℕ) (c : Contents) → Clear (node_checks e from size c)
-    → (lowest_from (link_wrong e c) c.nodes 1 ≡ Nothing) × (lowest_from (climb_endless c.nodes c.entry) c.nodes 1 ≡ Nothing)
-    × (lowest_from (name_taken c) c.nodes 1 ≡ Nothing) × (lowest_from (data_outside from size c.entry) c.nodes 1 ≡ Nothing)
+    → (lowest_from (link_wrong e c) c.nodes 1 ≡ None) × (lowest_from (climb_endless c.nodes c.entry) c.nodes 1 ≡ None)
+    × (lowest_from (name_taken c) c.nodes 1 ≡ None) × (lowest_from (data_outside from size c.entry) c.nodes 1 ≡ None)
 nodes_clear e from size c =
     four_clear (bad_link e c) (lowest_from (link_wrong e c) c.nodes 1) (lowest_from (climb_endless c.nodes c.entry) c.nodes 1)
     (lowest_from (name_taken c) c.nodes 1) (lowest_from (data_outside from size c.entry) c.nodes 1)
 
 -- The numbers of the checks, in order.
-four_numbers : (report : ℕ → RefusalCode) → ((k : ℕ) → (report k).number ≡ 10) → (a b c d : Lowest)
+four_numbers : (report : ℕ → RefusalCode) → ((k : ℕ) → (report k).number ≡ 10) → (a b c d : Option ℕ)
     → numbers_reported (check_lowest report a ∷ check_lowest (refusal_at 11) b ∷ check_lowest (refusal_at 12) c ∷ check_lowest (refusal_at 13) d ∷ [])
     ≡ 10 ∷ 11 ∷ 12 ∷ 13 ∷ []
 four_numbers report is a b c d =

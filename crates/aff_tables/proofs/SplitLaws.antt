@@ -14,8 +14,7 @@ use Rattle.aff_format.specs.Strings.{strings_of, places_of}
 use Rattle.aff_format.proofs.BytesLaws.{length_part}
 use Rattle.aff_format.proofs.StringsLaws.{strings_of_one, length_places_of}
 use Rattle.aff_tables.specs.passes.Results.{split_of}
-use Rattle.aff_tables.specs.declared.symbols.SplitResult.{SplitResult}
-use Rattle.aff_tables.specs.declared.symbols.SplitResult.TheVariants as parted
+use Rattle.std.specs.Prelude.{Option, Some, None}
 use Rattle.aff_format.proofs.LaidLaws.{Laid, laid_start, laid_store, laid_all, laid_full}
 
 -- One byte more.
@@ -49,7 +48,7 @@ pub record Splitting (section : List ℕ) (first : ℕ) (area₀ area : List ℕ
   pub laid : Laid area₀ (places_of first (strings_of section)) area n (places_of (first + start) (strings_of (drop start section)))
 
 -- The answer and the area of a split.
-abbrev pub Split : List ℕ → ℕ → List ℕ → List ℕ → SplitResult → Type 0
+abbrev pub Split : List ℕ → ℕ → List ℕ → List ℕ → Option ℕ → Type 0
 Split section first area₀ area r =
     (r ≡ split_of (length area₀) (length (strings_of section))) × (area ≡ laid_over area₀ (places_of first (strings_of section)))
 
@@ -95,13 +94,13 @@ module _ {section : List ℕ} {first : ℕ} {area₀ area : List ℕ} {n start a
       record { at_end = omega arith; start_at = omega arith; no_zero = rw e tt; laid = laid_store (rw (places_here h z) at s.laid) r }
 
   too_many : {p : ℕ} {rest : List ℕ} → places_of (first + start) (strings_of (drop start section)) ≡ p ∷ rest → length area ≤ n
-      → Split section first area₀ area parted.TooMany
+      → Split section first area₀ area None
   too_many e r =
       let f = laid_full (rw e at s.laid) r in
       let m : length area₀ < length (strings_of section) = omega (arith, f.0, length_places_of first (strings_of section)) in
       (rw (lt-leb (length (strings_of section)) (length area₀) m), f.1)
 
-  pub split_full : at < length section → get_or section at 0 ≡ 0 → length area ≤ n → Split section first area₀ area parted.TooMany
+  pub split_full : at < length section → get_or section at 0 ≡ 0 → length area ≤ n → Split section first area₀ area None
   split_full h z = too_many (places_here h z)
 
   -- After the last byte: no string is open, or the last one has no zero.
@@ -118,18 +117,18 @@ module _ {section : List ℕ} {first : ℕ} {area₀ area : List ℕ} {n start a
       let k : 0 < length (drop start section) = rw length-drop (omega arith) in
       rw (strings_open (drop start section) k (rw (take_all (at - start) (drop start section) w) at s.no_zero))
 
-  stored : {area : List ℕ} {n : ℕ} → Laid area₀ (places_of first (strings_of section)) area n [] → Split section first area₀ area (parted.Strings n)
+  stored : {area : List ℕ} {n : ℕ} → Laid area₀ (places_of first (strings_of section)) area n [] → Split section first area₀ area (Some n)
   stored {area} {n} l =
       let f = laid_all l in
       let e : n ≡ length (strings_of section) = f.0 ∙ length_places_of first (strings_of section) in
       (rw (← e, le-leb n (length area₀) f.1.0), f.1.1)
 
-  pub split_ended : length section ≤ at → start ≡ at → Split section first area₀ area (parted.Strings n)
+  pub split_ended : length section ≤ at → start ≡ at → Split section first area₀ area (Some n)
   split_ended h e = stored (rw (places_none h e) at s.laid)
 
   module _ (h : length section ≤ at) (e : start ≡ at → ⊥) where
-    pub split_last_full : length area ≤ n → Split section first area₀ area parted.TooMany
+    pub split_last_full : length area ≤ n → Split section first area₀ area None
     split_last_full = too_many (places_last h e)
 
-    pub split_last : n < length area → Split section first area₀ (set area n (first + start)) (parted.Strings (n + 1))
+    pub split_last : n < length area → Split section first area₀ (set area n (first + start)) (Some (n + 1))
     split_last r = stored (laid_store (rw (places_last h e) at s.laid) r)

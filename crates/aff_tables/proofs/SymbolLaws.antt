@@ -13,21 +13,19 @@ use Rattle.aff_format.specs.Limits.{string_limit}
 use Rattle.aff_format.specs.Lowest.{lowest_from}
 use Rattle.aff_format.specs.Strings.{strings_of, places_of}
 use Rattle.aff_format.specs.declared.edition.Edition.{Edition}
-use Rattle.aff_format.specs.declared.lowest.Lowest.{Lowest}
-use Rattle.aff_format.specs.declared.lowest.Lowest.TheVariants.{Nothing, At}
+use Rattle.std.specs.Prelude.{Option, Some, None, Result, Err}
 use Rattle.aff_format.proofs.AnswerLaws.{not_both, numbers_reported}
 use Rattle.aff_format.proofs.BytesLaws.{length_part}
 use Rattle.aff_format.proofs.LowestLaws.{clear_lowest, numbers_lowest}
 use Rattle.aff_format.proofs.StringsLaws.{length_places_of, places_of_from, string_begins, string_in_section}
 use Rattle.aff_tables.specs.passes.Distinct.{Places}
 use Rattle.aff_tables.specs.Tables.{symbol_checks, count_differs, names_at, repeats}
-use Rattle.aff_tables.specs.passes.Results.{split_of, answer_of_symbols, counted_of, symbols_of}
+use Rattle.aff_tables.specs.passes.Results.{split_of, counted_of, symbols_of}
 use Rattle.aff_format.specs.Recorded.{recorded_string, name_from}
 use Rattle.aff_tables.proofs.SlicedLaws.{sliced, sliced_part}
-use Rattle.aff_tables.specs.declared.symbols.SplitResult.{SplitResult}
-use Rattle.aff_tables.specs.declared.symbols.SplitResult.TheVariants as parted
-use Rattle.aff_tables.specs.declared.symbols.Symbols.{Symbols}
-use Rattle.aff_tables.specs.declared.symbols.Symbols.TheVariants as symbols
+use Rattle.aff_format.specs.declared.refusal.Refusal.{Refusal}
+use Rattle.aff_format.specs.declared.refusal.Refusal.TheVariants.{TooManyStrings}
+use Rattle.aff_format.specs.Verdict.{answer_of}
 use Rattle.aff_format.proofs.LaidLaws.{length_laid, laid_at, laid_front}
 
 -- Strings by their places.
@@ -78,33 +76,33 @@ module _ (image : List ℕ) (from size : ℕ) where
 
 -- The answers of the symbol table.
 
-split_many : (limit n : ℕ) → split_of limit n ≡ parted.TooMany → limit < n
+split_many : (limit n : ℕ) → split_of limit n ≡ None → limit < n
 split_many limit n = go (leb n limit) refl
   where
-    go : (b : Bool) → leb n limit ≡ b → cond b (parted.Strings n) parted.TooMany ≡ parted.TooMany → limit < n
+    go : (b : Bool) → leb n limit ≡ b → cond b (Some n) None ≡ None → limit < n
     go true h q = absurd (let z : ◌≡◌ {A = ℕ} 0 1 = cc in omega arith)
     go false h q = leb-false n limit h
 
-split_few : (limit n m : ℕ) → split_of limit n ≡ parted.Strings m → (m ≡ n) × (n ≤ limit)
+split_few : (limit n m : ℕ) → split_of limit n ≡ Some m → (m ≡ n) × (n ≤ limit)
 split_few limit n m = go (leb n limit) refl
   where
-    go : (b : Bool) → leb n limit ≡ b → cond b (parted.Strings n) parted.TooMany ≡ parted.Strings m → (m ≡ n) × (n ≤ limit)
+    go : (b : Bool) → leb n limit ≡ b → cond b (Some n) None ≡ Some m → (m ≡ n) × (n ≤ limit)
     go true h q = (cc, leb-true n limit h)
     go false h q = absurd (let z : ◌≡◌ {A = ℕ} 0 1 = cc in omega arith)
 
 -- The first fault is the refusal of the first check that finds something wrong.
 pub symbols_reported : (e : Edition) (records : ℕ) (section : List ℕ)
-    → answer_of_symbols (symbols_of e records section) ≡ first_wrong (symbol_checks e records section) (length (strings_of section))
+    → answer_of (symbols_of e records section) ≡ first_wrong (symbol_checks e records section) (length (strings_of section))
 symbols_reported e records section = go _ refl _ refl _ refl
   where
     go : (many : Bool) → ltb string_limit (length (strings_of section)) ≡ many
         → (differs : Bool) → count_differs e records (length (strings_of section)) ≡ differs
-        → (low : Lowest) → lowest_from (repeats (strings_of section)) (length (strings_of section)) 0 ≡ low
-        → answer_of_symbols (symbols_of e records section) ≡ first_wrong (symbol_checks e records section) (length (strings_of section))
+        → (low : Option ℕ) → lowest_from (repeats (strings_of section)) (length (strings_of section)) 0 ≡ low
+        → answer_of (symbols_of e records section) ≡ first_wrong (symbol_checks e records section) (length (strings_of section))
     go true k differs m low q = rw k
     go false k true m low q = rw (k, m)
-    go false k false m Nothing q = rw (k, m, q)
-    go false k false m (At j) q = rw (k, m, q)
+    go false k false m None q = rw (k, m, q)
+    go false k false m (Some j) q = rw (k, m, q)
 
 -- The numbers of the checks, in order.
 pub symbol_numbers : (e : Edition) (records : ℕ) (section : List ℕ) → numbers_reported (symbol_checks e records section) ≡ 25 ∷ 26 ∷ 27 ∷ []
@@ -113,22 +111,22 @@ symbol_numbers e records section =
 
 -- What holds of a table with which nothing is wrong.
 pub symbols_clear : (e : Edition) (records : ℕ) (section : List ℕ) → Clear (symbol_checks e records section)
-    → (length (strings_of section) ≤ string_limit) × (lowest_from (repeats (strings_of section)) (length (strings_of section)) 0 ≡ Nothing)
+    → (length (strings_of section) ≤ string_limit) × (lowest_from (repeats (strings_of section)) (length (strings_of section)) 0 ≡ None)
 symbols_clear e records section (many, (_, repeated)) =
     (ltb-false _ _ many, (clear_lowest (refusal_at 27) (lowest_from (repeats (strings_of section)) (length (strings_of section)) 0) [] repeated).0)
 
 -- What the table of a section reports, and its area where it accepts.
 module _ (e : Edition) (records : ℕ) (image : List ℕ) (from size : ℕ) (area₀ area : List ℕ) where
-  abbrev pub SymbolTable : Symbols → Type 0
+  abbrev pub SymbolTable : Result ℕ Refusal → Type 0
   SymbolTable r =
       (r ≡ symbols_of e records (part from size image))
-      × ((n : ℕ) → answer_of_symbols r ≡ accepted n → area ≡ laid_over area₀ (places_of from (strings_of (part from size image))))
+      × ((n : ℕ) → answer_of r ≡ accepted n → area ≡ laid_over area₀ (places_of from (strings_of (part from size image))))
 
 module _ (e : Edition) (records : ℕ) (image : List ℕ) (from size : ℕ) (area₀ area : List ℕ) where
   abbrev names : List (List ℕ)
   names = strings_of (part from size image)
 
-  module _ (long : length area₀ ≡ 2048) {p : SplitResult} (parts : p ≡ split_of (length area₀) (length (strings_of (sliced image from size))))
+  module _ (long : length area₀ ≡ 2048) {p : Option ℕ} (parts : p ≡ split_of (length area₀) (length (strings_of (sliced image from size))))
       (laid : area ≡ laid_over area₀ (places_of from (strings_of (sliced image from size)))) where
     parts_are : split_of 2048 (length names) ≡ p
     parts_are = sym (parts ∙ rw (long, sliced_part image from size))
@@ -136,10 +134,10 @@ module _ (e : Edition) (records : ℕ) (image : List ℕ) (from size : ℕ) (are
     area_is : area ≡ laid_over area₀ (places_of from names)
     area_is = laid ∙ rw (sliced_part image from size)
 
-    pub table_many : p ≡ parted.TooMany → SymbolTable e records image from size area₀ area symbols.TooMany
+    pub table_many : p ≡ None → SymbolTable e records image from size area₀ area (Err TooManyStrings)
     table_many q = (rw (lt-ltb 2048 (length names) (split_many 2048 (length names) (parts_are ∙ q))), λ n q. not_both q)
 
-    module _ {n : ℕ} (few : p ≡ parted.Strings n) where
+    module _ {n : ℕ} (few : p ≡ Some n) where
       number : (n ≡ length names) × (length names ≤ 2048)
       number = split_few 2048 (length names) n (parts_are ∙ few)
 
@@ -159,6 +157,6 @@ module _ (e : Edition) (records : ℕ) (image : List ℕ) (from size : ℕ) (are
       found : names_at image (from + size) (take n area) ≡ names
       found = rw front (names_are image from size)
 
-      pub table_counted : {reported : Symbols} → reported ≡ counted_of e records (names_at image (from + size) (take n area)) n
+      pub table_counted : {reported : Result ℕ Refusal} → reported ≡ counted_of e records (names_at image (from + size) (take n area)) n
           → SymbolTable e records image from size area₀ area reported
       table_counted q = let f = number in (q ∙ rw (found, f.0, le-ltb 2048 (length names) f.1), λ k a. area_is)

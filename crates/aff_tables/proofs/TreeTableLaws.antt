@@ -15,20 +15,18 @@ use Rattle.aff_format.specs.Kind.{entry_size, kind_code, kind_of, is_void}
 use Rattle.aff_format.specs.Number.{be_of}
 use Rattle.aff_format.specs.declared.edition.Edition.{Edition}
 use Rattle.aff_format.specs.declared.entry.Entry.{Entry}
-use Rattle.aff_format.specs.declared.entry.FoundEntry.{FoundEntry}
-use Rattle.aff_format.specs.declared.entry.FoundEntry.TheVariants.{Whole, Broken}
+use Rattle.std.specs.Prelude.{Option, Some, None, Result, Ok, Err}
 use Rattle.aff_format.proofs.AnswerLaws.{not_both}
 use Rattle.aff_format.proofs.BytesLaws.{drop_take, octets_drop}
 use Rattle.aff_format.proofs.EntryLaws.{entry_inside, fields_are, entry_past, entry_whole, whole_kind, whole_parent, whole_string, whole_count, whole_offset, whole_void_count, whole_void_offset, length_entry_bytes, entry_round_trip, entry_back, entry_storable}
 use Rattle.aff_format.proofs.KindLaws.{entry_size_bounds, kind_of_code}
 use Rattle.aff_tables.specs.Tables.{node_entry, is_empty, tree_checks, entries_of, after_entries, count_differs, entries_in, bytes_after_entries, entry_places, and_then, or_after, tree_bytes}
-use Rattle.aff_tables.specs.passes.Results.{walk_of, answer_of_tree}
+use Rattle.aff_tables.specs.passes.Results.{walk_of}
 use Rattle.aff_format.specs.Recorded.{found_entry, recorded_entry}
 use Rattle.aff_tables.proofs.SlicedLaws.{sliced, sliced_part}
-use Rattle.aff_tables.specs.declared.tree.WalkResult.{WalkResult}
-use Rattle.aff_tables.specs.declared.tree.WalkResult.TheVariants as walked
-use Rattle.aff_tables.specs.declared.tree.TreeTable.{TreeTable}
-use Rattle.aff_tables.specs.declared.tree.TreeTable.TheVariants as tree
+use Rattle.aff_format.specs.declared.refusal.Refusal.{Refusal}
+use Rattle.aff_format.specs.declared.refusal.Refusal.TheVariants.{BadTreeTable}
+use Rattle.aff_format.specs.Verdict.{answer_of}
 use Rattle.aff_format.proofs.LaidLaws.{laid_at}
 use Rattle.aff_tables.proofs.WalkLaws.{length_entry_places, entries_more, after_more, over_broken}
 
@@ -37,7 +35,7 @@ use Rattle.aff_tables.proofs.WalkLaws.{length_entry_places, entries_more, after_
 part_append : (at n : ℕ) (l r : List ℕ) → at + n ≤ length l → part at n (l ++ r) ≡ part at n l
 part_append at n l r h = rw (drop-append-le at l r (omega arith)) (take-append-le n (drop at l) r (rw length-drop (omega arith)))
 
-module _ (l r : List ℕ) (e : Entry) (h : entry_of l ≡ Whole e) where
+module _ (l r : List ℕ) (e : Entry) (h : entry_of l ≡ Some e) where
   same_number : (x at n : ℕ) → x ≡ be_of (part at n l) → at + n ≤ length l → x ≡ be_of (part at n (l ++ r))
   same_number x at n q k = q ∙ ap be_of (sym (part_append at n l r k))
 
@@ -50,7 +48,7 @@ module _ (l r : List ℕ) (e : Entry) (h : entry_of l ≡ Whole e) where
         same_number e.offset 17 8 (whole_offset l e h v) (omega arith),
       )
 
-  pub entry_longer : entry_of (l ++ r) ≡ Whole e
+  pub entry_longer : entry_of (l ++ r) ≡ Some e
   unfolding entry_of
   entry_longer =
       let i = entry_inside l e h in
@@ -63,15 +61,15 @@ module _ (l r : List ℕ) (e : Entry) (h : entry_of l ≡ Whole e) where
       (same_number e.string 9 4 (whole_string l e h) (omega arith))
       d.0
       d.1 in
-      sym (entry_whole (kind_of (type_field (l ++ r))) e.kind (l ++ r) (ap kind_of t ∙ kind_of_code e.kind) (rw length-append (omega arith))) ∙ ap Whole (sym f)
+      sym (entry_whole (kind_of (type_field (l ++ r))) e.kind (l ++ r) (ap kind_of t ∙ kind_of_code e.kind) (rw length-append (omega arith))) ∙ ap Some (sym f)
 
-pub entry_from_front : (n : ℕ) (l : List ℕ) (e : Entry) → entry_of (take n l) ≡ Whole e → entry_of l ≡ Whole e
+pub entry_from_front : (n : ℕ) (l : List ℕ) (e : Entry) → entry_of (take n l) ≡ Some e → entry_of l ≡ Some e
 entry_from_front n l e h = ap entry_of (sym (take-append-drop n l)) ∙ entry_longer (take n l) (drop n l) e h
 
 -- A run of whole entries, and the bytes after it: each law of entries is an induction on the run.
 data Run : ℕ → List ℕ → List Entry → List ℕ → Type 0 where
   over : {limit : ℕ} {l : List ℕ} → Run limit l [] l
-  next : {limit : ℕ} {l : List ℕ} {e : Entry} {es : List Entry} {rest : List ℕ} → entry_of l ≡ Whole e
+  next : {limit : ℕ} {l : List ℕ} {e : Entry} {es : List Entry} {rest : List ℕ} → entry_of l ≡ Some e
       → Run limit (drop (entry_size e.kind) l) es rest → Run (suc limit) l (e ∷ es) rest
 
 run_of : (limit : ℕ) (l : List ℕ) → Run limit l (entries_in limit l) (bytes_after_entries limit l)
@@ -79,10 +77,10 @@ unfolding entries_in bytes_after_entries
 run_of zero l = over
 run_of (suc limit) l = go (entry_of l) refl (λ k. run_of limit (drop k l))
   where
-    go : (f : FoundEntry) → entry_of l ≡ f → ((k : ℕ) → Run limit (drop k l) (entries_in limit (drop k l)) (bytes_after_entries limit (drop k l)))
+    go : (f : Option Entry) → entry_of l ≡ f → ((k : ℕ) → Run limit (drop k l) (entries_in limit (drop k l)) (bytes_after_entries limit (drop k l)))
         → Run (suc limit) l (and_then f (λ e. entries_in limit (drop (entry_size e.kind) l))) (or_after f l (λ e. bytes_after_entries limit (drop (entry_size e.kind) l)))
-    go Broken q ih = over
-    go (Whole e) q ih = next q (ih (entry_size e.kind))
+    go None q ih = over
+    go (Some e) q ih = next q (ih (entry_size e.kind))
 
 run_few : {limit : ℕ} {l : List ℕ} {es : List Entry} {rest : List ℕ} → Run limit l es rest → length es ≤ limit
 run_few over = omega arith
@@ -98,7 +96,7 @@ part_after : (at n k : ℕ) (l : List ℕ) → drop k (part at n l) ≡ part (at
 part_after at n k l = drop_take k n (drop at l) ∙ rw drop-drop
 
 run_found : {limit : ℕ} {l : List ℕ} {es : List Entry} {rest : List ℕ} → Run limit l es rest → (image : List ℕ) (at n : ℕ) → l ≡ part at n image
-    → (i : ℕ) → i < length es → entry_of (drop (get_or (entry_places at es) i 0) image) ≡ Whole (get_or es i no_entry)
+    → (i : ℕ) → i < length es → entry_of (drop (get_or (entry_places at es) i 0) image) ≡ Some (get_or es i no_entry)
 unfolding entry_places
 run_found over image at n p i h = absurd (omega arith)
 run_found (next {e = e} q r) image at n p zero h = entry_from_front n (drop at image) e (ap entry_of (sym p) ∙ q)
@@ -110,7 +108,7 @@ module _ (image : List ℕ) (limit from size : ℕ) (area : List ℕ) (fits : le
   abbrev entries : List Entry
   entries = entries_in limit (part from size image)
 
-  pub entry_found : (k : ℕ) → 0 < k → k ≤ length entries → found_entry image (laid_over area (entry_places from entries)) k ≡ Whole (node_entry entries k)
+  pub entry_found : (k : ℕ) → 0 < k → k ≤ length entries → found_entry image (laid_over area (entry_places from entries)) k ≡ Some (node_entry entries k)
   entry_found zero p h = absurd (omega arith)
   entry_found (suc i) p h =
       let z : suc i - 1 ≡ i = omega arith in
@@ -165,22 +163,22 @@ pub empty_is : (l : List ℕ) → is_empty l ≡ true → l ≡ []
 empty_is [] h = refl
 empty_is (x ∷ l) h = absurd (true≢false (sym h))
 
-walk_nodes : (m n : ℕ) (l : List ℕ) → walk_of m l ≡ walked.Nodes n → (is_empty l ≡ true) × (n ≡ m)
+walk_nodes : (m n : ℕ) (l : List ℕ) → walk_of m l ≡ Ok n → (is_empty l ≡ true) × (n ≡ m)
 walk_nodes m n [] q = (refl, cc)
 walk_nodes m n (x ∷ l) q = absurd (let z : ◌≡◌ {A = ℕ} 0 1 = cc in omega arith)
 
-walk_bad : (m k : ℕ) (l : List ℕ) → walk_of m l ≡ walked.BrokenAt k → (is_empty l ≡ false) × (k ≡ m + 1)
-walk_bad m k [] q = absurd (let z : ◌≡◌ {A = ℕ} 0 1 = cc in omega arith)
-walk_bad m k (x ∷ l) q = (refl, cc)
+walk_bad : (m : ℕ) (refusal : Refusal) (l : List ℕ) → walk_of m l ≡ Err refusal → (is_empty l ≡ false) × (refusal ≡ BadTreeTable (m + 1))
+walk_bad m refusal [] q = absurd (let z : ◌≡◌ {A = ℕ} 0 1 = cc in omega arith)
+walk_bad m refusal (x ∷ l) q = (refl, cc)
 
 -- What the table of a section reports, and its area where it accepts.
 module _ (e : Edition) (records : ℕ) (image : List ℕ) (from size : ℕ) (area₀ area : List ℕ) where
-  abbrev pub TableOfTree : TreeTable → Type 0
+  abbrev pub TableOfTree : Result ℕ Refusal → Type 0
   TableOfTree r =
-      (answer_of_tree r ≡ first_wrong (tree_checks e records (part from size image)) (length (entries_of (part from size image))))
-      × ((n : ℕ) → answer_of_tree r ≡ accepted n → area ≡ laid_over area₀ (entry_places from (entries_of (part from size image))))
+      (answer_of r ≡ first_wrong (tree_checks e records (part from size image)) (length (entries_of (part from size image))))
+      × ((n : ℕ) → answer_of r ≡ accepted n → area ≡ laid_over area₀ (entry_places from (entries_of (part from size image))))
 
-module _ (e : Edition) (records : ℕ) (image : List ℕ) (from size : ℕ) (area₀ area : List ℕ) {p : WalkResult} (long : length area₀ ≡ 2048)
+module _ (e : Edition) (records : ℕ) (image : List ℕ) (from size : ℕ) (area₀ area : List ℕ) {p : Result ℕ Refusal} (long : length area₀ ≡ 2048)
     (parts : p ≡ walk_of (length (entries_in (length area₀) (sliced image from size))) (bytes_after_entries (length area₀) (sliced image from size)))
     (laid : area ≡ laid_over area₀ (entry_places from (entries_in (length area₀) (sliced image from size)))) where
   abbrev nodes : List Entry
@@ -195,18 +193,18 @@ module _ (e : Edition) (records : ℕ) (image : List ℕ) (from size : ℕ) (are
   area_is : area ≡ laid_over area₀ (entry_places from nodes)
   area_is = laid ∙ rw (long, sliced_part image from size)
 
-  pub tree_broken : {k : ℕ} → p ≡ walked.BrokenAt k → TableOfTree e records image from size area₀ area (tree.BrokenAt k)
-  tree_broken {k} q = let f = walk_bad (length nodes) k rest (parts_are ∙ q) in (rw (f.0, f.1), λ n a. not_both a)
+  pub tree_broken : {refusal : Refusal} → p ≡ Err refusal → TableOfTree e records image from size area₀ area (Err refusal)
+  tree_broken {refusal} q = let f = walk_bad (length nodes) refusal rest (parts_are ∙ q) in (rw (f.0, f.1), λ n a. not_both a)
 
-  module _ {n : ℕ} {b : Bool} (q : p ≡ walked.Nodes n) (differs : b ≡ count_differs e records n) where
+  module _ {n : ℕ} {b : Bool} (q : p ≡ Ok n) (differs : b ≡ count_differs e records n) where
     number : (is_empty rest ≡ true) × (n ≡ length nodes)
     number = walk_nodes (length nodes) n rest (parts_are ∙ q)
 
     count_is : count_differs e records (length nodes) ≡ b
     count_is = rw (← number.1) (sym differs)
 
-    pub tree_differs : b ≡ true → TableOfTree e records image from size area₀ area tree.CountDiffers
+    pub tree_differs : b ≡ true → TableOfTree e records image from size area₀ area (Err (BadTreeTable 0))
     tree_differs h = (rw (number.0, count_is, h), λ n a. not_both a)
 
-    pub tree_whole : b ≡ false → TableOfTree e records image from size area₀ area (tree.Nodes n)
+    pub tree_whole : b ≡ false → TableOfTree e records image from size area₀ area (Ok n)
     tree_whole h = (rw (number.0, count_is, h, number.1), λ k a. area_is)

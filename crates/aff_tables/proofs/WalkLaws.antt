@@ -5,19 +5,17 @@ use Prim.Native.Nat.{ℕ, zero, suc, ◌+◌, ◌-◌, ◌≤◌, ◌<◌}
 use native.Mathlib.Nat.{sub-zero, add-zero}
 use native.Mathlib.Omega.{arith}
 use lib.ListN.{length, set, drop, length-drop}
-use lib.Seq.{drop-cons, drop-drop, drop-length}
+use lib.Seq.{drop-drop}
 use Rattle.aff_format.specs.Entry.{entry_of}
 use Rattle.aff_format.specs.Kind.{entry_size}
 use Rattle.aff_format.specs.declared.entry.Entry.{Entry}
-use Rattle.aff_format.specs.declared.entry.FoundEntry.{FoundEntry}
-use Rattle.aff_format.specs.declared.entry.FoundEntry.TheVariants.{Whole, Broken}
+use Rattle.std.specs.Prelude.{Option, Some, None, Result}
 use Rattle.aff_format.proofs.EntryLaws.{entry_inside}
 use Rattle.aff_format.proofs.KindLaws.{entry_size_bounds}
 use Rattle.aff_tables.specs.passes.Results.{size_found, walk_of}
 use Rattle.aff_tables.specs.Tables.{entries_in, bytes_after_entries, entry_places}
 use Rattle.aff_format.specs.Bytes.{laid_over}
-use Rattle.aff_tables.specs.declared.tree.WalkResult.{WalkResult}
-use Rattle.aff_tables.specs.declared.tree.WalkResult.TheVariants as walked
+use Rattle.aff_format.specs.declared.refusal.Refusal.{Refusal}
 use Rattle.aff_format.proofs.LaidLaws.{Laid, laid_start, laid_store, laid_all}
 
 pub length_entry_places : (at : ℕ) (es : List Entry) → length (entry_places at es) ≡ length es
@@ -30,19 +28,19 @@ length_entry_places at (e ∷ es) = ap suc (length_entry_places (at + entry_size
 pub found_inside : (l : List ℕ) → size_found (entry_of l) ≤ length l
 found_inside l = go (entry_of l) refl
   where
-    go : (f : FoundEntry) → entry_of l ≡ f → size_found f ≤ length l
-    go (Whole e) h = entry_inside l e h
-    go Broken h = omega arith
+    go : (f : Option Entry) → entry_of l ≡ f → size_found f ≤ length l
+    go (Some e) h = entry_inside l e h
+    go None h = omega arith
 
-found_broken : (f : FoundEntry) → size_found f ≡ 0 → f ≡ Broken
-found_broken (Whole e) h = absurd (omega (arith, entry_size_bounds e.kind))
-found_broken Broken h = refl
+found_broken : (f : Option Entry) → size_found f ≡ 0 → f ≡ None
+found_broken (Some e) h = absurd (omega (arith, entry_size_bounds e.kind))
+found_broken None h = refl
 
-pub entries_more : (limit : ℕ) (l : List ℕ) (e : Entry) → entry_of l ≡ Whole e → entries_in (suc limit) l ≡ e ∷ entries_in limit (drop (entry_size e.kind) l)
+pub entries_more : (limit : ℕ) (l : List ℕ) (e : Entry) → entry_of l ≡ Some e → entries_in (suc limit) l ≡ e ∷ entries_in limit (drop (entry_size e.kind) l)
 unfolding entries_in
 entries_more limit l e h = rw h
 
-pub after_more : (limit : ℕ) (l : List ℕ) (e : Entry) → entry_of l ≡ Whole e → bytes_after_entries (suc limit) l ≡ bytes_after_entries limit (drop (entry_size e.kind) l)
+pub after_more : (limit : ℕ) (l : List ℕ) (e : Entry) → entry_of l ≡ Some e → bytes_after_entries (suc limit) l ≡ bytes_after_entries limit (drop (entry_size e.kind) l)
 unfolding bytes_after_entries
 after_more limit l e h = rw h
 
@@ -50,7 +48,7 @@ after_more limit l e h = rw h
 abbrev pub Over : ℕ → List ℕ → Type 0
 Over limit l = (entries_in limit l ≡ []) × (bytes_after_entries limit l ≡ l)
 
-pub over_broken : (limit : ℕ) (l : List ℕ) → entry_of l ≡ Broken → Over limit l
+pub over_broken : (limit : ℕ) (l : List ℕ) → entry_of l ≡ None → Over limit l
 unfolding entries_in bytes_after_entries
 over_broken zero l h = (refl, refl)
 over_broken (suc limit) l h = (rw h, rw h)
@@ -62,7 +60,7 @@ pub record Walking (section : List ℕ) (first : ℕ) (area₀ area : List ℕ) 
   pub rest : bytes_after_entries (length area₀ - n) (drop at section) ≡ bytes_after_entries (length area₀) section
 
 -- The answer and the area of a walk.
-abbrev pub Walk : List ℕ → ℕ → List ℕ → List ℕ → WalkResult → Type 0
+abbrev pub Walk : List ℕ → ℕ → List ℕ → List ℕ → Result ℕ Refusal → Type 0
 Walk section first area₀ area r =
     (r ≡ walk_of (length (entries_in (length area₀) section)) (bytes_after_entries (length area₀) section))
     × (area ≡ laid_over area₀ (entry_places first (entries_in (length area₀) section)))
@@ -73,7 +71,7 @@ walk_start section first area =
 
 module _ {section : List ℕ} {first : ℕ} {area₀ area : List ℕ} {n at : ℕ} (w : Walking section first area₀ area n at) where
   -- One entry more.
-  walk_on : (e : Entry) → entry_of (drop at section) ≡ Whole e → n < length area
+  walk_on : (e : Entry) → entry_of (drop at section) ≡ Some e → n < length area
       → Walking section first area₀ (set area n (first + at)) (n + 1) (at + entry_size e.kind)
   unfolding entry_places
   walk_on e h r =
@@ -87,10 +85,10 @@ module _ {section : List ℕ} {first : ℕ} {area₀ area : List ℕ} {n at : �
         rest = rw (m, after_more (length area₀ - (n + 1)) (drop at section) e h, d) at w.rest;
       }
 
-  walk_found : (f : FoundEntry) → entry_of (drop at section) ≡ f → (size : ℕ) → size ≡ size_found f → (size ≡ 0 → ⊥) → n < length area
+  walk_found : (f : Option Entry) → entry_of (drop at section) ≡ f → (size : ℕ) → size ≡ size_found f → (size ≡ 0 → ⊥) → n < length area
       → Walking section first area₀ (set area n (first + at)) (n + 1) (at + size)
-  walk_found (Whole e) h size s z r = rw s (walk_on e h r)
-  walk_found Broken h size s z r = absurd (z s)
+  walk_found (Some e) h size s z r = rw s (walk_on e h r)
+  walk_found None h size s z r = absurd (z s)
 
   pub walk_step : {size : ℕ} → size ≡ size_found (entry_of (drop at section)) → (size ≡ 0 → ⊥) → n < length area
       → Walking section first area₀ (set area n (first + at)) (n + 1) (at + size)
@@ -110,11 +108,5 @@ module _ {section : List ℕ} {first : ℕ} {area₀ area : List ℕ} {n at : �
         let f = laid_all (rw o.0 at w.laid) in
         (f.0 ∙ length_entry_places first (entries_in (length area₀) section), f.1.1)
 
-    pub walk_ended : at ≡ length section → Walk section first area₀ area (walked.Nodes n)
-    walk_ended h = (rw (← stored.0, ← w.rest, o.1, h, drop-length), stored.1)
-
-    pub walk_broken : (at ≡ length section → ⊥) → Walk section first area₀ area (walked.BrokenAt (n + 1))
-    walk_broken h =
-        let a = w.at_end in
-        let l : at < length section = omega arith in
-        (rw (← stored.0, ← w.rest, o.1, drop-cons section at 0 l), stored.1)
+    pub walk_over : Walk section first area₀ area (walk_of n (drop at section))
+    walk_over = (rw (← stored.0, ← w.rest, o.1), stored.1)

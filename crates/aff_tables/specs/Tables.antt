@@ -1,6 +1,6 @@
 -- Symbol table and tree table, of the bytes of their sections: document 01, 'Layout of a file', and 'Numbers handed back', 25 to 27
 -- (requests C-11 and C-13) and 9.
-use Rattle.std.specs.Prelude.{Bool, true, false, not, ◌&&◌, List, [], ◌∷◌, ◌++◌, map, ℕ, zero, suc, ◌+◌, ltb, eqb, length, get_or, take, drop}
+use Rattle.std.specs.Prelude.{Bool, true, false, not, ◌&&◌, List, [], ◌∷◌, ◌++◌, map, ℕ, zero, suc, ◌+◌, ltb, eqb, length, get_or, take, drop, Option, Some, None}
 use Rattle.aff_format.specs.Answer.{Check, check, refusal, refusal_at}
 use Rattle.aff_format.specs.Edition.{has_counts}
 use Rattle.aff_format.specs.Entry.{entry_of, entry_bytes, no_entry}
@@ -11,8 +11,6 @@ use Rattle.aff_format.specs.Recorded.{name_from}
 use Rattle.aff_format.specs.Strings.{strings_of, is_in}
 use Rattle.aff_format.specs.declared.edition.Edition.{Edition}
 use Rattle.aff_format.specs.declared.entry.Entry.{Entry}
-use Rattle.aff_format.specs.declared.entry.FoundEntry.{FoundEntry}
-use Rattle.aff_format.specs.declared.entry.FoundEntry.TheVariants.{Whole, Broken}
 
 -- The strings that begin at some places.
 abbrev pub names_at : List ℕ → ℕ → List ℕ → List (List ℕ)
@@ -22,18 +20,18 @@ names_at image end places = map (name_from image end) places
 unfoldable pub repeats : List (List ℕ) → ℕ → Bool
 repeats strings k = is_in (get_or strings k []) (take k strings)
 
-abbrev pub and_then : FoundEntry → (Entry → List Entry) → List Entry
-and_then Broken more = []
-and_then (Whole e) more = e ∷ more e
+abbrev pub and_then : Option Entry → (Entry → List Entry) → List Entry
+and_then None more = []
+and_then (Some e) more = e ∷ more e
 
 -- The whole entries with which a run of bytes begins, one after the other, at most `limit`.
 unfoldable pub entries_in : ℕ → List ℕ → List Entry
 entries_in zero l = []
 entries_in (suc limit) l = and_then (entry_of l) (λ e. entries_in limit (drop (entry_size e.kind) l))
 
-abbrev pub or_after : FoundEntry → List ℕ → (Entry → List ℕ) → List ℕ
-or_after Broken l more = l
-or_after (Whole e) l more = more e
+abbrev pub or_after : Option Entry → List ℕ → (Entry → List ℕ) → List ℕ
+or_after None l more = l
+or_after (Some e) l more = more e
 
 -- The bytes after them.
 unfoldable pub bytes_after_entries : ℕ → List ℕ → List ℕ

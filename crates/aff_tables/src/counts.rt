@@ -9,9 +9,5 @@ use aff_format::Edition;
 pub fn count_differs(edition: Edition, records: u64, n: usize) -> bool
     ensures { result ≡ count_differs edition records n }
 {
-    if edition.has_counts() {
-        records != n as u64
-    } else {
-        false
-    }
+    edition.has_counts() && records != n as u64
 }

@@ -5,61 +5,41 @@ ghost use Rattle.aff_format.specs.Bytes.{part, laid_over};
 ghost use Rattle.aff_format.specs.Strings.{strings_of, places_of};
 ghost use Rattle.aff_tables.specs.Tables.{names_at};
 ghost use Rattle.aff_tables.specs.passes.Distinct.{Places};
-ghost use Rattle.aff_tables.specs.passes.Results.{split_of, answer_of_symbols, counted_of, symbols_of};
+ghost use Rattle.aff_tables.specs.passes.Results.{split_of, counted_of, symbols_of};
+ghost use Rattle.aff_format.specs.Verdict.{answer_of};
 
+use crate::placed::Strings;
 use crate::{counts, distinct};
-use aff_format::{Edition, Lowest};
-
-// How many strings there are, or more than the area has places.
-#[derive(Clone, Copy)]
-pub enum SplitResult {
-    Strings(usize),
-    TooMany,
-}
-
-// The first fault of a symbol table, or how many strings it has.
-#[derive(Clone, Copy)]
-pub enum Symbols {
-    Strings(usize),
-    // 25.
-    TooMany,
-    // 26.
-    CountDiffers,
-    // 27, with the lowest string that equals an earlier one.
-    Repeated(usize),
-}
+use aff_format::{Edition, Refusal};
 
 // Stores where each string of a section begins; the section begins at place `first` of the image. Bytes after the last zero are one more string.
-// One pass over the section.
+// How many there are, or none where the area has too few places. One pass over the section.
 #[tactic(auto, using(crate::proofs::SplitLaws::split_skip))]
-fn split(section: &[u8], first: usize, places: &mut [u32]) -> SplitResult
+fn split(section: &[u8], first: usize, places: &mut [u32]) -> Option<usize>
     requires { first + length section.now < 2147483648 }
     ensures value { result ≡ split_of (length places.old) (length (strings_of section.now)) }
     ensures places_after { places.new ≡ laid_over places.old (places_of first (strings_of section.now)) }
 {
-    let mut n: usize = 0;
-    let mut start: usize = 0;
-    let mut at: usize = 0;
-    while at < section.len() {
-        let next = at + 1;
-        if section[at] == 0 {
+    let mut n = 0;
+    let mut start = 0;
+    for (at, &byte) in section.iter().enumerate() {
+        if byte == 0 {
             if places.len() <= n {
-                return SplitResult::TooMany;
+                return None;
             }
             places[n] = (first + start) as u32;
             n += 1;
-            start = next;
+            start = at + 1;
         }
-        at = next;
     }
-    if start == at {
-        return SplitResult::Strings(n);
+    if start == section.len() {
+        return Some(n);
     }
     if places.len() <= n {
-        return SplitResult::TooMany;
+        return None;
     }
     places[n] = (first + start) as u32;
-    SplitResult::Strings(n + 1)
+    Some(n + 1)
 }
 
 // After the split: the count, then equal strings.
@@ -70,16 +50,22 @@ fn counted(
     end: usize,
     places: &[u32],
     n: usize,
-) -> Symbols
+) -> Result<usize, Refusal>
     requires { Places image.now end places.now n }
     ensures { result ≡ counted_of edition records (names_at image.now end (take n places.now)) n }
 {
     if counts::count_differs(edition, records, n) {
-        return Symbols::CountDiffers;
+        return Err(Refusal::WrongStringCount);
     }
-    match distinct::repeated_string(image, end, places, n) {
-        Lowest::At(k) => Symbols::Repeated(k),
-        Lowest::Nothing => Symbols::Strings(n),
+    let strings = Strings {
+        image,
+        end,
+        places,
+        count: n,
+    };
+    match distinct::repeated_string(&strings) {
+        Some(string) => Err(Refusal::RepeatedString(string)),
+        None => Ok(n),
     }
 }
 
@@ -93,14 +79,12 @@ pub fn symbol_table(
     size: usize,
     records: u64,
     places: &mut [u32],
-) -> Symbols
+) -> Result<usize, Refusal>
     requires { (from + size ≤ length image.now) × (length image.now < 2147483648) × (length places.old ≡ 2048) }
     ensures value { result ≡ symbols_of edition records (part from size image.now) }
-    ensures stored { (n : ℕ) → answer_of_symbols result ≡ accepted n → places.new ≡ laid_over places.old (places_of from (strings_of (part from size image.now))) }
+    ensures stored { (n : ℕ) → answer_of result ≡ accepted n → places.new ≡ laid_over places.old (places_of from (strings_of (part from size image.now))) }
 {
     let end = from + size;
-    match split(&image[from..end], from, places) {
-        SplitResult::TooMany => Symbols::TooMany,
-        SplitResult::Strings(n) => counted(image, edition, records, end, places, n),
-    }
+    let strings = split(&image[from..end], from, places).ok_or(Refusal::TooManyStrings)?;
+    counted(image, edition, records, end, places, strings)
 }

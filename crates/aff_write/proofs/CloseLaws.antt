@@ -6,33 +6,25 @@ use Prim.Native.Nat.{ℕ, ◌+◌, ◌-◌, ◌≤◌, ◌<◌}
 use native.Mathlib.Omega.{arith}
 use lib.ListN.{length, take, drop, length-append, length-drop}
 use lib.Seq.{length-take-le, take_all}
-use Rattle.aff_format.specs.Answer.{first_wrong}
 use Rattle.aff_format.specs.Bytes.{spliced, joined}
 use Rattle.aff_format.specs.Edition.{signature_text, header_order, signature_size, section_at, section_header_size, header_sum_at, header_size, most_header}
 use Rattle.aff_format.specs.Limits.{node_limit, tree_area}
-use Rattle.aff_format.specs.Verdict.{answer_of_verdict, answer_of_number}
 use Rattle.aff_format.specs.declared.edition.Edition.{Edition}
 use Rattle.aff_format.specs.declared.section.Section.{Section}
 use Rattle.aff_format.specs.declared.section.Section.TheVariants.{Symbol, Tree, Data}
-use Rattle.aff_format.specs.declared.refusal.Refusal.{Refusal}
-use Rattle.aff_format.specs.declared.verdict.NumberAnswer.TheVariants as answered
-use Rattle.aff_format.specs.declared.verdict.Verdict.{Verdict}
-use Rattle.aff_format.specs.declared.verdict.Verdict.TheVariants.{Accepted, Refused}
 use Rattle.aff_format.proofs.BytesLaws.{spliced_next}
 use Rattle.aff_format.proofs.EditionLaws.{length_signature_text, section_header_sizes}
 use Rattle.aff_areas.specs.Areas.{used_text, entries_out, data_nodes, finished_size}
-use Rattle.aff_areas.specs.Belongs.{WriterBelongs, writer_checks}
+use Rattle.aff_areas.specs.Belongs.{WriterBelongs}
 use Rattle.aff_header.specs.Header.{header_front, with_sum}
-use Rattle.aff_areas.specs.Stores.{Store, apply_stores, stores_from, buffer_after}
-use Rattle.aff_areas.specs.Writer.{writer_edition, data_place, stopped, writer_after}
+use Rattle.aff_areas.specs.Stores.{Store, apply_stores, stores_from}
+use Rattle.aff_areas.specs.Writer.{writer_edition, data_place}
 use Rattle.aff_areas.specs.declared.writer.Writer.{Writer}
-use Rattle.aff_areas.specs.declared.writer.Writing.{Writing}
 use Rattle.aff_areas.proofs.AreaLaws.{entry_sizes_most, length_entries_out}
-use Rattle.aff_areas.proofs.BelongsLaws.{judge_leaves, judge_refuses, judged_other}
-use Rattle.aff_header.proofs.HeaderLaws.{length_section_header, three_headers, length_header_front, length_with_sum, take_front}
-use Rattle.aff_areas.proofs.StoreLaws.{length_stores_from, length_take_most}
-use Rattle.aff_write.specs.Close.{symbols_place, tree_place, data_bytes, section_of, close_section, close_header, close_stores, store_checks, close_answer}
-use Rattle.aff_write.proofs.SpentLaws.{two_made, two_buffer, reported_refused, stopped_after_lem}
+use Rattle.aff_header.proofs.HeaderLaws.{length_section_header, three_headers, length_header_front, take_front}
+use Rattle.aff_areas.proofs.StoreLaws.{length_stores_from}
+use Rattle.aff_write.specs.Close.{symbols_place, tree_place, data_bytes, section_of, close_section, close_header, close_stores}
+use Rattle.aff_write.proofs.SpentLaws.{two_made, two_buffer}
 
 -- Each section header has the size of its edition.
 pub length_section_of : (writer : Writer) (full : ℕ) (symbols entries stored : List ℕ) (s : Section)
@@ -40,16 +32,6 @@ pub length_section_of : (writer : Writer) (full : ℕ) (symbols entries stored :
 length_section_of writer full symbols entries stored Symbol = length_section_header (writer_edition writer) (symbols_place writer) writer.strings symbols
 length_section_of writer full symbols entries stored Tree = length_section_header (writer_edition writer) (tree_place writer) writer.nodes entries
 length_section_of writer full symbols entries stored Data = length_section_header (writer_edition writer) (data_place writer) full stored
-
--- The header that the code writes at a rank fits, and is that of the section which it finds there.
-pub ranked_fits : (e : Edition) (writer : Writer) (at n : ℕ) → e ≡ writer_edition writer → at + section_header_size (writer_edition writer) ≤ n → at + section_header_size e ≤ n
-ranked_fits e writer at n h f = rw h f
-
-pub ranked_section : (writer : Writer) (full : ℕ) (symbols entries stored : List ℕ) (e : Edition) (rank : ℕ) (s : Section) → e ≡ writer_edition writer → s ≡ section_at e rank
-    → (t : Section) → s ≡ t
-    → section_of writer full symbols entries stored t ≡ section_of writer full symbols entries stored (section_at (writer_edition writer) rank)
-ranked_section writer full symbols entries stored e rank s he hs t h =
-    ap (section_of writer full symbols entries stored) (sym h ∙ hs ∙ ap (λ (x : Edition). section_at x rank) he)
 
 -- The three section headers, each after the one before it.
 pub headers_over : (e : Edition) (h : Section → List ℕ) (n : ℕ) (l₀ l₁ l₂ l₃ : List ℕ) → most_header ≤ length l₀ → n ≡ section_header_size e
@@ -102,11 +84,6 @@ module _ (buffer : List ℕ) (writer : Writer) (text tree : List ℕ) where
       let e₂ : l₂ ≡ spliced signature_size (joined (map (close_section buffer writer text tree) (header_order d))) l₁ = h₂ ∙ rw (hn, hs, hf) in
       let e₃ : take (header_size d) l₃ ≡ with_sum (take (header_sum_at d) l₂) = rw he at h₃ in
       e₃ ∙ ap with_sum (front_over d writer.form (close_section buffer writer text tree) l₀ l₁ l₂ f n close_section_size e₁ e₂)
-
-  pub length_close_header : length writer.form ≡ 12 → length (close_header buffer writer text tree) ≡ data_place writer
-  unfolding close_header
-  length_close_header n =
-      length_with_sum (writer_edition writer) _ (length_header_front (writer_edition writer) writer.form (close_section buffer writer text tree) n close_section_size)
 
   -- The stores.
   pub stores_closed : (at : ℕ) (symbols entries header : List ℕ) → at ≡ symbols_place writer → symbols ≡ used_text writer text
@@ -181,34 +158,4 @@ module _ (at : ℕ) (symbols entries header : List ℕ) (allowance first second 
   file_stored = (
     two_made (body_stores at symbols entries) (head_stores header) allowance first second buffer₀ buffer₁ buffer₂ m₁ r₁ second_made second_buffer,
     two_buffer (body_stores at symbols entries) (head_stores header) allowance first second buffer₀ buffer₁ buffer₂ m₁ r₁ second_made second_buffer,
-  )
-
-  pub file_most : first + second ≤ allowance
-  file_most = omega (arith, file_stored.0, length_take_most allowance (body_stores at symbols entries ++ head_stores header))
-
--- What `judge` refuses (24, 22) is the call's refusal; else the record is stopped, and the allowance decides.
-module _ (buffer : List ℕ) (writer : Writer) (text tree : List ℕ) (allowance : ℕ) (v : Verdict)
-    (reported : answer_of_verdict v ≡ first_wrong (writer_checks (length buffer) writer text tree) (tt {0})) where
-  pub judge_stops : (q : Refusal) {w : Writing} → v ≡ Refused q → w ≡ record { answer = answered.Refused q; writer = writer }
-      → (answer_of_number w.answer ≡ close_answer buffer writer text tree allowance)
-      × ((w.writer ≡ writer_after (answer_of_number w.answer) (stopped writer) writer)
-      × (buffer ≡ buffer_after (answer_of_number w.answer) (close_stores buffer writer text tree) buffer))
-  unfolding close_answer
-  judge_stops q {w} e h =
-      let more = store_checks buffer writer text tree allowance in
-      reported_refused (writer_checks (length buffer) writer text tree ++ more) (close_stores buffer writer text tree) (stopped writer) writer buffer q w h
-      (judged_other (length buffer) writer text tree v reported q e)
-      (judge_refuses (length buffer) writer text tree v reported more (length (close_stores buffer writer text tree)) q e)
-
-  pub judge_passes : (w : Writing) {buffer' : List ℕ} → v ≡ Accepted
-      → (answer_of_number w.answer ≡ first_wrong (store_checks buffer writer text tree allowance) (length (close_stores buffer writer text tree)))
-      × ((w.writer ≡ stopped writer) × (buffer' ≡ buffer_after (answer_of_number w.answer) (close_stores buffer writer text tree) buffer))
-      → (answer_of_number w.answer ≡ close_answer buffer writer text tree allowance)
-      × ((w.writer ≡ writer_after (answer_of_number w.answer) (stopped writer) writer)
-      × (buffer' ≡ buffer_after (answer_of_number w.answer) (close_stores buffer writer text tree) buffer))
-  unfolding close_answer
-  judge_passes w e h = (
-    h.0
-        ∙ judge_leaves (length buffer) writer text tree v reported (store_checks buffer writer text tree allowance) (length (close_stores buffer writer text tree)) e,
-    (h.1.0 ∙ sym (stopped_after_lem (close_stores buffer writer text tree) allowance writer (answer_of_number w.answer) h.0), h.1.1),
   )

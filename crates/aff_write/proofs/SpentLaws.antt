@@ -1,24 +1,15 @@
 -- Calls that store under an allowance: those stores were made that come first, so many as are allowed; 23 is reported exactly where some are
 -- left. By how many the front of a list has. Assumes nothing.
 use mathlib.Core.Path.{◌≡◌, refl, sym, ap, ◌∙◌}
-use mathlib.Core.Bool.{Bool, true, false}
 use mathlib.Core.List.{List, [], ◌∷◌, ◌++◌}
 use Prim.Native.Nat.{ℕ, zero, suc, ◌+◌, ◌-◌, ◌≤◌, ◌<◌}
 use native.Mathlib.Omega.{arith}
-use lib.Dec.{eqb, ltb}
+use lib.Dec.{ltb}
 use lib.ListN.{length, take, length-append}
 use lib.Seq.{take_all}
 use borrow.Author.Tests.{lt-ltb, le-ltb}
-use Rattle.aff_format.specs.Answer.{Answer, accepted, refused, Check, check, refusal_at, unless, first_wrong}
-use Rattle.aff_format.specs.Refusal.{code_of_refusal}
-use Rattle.aff_format.specs.Verdict.{answer_of_number}
-use Rattle.aff_format.specs.declared.refusal.Refusal.{Refusal}
-use Rattle.aff_format.specs.declared.refusal.Refusal.TheVariants.{AllowanceSpent}
-use Rattle.aff_format.specs.declared.verdict.NumberAnswer.TheVariants as answered
-use Rattle.aff_areas.specs.Stores.{Store, apply_stores, buffer_after}
-use Rattle.aff_areas.specs.Writer.{stopped, writer_after}
-use Rattle.aff_areas.specs.declared.writer.Writer.{Writer}
-use Rattle.aff_areas.specs.declared.writer.Writing.{Writing}
+use Rattle.aff_format.specs.Answer.{Answer, accepted, refused, Check, check, refusal_at, first_wrong}
+use Rattle.aff_areas.specs.Stores.{Store, apply_stores}
 use Rattle.aff_areas.proofs.StoreLaws.{apply_append, take_both}
 
 -- The front of a list is shorter than it, or is all of it.
@@ -32,19 +23,6 @@ take_long zero [] h = (omega arith, refl)
 take_long zero (x ∷ l) h = absurd (omega arith)
 take_long (suc k) [] h = (omega arith, refl)
 take_long {A} (suc k) (x ∷ l) h = let (a, b) = take_long k l (omega arith) in (omega arith, ap (λ (r : List A). x ∷ r) b)
-
--- What a call promises of its answer, its record and the buffer.
-abbrev pub WritingPromise : List Check → List Store → Writer → Writer → List ℕ → List ℕ → Writing → Type 0
-WritingPromise checks stores next given buffer₀ buffer₁ w =
-    (answer_of_number w.answer ≡ first_wrong checks (length stores))
-    × ((w.writer ≡ writer_after (answer_of_number w.answer) next given) × (buffer₁ ≡ buffer_after (answer_of_number w.answer) stores buffer₀))
-
--- A refusal other than 23 leaves record and buffer.
-pub reported_refused : (checks : List Check) (stores : List Store) (next given : Writer) (buffer : List ℕ) (q : Refusal) (w : Writing)
-    → w ≡ record { answer = answered.Refused q; writer = given } → eqb (code_of_refusal q).number 23 ≡ false
-    → refused (code_of_refusal q) ≡ first_wrong checks (length stores) → WritingPromise checks stores next given buffer buffer w
-unfolding apply_stores
-reported_refused checks stores next given buffer q w e o h = rw e (h, (rw o, rw o))
 
 -- 23.
 abbrev pub spent_check : List Store → ℕ → List Check
@@ -64,10 +42,6 @@ module _ (stores : List Store) (allowance made : ℕ) (buffer₀ buffer₁ : Lis
       let (a, b) = take_short allowance stores (omega arith) in
       r ∙ ap (λ (k : ℕ). apply_stores buffer₀ (take k stores)) (sym (m ∙ b))
 
-  pub reported_spent : (next given s : Writer) (w : Writing) → made < length stores → s ≡ stopped given
-      → w ≡ record { answer = answered.Refused (AllowanceSpent made); writer = s } → WritingPromise (spent_check stores allowance) stores next given buffer₀ buffer₁ w
-  reported_spent next given s w h t e = rw e (spent_answer h, (t, spent_buffer h))
-
   -- All were made.
   pub made_answer : length stores ≤ made → ◌≡◌ {A = Answer ℕ} (accepted made) (first_wrong (spent_check stores allowance) (length stores))
   made_answer h =
@@ -79,16 +53,6 @@ module _ (stores : List Store) (allowance made : ℕ) (buffer₀ buffer₁ : Lis
   made_buffer h =
       let (a, b) = take_long allowance stores (omega arith) in
       r ∙ ap (apply_stores buffer₀) (b ∙ sym (take_all made stores h))
-
--- Where only 23 can refuse, the record is stopped in any case.
-stopped_either : (given : Writer) (allowance n : ℕ) (b : Bool)
-    → writer_after (unless b (refusal_at 23 allowance) (accepted n)) (stopped given) given ≡ stopped given
-stopped_either given allowance n true = refl
-stopped_either given allowance n false = refl
-
-pub stopped_after_lem : (stores : List Store) (allowance : ℕ) (given : Writer) (answer : Answer ℕ) → answer ≡ first_wrong (spent_check stores allowance) (length stores)
-    → writer_after answer (stopped given) given ≡ stopped given
-stopped_after_lem stores allowance given answer e = rw e (stopped_either given allowance (length stores) (ltb allowance (length stores)))
 
 -- Some stores and others after them under one allowance.
 module _ (a b : List Store) (allowance first second : ℕ) (buffer₀ buffer₁ buffer₂ : List ℕ)

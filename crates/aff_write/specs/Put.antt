@@ -1,5 +1,5 @@
 -- Put data: document 01, 'Writing keys', and 'Order': 24, 22, 15, 18, 19, 21, 23.
-use Rattle.std.specs.Prelude.{Bool, true, not, ◌||◌, List, [], ◌∷◌, ◌++◌, ℕ, ◌+◌, ◌%◌, eqb, ltb, length, replicate}
+use Rattle.std.specs.Prelude.{Bool, true, not, ◌||◌, List, [], ◌∷◌, ◌++◌, ℕ, ◌+◌, ◌%◌, eqb, ltb, length, replicate, Option, Some, None}
 use Rattle.aff_format.specs.Align.{padding, aligned}
 use Rattle.aff_format.specs.Answer.{Answer, Check, check, refusal, refusal_at, first_wrong}
 use Rattle.aff_format.specs.Bytes.{spliced}
@@ -9,8 +9,6 @@ use Rattle.aff_format.specs.Kind.{kind_of, element_size, is_void}
 use Rattle.aff_format.specs.declared.entry.Entry.{Entry}
 use Rattle.aff_format.specs.declared.kind.Kind.{Kind}
 use Rattle.aff_format.specs.declared.kind.Kind.TheVariants.{Void}
-use Rattle.aff_format.specs.declared.kind.FoundKind.{FoundKind}
-use Rattle.aff_format.specs.declared.kind.FoundKind.TheVariants.{Known, Unknown}
 use Rattle.aff_areas.specs.Areas.{slot_at, slot_entry, finished_size}
 use Rattle.aff_areas.specs.Belongs.{writer_checks}
 use Rattle.aff_areas.specs.Stores.{Store, stores_from}
@@ -21,14 +19,14 @@ unfoldable pub takes_none : List ℕ → ℕ → Bool
 takes_none tree node = eqb node 0 || not (is_void (slot_entry tree node).kind)
 
 -- 19: a type that holds no data, or so many bytes are no multiple of its element.
-abbrev pub wrong_data : FoundKind → ℕ → Bool
-wrong_data Unknown n = true
-wrong_data (Known k) n = is_void k || not (eqb (n % element_size k) 0)
+abbrev pub wrong_data : Option Kind → ℕ → Bool
+wrong_data None n = true
+wrong_data (Some k) n = is_void k || not (eqb (n % element_size k) 0)
 
 -- The kind of a type that holds data.
-abbrev pub data_kind : FoundKind → Kind
-data_kind Unknown = Void
-data_kind (Known k) = k
+abbrev pub data_kind : Option Kind → Kind
+data_kind None = Void
+data_kind (Some k) = k
 
 -- Where the next data begin: at the next multiple of 8, which is the end of data itself where that is one (request C-22).
 abbrev pub put_place : Writer → ℕ

@@ -1,12 +1,11 @@
 // Begin.
 ghost use Rattle.std.specs.Prelude.{◌≡◌, length};
-ghost use Rattle.aff_format.specs.Verdict.{answer_of_number};
+ghost use Rattle.aff_format.specs.Verdict.{answer_of};
 ghost use Rattle.aff_areas.specs.Stores.{buffer_after};
 ghost use Rattle.aff_write.specs.Begin.{begin_lengths_wrong, begin_stores, begin_answer, begin_writer, begin_area};
 
-use aff_areas::writer::{Writer, Writing};
-use aff_areas::{areas, writer};
-use aff_format::{Edition, NumberAnswer, Refusal, limits};
+use aff_areas::Writer;
+use aff_format::{Edition, Refusal, limits};
 
 #[tactic(auto, unfolding(crate::specs::Begin::begin_lengths_wrong))]
 fn lengths_wrong(buffer: &[u8], form: &[u8], text: &[u8], tree: &[u8]) -> bool
@@ -34,31 +33,32 @@ pub fn begin(
     text: &mut [u8],
     tree: &mut [u8],
     allowance: usize,
-) -> Writing
-    ensures answer { answer_of_number result.answer ≡ begin_answer edition buffer.old form.now text.old tree.old allowance }
-    ensures record { result.writer ≡ begin_writer (answer_of_number result.answer) edition (length buffer.old) form.now }
-    ensures buffer { buffer.new ≡ buffer_after (answer_of_number result.answer) begin_stores buffer.old }
-    ensures text { text.new ≡ begin_area (answer_of_number result.answer) text.old }
-    ensures tree { tree.new ≡ begin_area (answer_of_number result.answer) tree.old }
+    writer: &mut Writer,
+) -> Result<usize, Refusal>
+    ensures answer { answer_of result ≡ begin_answer edition buffer.old form.now text.old tree.old allowance }
+    ensures record { writer.new ≡ begin_writer (answer_of result) edition (length buffer.old) form.now }
+    ensures buffer { buffer.new ≡ buffer_after (answer_of result) begin_stores buffer.old }
+    ensures text { text.new ≡ begin_area (answer_of result) text.old }
+    ensures tree { tree.new ≡ begin_area (answer_of result) tree.old }
 {
+    *writer = Writer::none();
     if lengths_wrong(buffer, form, text, tree) {
-        return writer::refused(Refusal::WrongLength, Writer::none());
+        return Err(Refusal::WrongLength);
     }
     if !Edition::names_written(edition) {
-        return writer::refused(Refusal::UnknownEdition, Writer::none());
+        return Err(Refusal::UnknownEdition);
     }
-    let record = Writer::fresh(edition, buffer.len(), form);
-    if buffer.len() < record.data_place() {
-        return writer::refused(Refusal::BufferTooSmall, Writer::none());
+    let fresh = Writer::fresh(edition, buffer.len(), form);
+    if buffer.len() < fresh.data_place() {
+        return Err(Refusal::BufferTooSmall);
     }
     if allowance < 1 {
-        return writer::refused(Refusal::AllowanceSpent(allowance), record.stopped());
+        *writer = fresh.stopped();
+        return Err(Refusal::AllowanceSpent(allowance));
     }
+    *writer = fresh;
     buffer[0] = 0;
-    areas::clear(text);
-    areas::clear(tree);
-    Writing {
-        answer: NumberAnswer::Value(1),
-        writer: record,
-    }
+    text.fill(0);
+    tree.fill(0);
+    Ok(1)
 }

@@ -6,7 +6,7 @@ pub mod beginning; // begin
 pub mod putting; // put data
 pub mod closing; // close
 
-pub use aff_areas::{Writer, Writing};
+pub use aff_areas::Writer;
 pub use beginning::begin;
 pub use closing::close;
 pub use putting::put;

@@ -1,15 +1,15 @@
-// What the programs share: text, numbers, refusals and elements to a writer, and bytes and images from a reader. Where the writer says what it holds, and
-// the reader what it has left, the contracts say what is written and what is read; standard output and input say neither. `real` and `element` have no
+// What the programs share: text, refusals and elements to a writer, and bytes and images from a reader. Where the writer says what it holds, and the reader
+// what it has left, the contracts say what is written and what is read; standard output and input say neither. `real` and `element` have no
 // contract: nothing is proved of how a double or an element is written. After an error the contracts say what the reader has lost. Of the
 // writer only those of `text` and `front` say anything then: that the first of their bytes were written, maybe none, but not all.
 #![tactic(auto)]
 
-ghost use Rattle.std.specs.Prelude.{◌≡◌, List, ℕ, IsTrue, ◌∷◌, ◌++◌, ◌+◌, ◌<◌, ◌≤◌, codes, length, take, IfOk, OnOk, OnErr};
-ghost use Rattle.std.specs.Fmt.{decimal as decimal_text, signed_decimal};
+ghost use Rattle.std.specs.Prelude.{◌≡◌, List, ℕ, ◌∷◌, ◌++◌, ◌+◌, ◌<◌, ◌≤◌, length, take, IfOk, IfSome, OnOk, OnErr};
+ghost use Rattle.std.specs.Fmt.{decimal};
 ghost use Rattle.std.specs.Io.KnownBytes.{Appends, Consumes, IsAtEnd};
 ghost use Rattle.console.specs.Part.{AppendsPart};
 ghost use Rattle.aff_format.specs.Number.{be_of};
-ghost use Rattle.aff_format.specs.Refusal.{number_of, place_of, second_of};
+ghost use Rattle.aff_format.specs.Refusal.{refused_text, second_of};
 
 use aff_format::{Element, ElementAnswer, Refusal, number};
 use std::io;
@@ -35,77 +35,43 @@ pub fn front<W: Write>(out: &mut W, bytes: &[u8], size: usize) -> io::Result<()>
     ensures all { OnOk result (size ≤ length bytes.now → Appends (W.contents out.old) (W.contents out.new) (take size bytes.now)) }
     ensures cut { OnErr result (AppendsPart (W.contents out.old) (W.contents out.new) (take size bytes.now)) }
 {
-    if bytes.len() < size {
-        return Ok(());
+    match bytes.get(..size) {
+        Some(part) => text(out, part),
+        None => Ok(()),
     }
-    text(out, &bytes[..size])
-}
-
-pub fn decimal<W: Write>(out: &mut W, n: u64) -> io::Result<()>
-    ensures { OnOk result (Appends (W.contents out.old) (W.contents out.new) (decimal_text n)) }
-{
-    write!(out, "{n}")
-}
-
-// `refused N P`.
-pub fn refusal<W: Write>(out: &mut W, why: Refusal) -> io::Result<()>
-    ensures { OnOk result (Appends (W.contents out.old) (W.contents out.new)
-        (codes "refused " ++ (decimal_text (number_of why) ++ (32 ∷ decimal_text (place_of why))))) }
-{
-    let number = why.number();
-    let place = why.place();
-    write!(out, "refused {number} {place}")
 }
 
 // `refused N P S`; S is the second number, 0 for every number but 10.
 pub fn refusal_in_full<W: Write>(out: &mut W, why: Refusal) -> io::Result<()>
-    ensures { OnOk result (Appends (W.contents out.old) (W.contents out.new)
-        (codes "refused " ++ (decimal_text (number_of why) ++ (32 ∷ (decimal_text (place_of why) ++ (32 ∷ decimal_text (second_of why))))))) }
+    ensures { OnOk result (Appends (W.contents out.old) (W.contents out.new) (refused_text why ++ (32 ∷ decimal (second_of why)))) }
 {
-    let number = why.number();
-    let place = why.place();
     let second = why.second_place();
-    write!(out, "refused {number} {place} {second}")
+    write!(out, "{why} {second}")
 }
 
 // A double by its bits in hexadecimal. The bits of a NaN are not those of the file.
 pub fn real<W: Write>(out: &mut W, x: f64) -> io::Result<()> {
-    if x == x {
-        let bits = x.to_bits();
-        return write!(out, "{bits:016x}");
+    if x.is_nan() {
+        return write!(out, "nan");
     }
-    text(out, b"nan")
+    let bits = x.to_bits();
+    write!(out, "{bits:016x}")
 }
 
-pub fn int<W: Write>(out: &mut W, n: i32) -> io::Result<()>
-    ensures { OnOk result (Appends (W.contents out.old) (W.contents out.new) (signed_decimal n)) }
-{
-    write!(out, "{n}")
-}
-
-// An element, or the refusal, after a space.
+// An element, or the refusal, after a space. No Display of `Element`: the bits of a double are the tests' form.
 pub fn element<W: Write>(out: &mut W, answer: ElementAnswer) -> io::Result<()> {
-    text(out, b" ")?;
+    write!(out, " ")?;
     match answer {
-        ElementAnswer::Value(element) => match element {
-            Element::Byte(n) => decimal(out, n as u64),
-            Element::Int(n) => int(out, n),
-            Element::Real(x) => real(out, x),
-            Element::Pair(x, y) => {
-                real(out, x)?;
-                text(out, b",")?;
-                real(out, y)
-            }
-        },
-        ElementAnswer::Refused(why) => refusal(out, why),
+        Ok(Element::Byte(n)) => write!(out, "{n}"),
+        Ok(Element::Int(n)) => write!(out, "{n}"),
+        Ok(Element::Real(x)) => real(out, x),
+        Ok(Element::Pair(x, y)) => {
+            real(out, x)?;
+            write!(out, ",")?;
+            real(out, y)
+        }
+        Err(why) => write!(out, "{why}"),
     }
-}
-
-// Whether there was one more image, and its length.
-#[derive(Clone, Copy)]
-pub struct Next {
-    pub found: bool,
-    pub size: usize,
 }
 
 // Fills an area from its front, as far as the input goes, and returns how many bytes there were. After an error the bytes that the input has lost are the
@@ -128,27 +94,39 @@ pub fn read_full<R: Read>(input: &mut R, area: &mut [u8]) -> io::Result<usize>
     Ok(done)
 }
 
-// Reads the next image of an input, which comes after its length in 4 bytes, into the front of an area. After an error the input has lost bytes from its
-// front alone, at most 4 more than the area holds.
-pub fn next_image<R: Read>(input: &mut R, area: &mut [u8]) -> io::Result<Next>
-    ensures inside { IfOk result (λ next. next.size ≤ length area.new) }
-    ensures bytes { IfOk result (λ next. IsTrue next.found → ((head : List ℕ) × (length head ≡ 4) × (be_of head ≡ next.size)
-        × Consumes (R.remaining input.old) (R.remaining input.new) (head ++ take next.size area.new))) }
+// The length of the next image, which comes before it in 4 bytes; None where the input ends, and where it is above a limit. After an error the input has
+// lost at most 4 bytes, all from its front.
+pub fn next_size<R: Read>(input: &mut R, limit: usize) -> io::Result<Option<usize>>
+    ensures inside { IfOk result (λ next. IfSome next (λ size. size ≤ limit)) }
+    ensures bytes { IfOk result (λ next. IfSome next (λ size. (head : List ℕ) × (length head ≡ 4) × (be_of head ≡ size)
+        × Consumes (R.remaining input.old) (R.remaining input.new) head)) }
+    ensures cut { OnErr result ((bs : List ℕ) × (length bs ≤ 4) × Consumes (R.remaining input.old) (R.remaining input.new) bs) }
+{
+    let mut head = [0u8; 4];
+    if read_full(input, &mut head)? < 4 {
+        return Ok(None);
+    }
+    let size = number::be::<4>(&head, 0) as usize;
+    if limit < size {
+        return Ok(None);
+    }
+    Ok(Some(size))
+}
+
+// Reads the next image of an input, which comes after its length in 4 bytes, into the front of an area; None where there is none. After an error the input
+// has lost bytes from its front alone, at most 4 more than the area holds.
+pub fn next_image<R: Read>(input: &mut R, area: &mut [u8]) -> io::Result<Option<usize>>
+    ensures inside { IfOk result (λ next. IfSome next (λ size. size ≤ length area.new)) }
+    ensures bytes { IfOk result (λ next. IfSome next (λ size. (head : List ℕ) × (length head ≡ 4) × (be_of head ≡ size)
+        × Consumes (R.remaining input.old) (R.remaining input.new) (head ++ take size area.new))) }
     ensures cut { OnErr result ((bs : List ℕ) × (length bs ≤ 4 + length area.new)
         × Consumes (R.remaining input.old) (R.remaining input.new) bs) }
 {
-    let mut head = [0u8; 4];
-    let none = Next {
-        found: false,
-        size: 0,
+    let Some(size) = next_size(input, area.len())? else {
+        return Ok(None);
     };
-    if read_full(input, &mut head)? < 4 {
-        return Ok(none);
+    if read_full(input, &mut area[..size])? < size {
+        return Ok(None);
     }
-    let size = number::be32(&head, 0) as usize;
-    if area.len() < size {
-        return Ok(none);
-    }
-    let found = read_full(input, &mut area[..size])? == size;
-    Ok(Next { found, size })
+    Ok(Some(size))
 }

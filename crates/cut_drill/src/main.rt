@@ -3,21 +3,15 @@
 // python3 -c "[print(k, 'refused 3 0') for k in range(215)]; print('215 opened')"
 #![tactic(auto)]
 
-use aff_format::Verdict;
 use std::io;
 use std::io::Write;
 
 fn line(out: &mut impl Write, allowance: usize) -> io::Result<()> {
     let mut buffer = [0u8; 214];
-    console::decimal(out, allowance as u64)?;
     match aff_drill::drill(&mut buffer, allowance) {
-        Verdict::Refused(refusal) => {
-            console::text(out, b" ")?;
-            console::refusal(out, refusal)?;
-        }
-        Verdict::Accepted => console::text(out, b" opened")?,
+        Ok(()) => writeln!(out, "{allowance} opened"),
+        Err(refusal) => writeln!(out, "{allowance} {refusal}"),
     }
-    console::text(out, b"\n")
 }
 
 fn main(rt: HostRuntime) -> io::Result<()> {

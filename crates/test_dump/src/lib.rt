@@ -1,115 +1,77 @@
 // An image opened and read back to a writer, for tests: every node's answers, and those of the number after the last.
 #![tactic(auto)]
 
-pub mod show; // numbers, bytes and answers
+pub mod show; // bytes and answers
 
-use aff_format::{NumberAnswer, Verdict};
-use aff_nodes::KindAnswer;
-use aff_reader::Reader;
+use aff_format::{Kind, Refusal};
+use aff_nodes::node;
+use aff_read::paths;
+use aff_reader::Opened;
 use std::io;
 use std::io::Write;
 
 // The elements of a node, and the index after them: 16.
-fn elements(
+fn print_elements(
     out: &mut impl Write,
-    image: &[u8],
-    reader: Reader,
-    strings: &[u32],
-    entries: &[u32],
+    opened: &Opened<'_>,
     node: usize,
     count: usize,
 ) -> io::Result<()> {
-    console::text(out, b"  elements")?;
+    write!(out, "  elements")?;
     for k in 0..count {
-        console::element(
-            out,
-            aff_nodes::node::element(image, reader, strings, entries, node, k),
-        )?;
+        console::element(out, node::element(opened, node, k))?;
     }
-    console::element(
-        out,
-        aff_nodes::node::element(image, reader, strings, entries, node, count),
-    )?;
-    console::text(out, b"\n")
+    console::element(out, node::element(opened, node, count))?;
+    writeln!(out)
 }
 
-fn path(
-    out: &mut impl Write,
-    image: &[u8],
-    reader: Reader,
-    strings: &[u32],
-    entries: &[u32],
-    node: usize,
-) -> io::Result<()> {
+fn print_path(out: &mut impl Write, opened: &Opened<'_>, node: usize) -> io::Result<()> {
     let mut bytes = [0u8; 1024];
-    match aff_read::paths::path(image, reader, strings, entries, node, &mut bytes) {
-        NumberAnswer::Value(n) => console::front(out, &bytes, n),
-        NumberAnswer::Refused(refusal) => console::refusal(out, refusal),
+    match paths::path(opened, node, &mut bytes) {
+        Ok(n) => console::front(out, &bytes, n),
+        Err(refusal) => write!(out, "{refusal}"),
     }
 }
 
-fn kind(out: &mut impl Write, answer: KindAnswer) -> io::Result<()> {
+fn print_kind(out: &mut impl Write, answer: Result<Kind, Refusal>) -> io::Result<()> {
     match answer {
-        KindAnswer::Value(kind) => console::decimal(out, kind.code() as u64),
-        KindAnswer::Refused(refusal) => console::refusal(out, refusal),
+        Ok(kind) => write!(out, "{}", kind.code()),
+        Err(refusal) => write!(out, "{refusal}"),
     }
 }
 
 // Number, path, name, type, count, bytes and elements of a node.
-fn node(
-    out: &mut impl Write,
-    image: &[u8],
-    reader: Reader,
-    strings: &[u32],
-    entries: &[u32],
-    k: usize,
-) -> io::Result<()> {
-    console::decimal(out, k as u64)?;
-    console::text(out, b" path ")?;
-    path(out, image, reader, strings, entries, k)?;
-    console::text(out, b" name ")?;
-    console::text(
-        out,
-        aff_nodes::node::name(image, reader, strings, entries, k),
-    )?;
-    console::text(out, b" type ")?;
-    kind(
-        out,
-        aff_nodes::node::kind(image, reader, strings, entries, k),
-    )?;
-    console::text(out, b" count ")?;
-    let count = aff_nodes::node::count(image, reader, strings, entries, k);
+fn print_node(out: &mut impl Write, opened: &Opened<'_>, node: usize) -> io::Result<()> {
+    write!(out, "{node} path ")?;
+    print_path(out, opened, node)?;
+    write!(out, " name ")?;
+    console::text(out, node::name(opened, node))?;
+    write!(out, " type ")?;
+    print_kind(out, node::kind(opened, node))?;
+    write!(out, " count ")?;
+    let count = node::count(opened, node);
     show::answer(out, count)?;
-    console::text(out, b" bytes ")?;
-    show::hex(
-        out,
-        aff_nodes::node::view(image, reader, strings, entries, k),
-    )?;
-    console::text(out, b"\n")?;
-    if let NumberAnswer::Value(n) = count {
-        elements(out, image, reader, strings, entries, k, n)?;
+    write!(out, " bytes ")?;
+    show::hex(out, node::view(opened, node))?;
+    writeln!(out)?;
+    if let Ok(n) = count {
+        print_elements(out, opened, node, n)?;
     }
     Ok(())
 }
 
-fn nodes(
-    out: &mut impl Write,
-    image: &[u8],
-    reader: Reader,
-    strings: &[u32],
-    entries: &[u32],
-) -> io::Result<()> {
-    console::text(out, b"opened")?;
-    show::next(out, reader.edition as u64)?;
-    show::next(out, reader.strings as u64)?;
-    show::next(out, reader.nodes as u64)?;
-    show::next(out, reader.records)?;
-    console::text(out, b"\n")?;
-    let end = show::lesser(reader.nodes, 2048) + 1;
-    for k in 0..end {
-        node(out, image, reader, strings, entries, k)?;
+fn print_nodes(out: &mut impl Write, opened: &Opened<'_>) -> io::Result<()> {
+    let reader = opened.reader;
+    writeln!(
+        out,
+        "opened {} {} {} {}",
+        reader.edition, reader.strings, reader.nodes, reader.records
+    )?;
+    let last = reader.nodes.min(2048);
+    for node in 0..=last {
+        print_node(out, opened, node)?;
     }
-    node(out, image, reader, strings, entries, end)
+    print_node(out, opened, last + 1)
 }
 
 // Edition, strings, nodes and data record count of an image that opens, and every node; or the refusal.
@@ -117,13 +79,16 @@ pub fn print(out: &mut impl Write, image: &[u8]) -> io::Result<()> {
     let mut strings = [0u32; 2048];
     let mut entries = [0u32; 2048];
     let form = aff_open::form_for(image);
-    let opening = aff_open::open(image, &form, &mut strings, &mut entries);
-    let verdict = opening.verdict;
-    match verdict {
-        Verdict::Accepted => nodes(out, image, opening.reader, &strings, &entries),
-        Verdict::Refused(refusal) => {
-            console::refusal(out, refusal)?;
-            console::text(out, b"\n")
+    match aff_open::open(image, &form, &mut strings, &mut entries) {
+        Ok(reader) => {
+            let opened = Opened {
+                image,
+                reader,
+                strings: &strings,
+                entries: &entries,
+            };
+            print_nodes(out, &opened)
         }
+        Err(refusal) => writeln!(out, "{refusal}"),
     }
 }

@@ -3,68 +3,35 @@
 // answers; it shares no code with the library.
 #![tactic(auto)]
 
-use aff_format::{NumberAnswer, Verdict};
 use aff_listing::{Choice, listing};
-use aff_reader::Reader;
+use aff_reader::Opened;
 use std::io;
 use std::io::{Read, Write};
 
-// The answer of the listing call for an output of so many places.
-fn answer(
+// The answer of the listing call for an output of some places.
+fn print_answer(
     out: &mut impl Write,
-    image: &[u8],
-    reader: Reader,
-    strings: &[u32],
-    entries: &[u32],
+    opened: &Opened<'_>,
     choice: Choice,
-    places: usize,
     order: &mut [u32],
 ) -> io::Result<()> {
-    if order.len() < places {
-        return Ok(());
+    write!(out, "{} places: ", order.len())?;
+    match listing::listing(opened, choice, order) {
+        Ok(n) => writeln!(out, "{n}"),
+        Err(refusal) => writeln!(out, "{refusal}"),
     }
-    console::decimal(out, places as u64)?;
-    console::text(out, b" places: ")?;
-    match listing::listing(
-        image,
-        reader,
-        strings,
-        entries,
-        choice,
-        &mut order[..places],
-    ) {
-        NumberAnswer::Value(n) => console::decimal(out, n as u64)?,
-        NumberAnswer::Refused(refusal) => console::refusal(out, refusal)?,
-    }
-    console::text(out, b"\n")
 }
 
 // Both answers: as many places as nodes listed, and one fewer.
-fn answers(
-    out: &mut impl Write,
-    image: &[u8],
-    reader: Reader,
-    strings: &[u32],
-    entries: &[u32],
-    choice: Choice,
-) -> io::Result<()> {
+fn print_answers(out: &mut impl Write, opened: &Opened<'_>, choice: Choice) -> io::Result<()> {
     let mut order = [0u32; 2049];
-    let n = match listing::listing(image, reader, strings, entries, choice, &mut order) {
-        NumberAnswer::Value(n) => n,
-        NumberAnswer::Refused(_) => 0,
-    };
-    answer(out, image, reader, strings, entries, choice, n, &mut order)?;
+    let n = listing::listing(opened, choice, &mut order).unwrap_or(0);
+    if order.len() < n {
+        return Ok(());
+    }
+    print_answer(out, opened, choice, &mut order[..n])?;
     if 0 < n {
-        answer(
-            out,
-            image,
-            reader,
-            strings,
-            entries,
-            choice,
-            n - 1,
-            &mut order,
-        )?;
+        print_answer(out, opened, choice, &mut order[..n - 1])?;
     }
     Ok(())
 }
@@ -77,21 +44,23 @@ fn open_and_print(out: &mut impl Write, image: &[u8], choice: Choice) -> io::Res
     let mut strings = [0u32; 2048];
     let mut entries = [0u32; 2048];
     let form = aff_open::form_for(image);
-    let opening = aff_open::open(image, &form, &mut strings, &mut entries);
-    let verdict = opening.verdict;
-    match verdict {
-        Verdict::Accepted => answers(out, image, opening.reader, &strings, &entries, choice),
-        Verdict::Refused(_) => Ok(()),
+    if let Ok(reader) = aff_open::open(image, &form, &mut strings, &mut entries) {
+        let opened = Opened {
+            image,
+            reader,
+            strings: &strings,
+            entries: &entries,
+        };
+        print_answers(out, &opened, choice)?;
     }
+    Ok(())
 }
 
 fn both(out: &mut impl Write, k: usize, image: &[u8]) -> io::Result<()> {
-    console::decimal(out, k as u64)?;
-    console::text(out, b" list\n")?;
+    writeln!(out, "{k} list")?;
     test_list_brief::print(out, image, Choice::NotVoid)?;
     open_and_print(out, image, Choice::NotVoid)?;
-    console::decimal(out, k as u64)?;
-    console::text(out, b" listall\n")?;
+    writeln!(out, "{k} listall")?;
     test_list_brief::print(out, image, Choice::AllNodes)?;
     open_and_print(out, image, Choice::AllNodes)
 }
@@ -99,11 +68,9 @@ fn both(out: &mut impl Write, k: usize, image: &[u8]) -> io::Result<()> {
 // Image k; false where there is none.
 fn one(input: &mut impl Read, out: &mut impl Write, k: usize) -> io::Result<bool> {
     let mut image = [0u8; 65537];
-    let next = console::next_image(input, &mut image)?;
-    if !next.found {
+    let Some(size) = console::next_image(input, &mut image)? else {
         return Ok(false);
-    }
-    let size = next.size;
+    };
     both(out, k, &image[..size])?;
     Ok(true)
 }

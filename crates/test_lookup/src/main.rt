@@ -3,55 +3,36 @@
 // and place. tests/make_lookups.py makes images, paths and answers; it shares no code with the library.
 #![tactic(auto)]
 
-use aff_format::{NumberAnswer, Verdict};
+use aff_format::Refusal;
 use aff_read::paths;
-use aff_reader::Reader;
+use aff_reader::Opened;
 use std::io;
 use std::io::{Read, Write};
 
-fn show(out: &mut impl Write, answer: NumberAnswer) -> io::Result<()> {
+fn show(out: &mut impl Write, answer: Result<usize, Refusal>) -> io::Result<()> {
     match answer {
-        NumberAnswer::Value(node) => {
-            console::text(out, b"node ")?;
-            console::decimal(out, node as u64)?;
-        }
-        NumberAnswer::Refused(refusal) => console::refusal(out, refusal)?,
+        Ok(node) => writeln!(out, "node {node}"),
+        Err(refusal) => writeln!(out, "{refusal}"),
     }
-    console::text(out, b"\n")
 }
 
-// The next path, looked up; false where there is none.
-fn next_path(
-    input: &mut impl Read,
-    out: &mut impl Write,
-    image: &[u8],
-    reader: Reader,
-    strings: &[u32],
-    entries: &[u32],
-) -> io::Result<bool> {
+// The next path, looked up; false where there is none. A path that the input cuts off is looked up with zeros after it.
+fn next_path(input: &mut impl Read, out: &mut impl Write, opened: &Opened<'_>) -> io::Result<bool> {
     let mut part = [0u8; 65537];
-    let next = console::next_image(input, &mut part)?;
-    let size = next.size;
+    let Some(size) = console::next_size(input, part.len())? else {
+        return Ok(false);
+    };
     if size == 0 {
         return Ok(false);
     }
-    show(
-        out,
-        paths::lookup(image, reader, strings, entries, &part[1..size]),
-    )?;
+    console::read_full(input, &mut part[..size])?;
+    show(out, paths::lookup(opened, &part[1..size]))?;
     Ok(true)
 }
 
-fn lookups(
-    input: &mut impl Read,
-    out: &mut impl Write,
-    image: &[u8],
-    reader: Reader,
-    strings: &[u32],
-    entries: &[u32],
-) -> io::Result<()> {
+fn lookups(input: &mut impl Read, out: &mut impl Write, opened: &Opened<'_>) -> io::Result<()> {
     for _ in 0..2000 {
-        if !next_path(input, out, image, reader, strings, entries)? {
+        if !next_path(input, out, opened)? {
             break;
         }
     }
@@ -62,28 +43,27 @@ fn open_and_look(input: &mut impl Read, out: &mut impl Write, image: &[u8]) -> i
     let mut strings = [0u32; 2048];
     let mut entries = [0u32; 2048];
     let form = aff_open::form_for(image);
-    let opening = aff_open::open(image, &form, &mut strings, &mut entries);
-    let verdict = opening.verdict;
-    match verdict {
-        Verdict::Accepted => {
-            console::text(out, b"opened\n")?;
-            lookups(input, out, image, opening.reader, &strings, &entries)
+    match aff_open::open(image, &form, &mut strings, &mut entries) {
+        Ok(reader) => {
+            writeln!(out, "opened")?;
+            let opened = Opened {
+                image,
+                reader,
+                strings: &strings,
+                entries: &entries,
+            };
+            lookups(input, out, &opened)
         }
-        Verdict::Refused(refusal) => {
-            console::refusal(out, refusal)?;
-            console::text(out, b"\n")
-        }
+        Err(refusal) => writeln!(out, "{refusal}"),
     }
 }
 
 // The next image; false where there is none.
 fn next(input: &mut impl Read, out: &mut impl Write) -> io::Result<bool> {
     let mut image = [0u8; 1024];
-    let next = console::next_image(input, &mut image)?;
-    if !next.found {
+    let Some(size) = console::next_image(input, &mut image)? else {
         return Ok(false);
-    }
-    let size = next.size;
+    };
     open_and_look(input, out, &image[..size])?;
     Ok(true)
 }

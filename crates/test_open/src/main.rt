@@ -5,35 +5,28 @@
 
 ghost use Rattle.std.specs.Prelude.{◌≤◌};
 
-use aff_format::Verdict;
-use aff_open::Opening;
+use aff_format::Refusal;
+use aff_reader::Reader;
 use std::io;
 use std::io::{Read, Write};
 
 // The sum of an area.
 fn total(area: &[u32]) -> u64 {
     let mut sum: u64 = 0;
-    for x in area {
-        sum = sum.wrapping_add(u64::from(*x));
+    for &x in area {
+        sum = sum.wrapping_add(u64::from(x));
     }
     sum
 }
 
-fn show(out: &mut impl Write, opening: Opening) -> io::Result<()> {
-    let verdict = opening.verdict;
-    match verdict {
-        Verdict::Accepted => {
-            let reader = opening.reader;
-            console::text(out, b"opened ")?;
-            console::decimal(out, reader.edition as u64)?;
-            console::text(out, b" ")?;
-            console::decimal(out, reader.strings as u64)?;
-            console::text(out, b" ")?;
-            console::decimal(out, reader.nodes as u64)?;
-            console::text(out, b" ")?;
-            console::decimal(out, reader.records)
-        }
-        Verdict::Refused(refusal) => console::refusal_in_full(out, refusal),
+fn show(out: &mut impl Write, opened: Result<Reader, Refusal>) -> io::Result<()> {
+    match opened {
+        Ok(reader) => write!(
+            out,
+            "opened {} {} {} {}",
+            reader.edition, reader.strings, reader.nodes, reader.records
+        ),
+        Err(refusal) => console::refusal_in_full(out, refusal),
     }
 }
 
@@ -42,25 +35,18 @@ fn one(out: &mut impl Write, k: usize, image: &[u8]) -> io::Result<()> {
     let mut strings = [7u32; 2048];
     let mut entries = [9u32; 2048];
     let form = aff_open::form_for(image);
-    let opening = aff_open::open(image, &form, &mut strings, &mut entries);
-    console::decimal(out, k as u64)?;
-    console::text(out, b" ")?;
-    show(out, opening)?;
-    console::text(out, b" areas ")?;
-    console::decimal(out, total(&strings))?;
-    console::text(out, b" ")?;
-    console::decimal(out, total(&entries))?;
-    console::text(out, b"\n")
+    let opened = aff_open::open(image, &form, &mut strings, &mut entries);
+    write!(out, "{k} ")?;
+    show(out, opened)?;
+    writeln!(out, " areas {} {}", total(&strings), total(&entries))
 }
 
 // The next image of the input, number k; false where there is none.
 fn next(input: &mut impl Read, out: &mut impl Write, k: usize) -> io::Result<bool> {
     let mut image = [0u8; 65537];
-    let next = console::next_image(input, &mut image)?;
-    if !next.found {
+    let Some(size) = console::next_image(input, &mut image)? else {
         return Ok(false);
-    }
-    let size = next.size;
+    };
     one(out, k, &image[..size])?;
     Ok(true)
 }
@@ -83,13 +69,13 @@ fn pass_areas(
 ) -> io::Result<()> {
     let first = total(strings);
     let second = total(entries);
-    let opening = aff_open::open(b"", form, strings, entries);
-    console::text(out, b"passed ")?;
-    show(out, opening)?;
+    let opened = aff_open::open(b"", form, strings, entries);
+    write!(out, "passed ")?;
+    show(out, opened)?;
     if total(strings) == first && total(entries) == second {
-        console::text(out, b" unchanged")?;
+        write!(out, " unchanged")?;
     }
-    console::text(out, b"\n")
+    writeln!(out)
 }
 
 // Areas and a form of some lengths.

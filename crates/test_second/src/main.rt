@@ -3,91 +3,43 @@
 // code with the library.
 #![tactic(auto)]
 
-use aff::{Choice, NumberAnswer, Reader, Verdict};
-use aff_format::recorded;
+use aff::{Choice, Opened};
 use aff_list::line;
 use std::io;
 use std::io::{Read, Write};
 
 // The elements of a node, at most eight.
-fn elements(
-    out: &mut impl Write,
-    image: &[u8],
-    reader: Reader,
-    strings: &[u32],
-    entries: &[u32],
-    node: usize,
-) -> io::Result<()> {
-    let count = match aff::count(image, reader, strings, entries, node) {
-        NumberAnswer::Value(n) => n,
-        NumberAnswer::Refused(_) => 0,
-    };
-    for k in 0..8 {
-        if count <= k {
-            break;
-        }
-        console::element(out, aff::element(image, reader, strings, entries, node, k))?;
+fn print_elements(out: &mut impl Write, opened: &Opened<'_>, node: usize) -> io::Result<()> {
+    let count = aff::count(opened, node).unwrap_or(0);
+    for k in 0..count.min(8) {
+        console::element(out, aff::element(opened, node, k))?;
     }
     Ok(())
 }
 
-// What a lookup answers.
-fn looked_up(out: &mut impl Write, answer: NumberAnswer) -> io::Result<()> {
-    match answer {
-        NumberAnswer::Value(node) => console::decimal(out, node as u64),
-        NumberAnswer::Refused(refusal) => console::refusal(out, refusal),
-    }
-}
-
 // A node: its line, its first elements, and what a lookup answers that takes the line and a zero for a path: 14, with the place of the blank after the path,
 // in edition 3 that of the zero.
-fn node(
-    out: &mut impl Write,
-    image: &[u8],
-    reader: Reader,
-    strings: &[u32],
-    entries: &[u32],
-    k: usize,
-) -> io::Result<()> {
+fn print_node(out: &mut impl Write, opened: &Opened<'_>, node: usize) -> io::Result<()> {
     let mut line = [0u8; 262164];
-    match line::line(image, reader, strings, entries, k, &mut line) {
-        NumberAnswer::Value(size) => console::front(out, &line, size)?,
-        NumberAnswer::Refused(refusal) => console::refusal(out, refusal)?,
+    match line::line(opened, node, &mut line) {
+        Ok(size) => console::front(out, &line, size)?,
+        Err(refusal) => write!(out, "{refusal}")?,
     }
-    elements(out, image, reader, strings, entries, k)?;
-    console::text(out, b" ")?;
-    looked_up(out, aff::lookup(image, reader, strings, entries, &line))?;
-    console::text(out, b"\n")
+    print_elements(out, opened, node)?;
+    match aff::lookup(opened, &line) {
+        Ok(found) => writeln!(out, " {found}"),
+        Err(refusal) => writeln!(out, " {refusal}"),
+    }
 }
 
-fn nodes(
-    out: &mut impl Write,
-    image: &[u8],
-    reader: Reader,
-    strings: &[u32],
-    entries: &[u32],
-) -> io::Result<()> {
+fn print_nodes(out: &mut impl Write, opened: &Opened<'_>) -> io::Result<()> {
     let mut order = [0u32; 2049];
-    aff::listing(
-        image,
-        reader,
-        strings,
-        entries,
-        Choice::AllNodes,
-        &mut order,
-    );
-    for i in 0..2049 {
-        if reader.nodes < i {
+    let _ = aff::listing(opened, Choice::AllNodes, &mut order);
+    for (i, &node) in order.iter().enumerate() {
+        if opened.reader.nodes < i {
             break;
         }
-        node(
-            out,
-            image,
-            reader,
-            strings,
-            entries,
-            recorded::place(&order, i),
-        )?;
+        print_node(out, opened, node as usize)?;
     }
     Ok(())
 }
@@ -96,13 +48,19 @@ fn open_and_print(out: &mut impl Write, image: &[u8]) -> io::Result<()> {
     let mut strings = [0u32; 2048];
     let mut entries = [0u32; 2048];
     let form = aff::form_for(image);
-    let opening = aff::open(image, &form, &mut strings, &mut entries);
-    let verdict = opening.verdict;
-    match verdict {
-        Verdict::Accepted => nodes(out, image, opening.reader, &strings, &entries),
-        Verdict::Refused(refusal) => {
+    match aff::open(image, &form, &mut strings, &mut entries) {
+        Ok(reader) => {
+            let opened = Opened {
+                image,
+                reader,
+                strings: &strings,
+                entries: &entries,
+            };
+            print_nodes(out, &opened)
+        }
+        Err(refusal) => {
             console::refusal_in_full(out, refusal)?;
-            console::text(out, b"\n")
+            writeln!(out)
         }
     }
 }
@@ -110,13 +68,10 @@ fn open_and_print(out: &mut impl Write, image: &[u8]) -> io::Result<()> {
 // Image k; false where there is none.
 fn one(input: &mut impl Read, out: &mut impl Write, k: usize) -> io::Result<bool> {
     let mut image = [0u8; 262144];
-    let next = console::next_image(input, &mut image)?;
-    if !next.found {
+    let Some(size) = console::next_image(input, &mut image)? else {
         return Ok(false);
-    }
-    let size = next.size;
-    console::decimal(out, k as u64)?;
-    console::text(out, b"\n")?;
+    };
+    writeln!(out, "{k}")?;
     open_and_print(out, &image[..size])?;
     Ok(true)
 }

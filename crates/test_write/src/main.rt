@@ -10,35 +10,21 @@ use std::io;
 use std::io::{Read, Write};
 use steps::State;
 
-// A step from the input; false, with the state as it was, where there is none.
-#[derive(Clone, Copy)]
-struct Taken {
-    found: bool,
-    state: State,
-}
-
+// A step from the input; false where there is none.
 fn next_step(
     input: &mut impl Read,
     out: &mut impl Write,
-    state: State,
+    state: &mut State,
     buffer: &mut [u8],
     text: &mut [u8],
     tree: &mut [u8],
-) -> io::Result<Taken> {
+) -> io::Result<bool> {
     let mut block = [0u8; 65536];
-    let next = console::next_image(input, &mut block)?;
-    if next.found {
-        let size = next.size;
-        let after = steps::run(out, state, &block[..size], buffer, text, tree)?;
-        return Ok(Taken {
-            found: true,
-            state: after,
-        });
-    }
-    Ok(Taken {
-        found: false,
-        state,
-    })
+    let Some(size) = console::next_image(input, &mut block)? else {
+        return Ok(false);
+    };
+    steps::run(out, state, &block[..size], buffer, text, tree)?;
+    Ok(true)
 }
 
 // The steps of the input, one after another.
@@ -56,11 +42,9 @@ fn script(
         tree: 0,
     };
     for _ in 0..100000 {
-        let next = next_step(input, out, state, buffer, text, tree)?;
-        if !next.found {
+        if !next_step(input, out, &mut state, buffer, text, tree)? {
             break;
         }
-        state = next.state;
     }
     Ok(())
 }

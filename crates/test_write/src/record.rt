@@ -8,26 +8,20 @@ use test_dump::show;
 // A space and the MD5 sum of the bytes.
 pub fn sum(out: &mut impl Write, bytes: &[u8]) -> io::Result<()> {
     let sum = aff_md5::md5(bytes);
-    let high = number::be64(&sum, 0);
-    let low = number::be64(&sum, 8);
+    let high = number::be::<8>(&sum, 0);
+    let low = number::be::<8>(&sum, 8);
     write!(out, " {high:016x}{low:016x}")
 }
 
 // The record: length, edition, strings, bytes of text, nodes, end of data, whether it is open; and its form.
-pub fn print(out: &mut impl Write, writer: Writer) -> io::Result<()> {
-    console::text(out, b", record")?;
-    show::next(out, writer.length as u64)?;
-    show::next(out, writer.edition as u64)?;
-    show::next(out, writer.strings as u64)?;
-    show::next(out, writer.text as u64)?;
-    show::next(out, writer.nodes as u64)?;
-    show::next(out, writer.end as u64)?;
-    if writer.live {
-        console::text(out, b" open ")?;
-    } else {
-        console::text(out, b" shut ")?;
-    }
-    let form = writer.form;
-    show::hex(out, &form)?;
-    console::text(out, b"\n")
+pub fn print(out: &mut impl Write, writer: &Writer) -> io::Result<()> {
+    write!(
+        out,
+        ", record {} {} {} {} {} {}",
+        writer.length, writer.edition, writer.strings, writer.text, writer.nodes, writer.end
+    )?;
+    let live = if writer.live { "open" } else { "shut" };
+    write!(out, " {live} ")?;
+    show::hex(out, &writer.form)?;
+    writeln!(out)
 }

@@ -6,15 +6,15 @@
 ghost use Rattle.std.specs.Prelude.{◌≤◌, length};
 
 use crate::record;
-use aff_format::number;
+use aff_format::{Refusal, number};
 use aff_listing::Choice;
-use aff_write::{Writer, Writing};
+use aff_write::Writer;
 use std::io;
 use std::io::Write;
 use test_dump::show;
 
 // The record that the next call gets, and how much of buffer and areas is passed to it.
-#[derive(Clone, Copy)]
+#[derive(Clone, Copy, Debug, PartialEq, Eq)]
 pub struct State {
     pub writer: Writer,
     pub buffer: usize,
@@ -22,215 +22,228 @@ pub struct State {
     pub tree: usize,
 }
 
-// What a step says besides its bytes.
+// What a step does, by its letter.
+#[derive(Clone, Copy, Debug, PartialEq, Eq)]
+enum Command {
+    Begin,
+    Make,
+    Put,
+    Close,
+    Lengths,
+    Alter,
+    Fill,
+    PokeBuffer,
+    PokeText,
+    PokeTree,
+    Say,
+    Sums,
+    Hex,
+    List,
+    Dump,
+}
+
+// A letter that no command has.
+#[derive(Clone, Copy, Debug, PartialEq, Eq)]
+struct UnknownLetter(u8);
+
+impl TryFrom<u8> for Command {
+    type Error = UnknownLetter;
+
+    fn try_from(letter: u8) -> Result<Command, UnknownLetter> {
+        match letter {
+            b'b' => Ok(Command::Begin),
+            b'm' => Ok(Command::Make),
+            b'p' => Ok(Command::Put),
+            b'c' => Ok(Command::Close),
+            b'=' => Ok(Command::Lengths),
+            b'a' => Ok(Command::Alter),
+            b'f' => Ok(Command::Fill),
+            b'R' => Ok(Command::PokeBuffer),
+            b'S' => Ok(Command::PokeText),
+            b'T' => Ok(Command::PokeTree),
+            b'#' => Ok(Command::Say),
+            b's' => Ok(Command::Sums),
+            b'x' => Ok(Command::Hex),
+            b'l' => Ok(Command::List),
+            b'o' => Ok(Command::Dump),
+            _ => Err(UnknownLetter(letter)),
+        }
+    }
+}
+
+// What a step says: its three numbers and its bytes.
 #[derive(Clone, Copy)]
-struct Step {
-    letter: u8,
+struct Step<'a> {
     first: u64,
     second: u64,
     third: u64,
+    bytes: &'a [u8],
 }
 
-fn step_of(block: &[u8]) -> Step
+fn step_of(block: &[u8]) -> Step<'_>
     requires { 25 ≤ length block.now }
 {
     Step {
-        letter: block[0],
-        first: number::be64(block, 1),
-        second: number::be64(block, 9),
-        third: number::be64(block, 17),
+        first: number::be::<8>(block, 1),
+        second: number::be::<8>(block, 9),
+        third: number::be::<8>(block, 17),
+        bytes: &block[25..],
     }
 }
 
-fn with_writer(state: State, writer: Writer) -> State {
-    State {
-        writer,
-        buffer: state.buffer,
-        text: state.text,
-        tree: state.tree,
-    }
-}
-
-// The state after a call, whose name, answer and record are printed.
-fn report(out: &mut impl Write, state: State, letter: u8, done: Writing) -> io::Result<State> {
-    match letter {
-        b'b' => console::text(out, b"begin ")?,
-        b'm' => console::text(out, b"make ")?,
-        b'p' => console::text(out, b"put ")?,
-        _ => console::text(out, b"close ")?,
-    }
-    let answer = done.answer;
-    let writer = done.writer;
+// The answer of a call, by the call's name, and the record after it.
+fn report(
+    out: &mut impl Write,
+    name: &str,
+    answer: Result<usize, Refusal>,
+    writer: &Writer,
+) -> io::Result<()> {
+    write!(out, "{name} ")?;
     show::answer(out, answer)?;
-    record::print(out, writer)?;
-    Ok(with_writer(state, writer))
-}
-
-fn chosen(field: u64, own: u64, value: u64, old: usize) -> usize {
-    if field == own {
-        return value as usize;
-    }
-    old
+    record::print(out, writer)
 }
 
 // The edition of a number; 0, which is no edition, where it has more than 32 bits.
 fn edition_of(value: u64) -> u32 {
-    if value < 4294967296 { value as u32 } else { 0 }
+    u32::try_from(value).unwrap_or(0)
 }
 
-// The record with one field altered: length 0, edition 1, strings 2, text 3, nodes 4, end 5, open 6.
-fn altered(writer: Writer, field: u64, value: u64) -> Writer {
-    let form = writer.form;
-    let mut edition = writer.edition;
-    if field == 1 {
-        edition = edition_of(value);
-    }
-    let mut live = writer.live;
-    if field == 6 {
-        live = value == 1;
-    }
-    Writer {
-        length: chosen(field, 0, value, writer.length),
-        edition,
-        form,
-        strings: chosen(field, 2, value, writer.strings),
-        text: chosen(field, 3, value, writer.text),
-        nodes: chosen(field, 4, value, writer.nodes),
-        end: chosen(field, 5, value, writer.end),
-        live,
+// Alters one field of the record: length 0, edition 1, strings 2, text 3, nodes 4, end 5, open 6.
+fn alter(writer: &mut Writer, field: u64, value: u64) {
+    match field {
+        0 => writer.length = value as usize,
+        1 => writer.edition = edition_of(value),
+        2 => writer.strings = value as usize,
+        3 => writer.text = value as usize,
+        4 => writer.nodes = value as usize,
+        5 => writer.end = value as usize,
+        6 => writer.live = value == 1,
+        _ => {}
     }
 }
 
-fn fill(area: &mut [u8], byte: u64) {
-    let low = (byte % 256) as u8;
-    for place in area.iter_mut() {
-        *place = low;
-    }
+// The last byte of a number.
+fn low(n: u64) -> u8 {
+    (n % 256) as u8
 }
 
 fn poke(area: &mut [u8], at: u64, byte: u64) {
-    let place = at as usize;
-    if place < area.len() {
-        area[place] = (byte % 256) as u8;
+    if let Some(place) = area.get_mut(at as usize) {
+        *place = low(byte);
     }
 }
 
 // The sums of what is passed.
 fn sums(out: &mut impl Write, buffer: &[u8], text: &[u8], tree: &[u8]) -> io::Result<()> {
-    console::text(out, b"sums")?;
+    write!(out, "sums")?;
     record::sum(out, buffer)?;
     record::sum(out, text)?;
     record::sum(out, tree)?;
-    console::text(out, b"\n")
-}
-
-// A call of the writer.
-fn call(
-    writer: Writer,
-    step: Step,
-    bytes: &[u8],
-    buffer: &mut [u8],
-    text: &mut [u8],
-    tree: &mut [u8],
-) -> Writing {
-    let first = step.first as usize;
-    let third = step.third as usize;
-    let letter = step.letter;
-    match letter {
-        b'b' => aff_write::begin(edition_of(step.second), buffer, bytes, text, tree, first),
-        b'm' => aff_make::make(buffer, writer, text, tree, first, bytes),
-        b'p' => aff_write::put(buffer, writer, text, tree, first, step.second, bytes, third),
-        _ => aff_write::close(buffer, writer, text, tree, first),
-    }
-}
-
-// What is printed between calls, or changed without the writer.
-fn aside(
-    out: &mut impl Write,
-    step: Step,
-    bytes: &[u8],
-    buffer: &mut [u8],
-    text: &mut [u8],
-    tree: &mut [u8],
-) -> io::Result<()> {
-    let letter = step.letter;
-    match letter {
-        b'#' => {
-            console::text(out, bytes)?;
-            console::text(out, b"\n")?;
-        }
-        b'f' => fill(buffer, step.first),
-        b'R' => poke(buffer, step.first, step.second),
-        b'S' => poke(text, step.first, step.second),
-        b'T' => poke(tree, step.first, step.second),
-        b's' => sums(out, buffer, text, tree)?,
-        b'x' => {
-            show::hex(out, buffer)?;
-            console::text(out, b"\n")?;
-        }
-        b'l' => test_list_brief::print(out, buffer, Choice::AllNodes)?,
-        b'o' => test_dump::print(out, buffer)?,
-        _ => {}
-    }
-    Ok(())
+    writeln!(out)
 }
 
 // One step, with as much passed as the state says.
 fn act(
     out: &mut impl Write,
-    state: State,
-    step: Step,
-    bytes: &[u8],
+    state: &mut State,
+    command: Command,
+    step: Step<'_>,
     buffer: &mut [u8],
     text: &mut [u8],
     tree: &mut [u8],
-) -> io::Result<State> {
-    let letter = step.letter;
-    let writer = state.writer;
-    match letter {
-        b'b' | b'm' | b'p' | b'c' => {
-            report(
-                out,
-                state,
-                letter,
-                call(writer, step, bytes, buffer, text, tree),
-            )
+) -> io::Result<()> {
+    let Step {
+        first,
+        second,
+        third,
+        bytes,
+    } = step;
+    let writer = &mut state.writer;
+    match command {
+        Command::Begin => {
+            let edition = edition_of(second);
+            let answer = aff_write::begin(
+                edition,
+                buffer,
+                bytes,
+                text,
+                tree,
+                first as usize,
+                writer,
+            );
+            report(out, "begin", answer, writer)?;
         }
-        b'a' => Ok(with_writer(state, altered(writer, step.first, step.second))),
-        b'=' => Ok(State {
-            writer,
-            buffer: step.first as usize,
-            text: step.second as usize,
-            tree: step.third as usize,
-        }),
-        _ => {
-            aside(out, step, bytes, buffer, text, tree)?;
-            Ok(state)
+        Command::Make => {
+            let answer = aff_make::make(buffer, writer, text, tree, first as usize, bytes);
+            report(out, "make", answer, writer)?;
         }
+        Command::Put => {
+            let allowance = third as usize;
+            let answer = aff_write::put(
+                buffer,
+                writer,
+                text,
+                tree,
+                first as usize,
+                second,
+                bytes,
+                allowance,
+            );
+            report(out, "put", answer, writer)?;
+        }
+        Command::Close => {
+            let answer = aff_write::close(buffer, writer, text, tree, first as usize);
+            report(out, "close", answer, writer)?;
+        }
+        Command::Lengths => {
+            state.buffer = first as usize;
+            state.text = second as usize;
+            state.tree = third as usize;
+        }
+        Command::Alter => alter(writer, first, second),
+        Command::Fill => buffer.fill(low(first)),
+        Command::PokeBuffer => poke(buffer, first, second),
+        Command::PokeText => poke(text, first, second),
+        Command::PokeTree => poke(tree, first, second),
+        Command::Say => {
+            console::text(out, bytes)?;
+            writeln!(out)?;
+        }
+        Command::Sums => sums(out, buffer, text, tree)?,
+        Command::Hex => {
+            show::hex(out, buffer)?;
+            writeln!(out)?;
+        }
+        Command::List => test_list_brief::print(out, buffer, Choice::AllNodes)?,
+        Command::Dump => test_dump::print(out, buffer)?,
     }
+    Ok(())
 }
 
-// Runs the step that a block holds. A block that is too short for one is passed over.
+// Runs the step that a block holds. A block that is too short for one is passed over, and so is one with another letter.
 pub fn run(
     out: &mut impl Write,
-    state: State,
+    state: &mut State,
     block: &[u8],
     buffer: &mut [u8],
     text: &mut [u8],
     tree: &mut [u8],
-) -> io::Result<State> {
+) -> io::Result<()> {
     if block.len() < 25 {
-        return Ok(state);
+        return Ok(());
     }
+    let Ok(command) = Command::try_from(block[0]) else {
+        return Ok(());
+    };
+    let a = state.buffer.min(buffer.len());
+    let b = state.text.min(text.len());
+    let c = state.tree.min(tree.len());
     let step = step_of(block);
-    let a = show::lesser(state.buffer, buffer.len());
-    let b = show::lesser(state.text, text.len());
-    let c = show::lesser(state.tree, tree.len());
     act(
         out,
         state,
+        command,
         step,
-        &block[25..],
         &mut buffer[..a],
         &mut text[..b],
         &mut tree[..c],

@@ -16,7 +16,3 @@ pub record ChildTables (parent : ℕ → ℕ) (nodes from : ℕ) (first next : L
 -- Each node's parent exists.
 pub record ParentsWithin (parent : ℕ → ℕ) (nodes : ℕ) : Type 0 where
   pub exists : (k : ℕ) → 0 < k → k ≤ nodes → parent k ≤ nodes
-
--- The first n numbers of a table are v.
-pub record FrontFilled (v n : ℕ) (table : List ℕ) : Type 0 where
-  pub each : (k : ℕ) → k < n → get_or table k 0 ≡ v

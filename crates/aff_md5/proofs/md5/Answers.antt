@@ -6,4 +6,4 @@ use Rattle.aff_md5.proofs.md5.Goals as goal
 
 pub returns : goal.returns
 unfolding md5
-returns c = let p = padded_whole c.args.message.now _ _ _ _ _ refl refl c.padded_size-e.ensures c.last-tail.ensures in cc
+returns c = let p = padded_whole c.args.message.now _ _ _ _ _ refl refl c.padded_size-end.ensures c.last-tail.ensures in cc

@@ -1,17 +1,13 @@
--- What the passes over the tables report, in document 01's numbers, and what they keep on the way.
-use Rattle.std.specs.Prelude.{◌≡◌, Bool, true, false, cond, not, ◌||◌, List, [], ◌∷◌, ℕ, ◌+◌, ◌≤◌, ◌<◌, eqb, ltb, leb, length, get_or}
-use Rattle.aff_format.specs.Answer.{Answer, accepted, refused, Check, refusal, refusal_at}
+-- What the passes over the tables report, and what they keep on the way.
+use Rattle.std.specs.Prelude.{◌≡◌, Bool, false, cond, not, ◌||◌, List, [], ◌∷◌, ℕ, ◌+◌, ◌≤◌, ◌<◌, ltb, leb, length, get_or, Option, Some, None, Result, Ok, Err}
+use Rattle.aff_format.specs.Answer.{Check, refusal_at}
 use Rattle.aff_format.specs.Kind.{entry_size}
 use Rattle.aff_format.specs.declared.edition.Edition.{Edition}
 use Rattle.aff_format.specs.declared.entry.Entry.{Entry}
-use Rattle.aff_format.specs.declared.entry.FoundEntry.{FoundEntry}
-use Rattle.aff_format.specs.declared.entry.FoundEntry.TheVariants.{Whole, Broken}
 use Rattle.aff_format.specs.Limits.{string_limit}
 use Rattle.aff_format.specs.Lowest.{lowest_from, check_lowest}
 use Rattle.aff_format.specs.Strings.{strings_of}
 use Rattle.aff_format.specs.Subkey.{is_subkey}
-use Rattle.aff_format.specs.declared.lowest.Lowest.{Lowest}
-use Rattle.aff_format.specs.declared.lowest.Lowest.TheVariants.{Nothing, At}
 use Rattle.aff_format.specs.Tree.{reaches_by}
 use Rattle.aff_tables.specs.passes.Climb.{copied_parent}
 use Rattle.aff_tables.specs.passes.Distinct.{sibling_taken}
@@ -19,65 +15,43 @@ use Rattle.aff_format.specs.Entry.{no_parent, no_string}
 use Rattle.aff_tables.specs.Nodes.{data_outside}
 use Rattle.aff_tables.specs.Tables.{is_empty, repeats, count_differs}
 use Rattle.aff_format.specs.Recorded.{recorded_string}
-use Rattle.aff_tables.specs.declared.symbols.SplitResult.{SplitResult}
-use Rattle.aff_tables.specs.declared.symbols.SplitResult.TheVariants as parted
-use Rattle.aff_tables.specs.declared.symbols.Symbols.{Symbols}
-use Rattle.aff_tables.specs.declared.symbols.Symbols.TheVariants as symbols
-use Rattle.aff_tables.specs.declared.tree.WalkResult.{WalkResult}
-use Rattle.aff_tables.specs.declared.tree.WalkResult.TheVariants as walked
-use Rattle.aff_tables.specs.declared.tree.TreeTable.{TreeTable}
-use Rattle.aff_tables.specs.declared.tree.TreeTable.TheVariants as tree
+use Rattle.aff_format.specs.declared.refusal.Refusal.{Refusal}
+use Rattle.aff_format.specs.declared.refusal.Refusal.TheVariants.{BadTreeTable, TooManyStrings, WrongStringCount, RepeatedString}
 
 -- An area of `limit` places for n strings.
-abbrev pub split_of : ℕ → ℕ → SplitResult
-split_of limit n = cond (leb n limit) (parted.Strings n) parted.TooMany
-
-abbrev pub answer_of_symbols : Symbols → Answer ℕ
-answer_of_symbols (symbols.Strings n) = accepted n
-answer_of_symbols symbols.TooMany = refused (refusal_at 25 string_limit)
-answer_of_symbols symbols.CountDiffers = refused (refusal 26)
-answer_of_symbols (symbols.Repeated k) = refused (refusal_at 27 k)
+abbrev pub split_of : ℕ → ℕ → Option ℕ
+split_of limit n = cond (leb n limit) (Some n) None
 
 -- The bytes of the entry that was found; 0 where there is none.
-abbrev pub size_found : FoundEntry → ℕ
-size_found (Whole e) = entry_size e.kind
-size_found Broken = 0
+abbrev pub size_found : Option Entry → ℕ
+size_found (Some e) = entry_size e.kind
+size_found None = 0
 
 -- n whole entries, and the bytes after them.
-abbrev pub walk_of : ℕ → List ℕ → WalkResult
-walk_of n rest = cond (is_empty rest) (walked.Nodes n) (walked.BrokenAt (n + 1))
+abbrev pub walk_of : ℕ → List ℕ → Result ℕ Refusal
+walk_of n rest = cond (is_empty rest) (Ok n) (Err (BadTreeTable (n + 1)))
 
-abbrev pub answer_of_tree : TreeTable → Answer ℕ
-answer_of_tree (tree.Nodes n) = accepted n
-answer_of_tree (tree.BrokenAt k) = refused (refusal_at 9 k)
-answer_of_tree tree.CountDiffers = refused (refusal 9)
-
-abbrev pub repeated_or : ℕ → Lowest → Symbols
-repeated_or n Nothing = symbols.Strings n
-repeated_or n (At k) = symbols.Repeated k
+abbrev pub repeated_or : ℕ → Option ℕ → Result ℕ Refusal
+repeated_or n None = Ok n
+repeated_or n (Some k) = Err (RepeatedString k)
 
 -- After the split of a symbol table into n strings: the count, then equal strings.
-abbrev pub counted_of : Edition → ℕ → List (List ℕ) → ℕ → Symbols
-counted_of e records strings n = cond (count_differs e records n) symbols.CountDiffers (repeated_or n (lowest_from (repeats strings) n 0))
+abbrev pub counted_of : Edition → ℕ → List (List ℕ) → ℕ → Result ℕ Refusal
+counted_of e records strings n = cond (count_differs e records n) (Err WrongStringCount) (repeated_or n (lowest_from (repeats strings) n 0))
 
 -- The first fault of the bytes of a symbol section, in the order of `symbol_checks`, or how many strings it has.
-abbrev pub symbols_of : Edition → ℕ → List ℕ → Symbols
+abbrev pub symbols_of : Edition → ℕ → List ℕ → Result ℕ Refusal
 symbols_of e records section =
-    cond (ltb string_limit (length (strings_of section))) symbols.TooMany
+    cond (ltb string_limit (length (strings_of section))) (Err TooManyStrings)
     (counted_of e records (strings_of section) (length (strings_of section)))
 
--- Whether a string is a subkey, as a number.
-abbrev pub bit : Bool → ℕ
-bit true = 1
-bit false = 0
-
 -- The first n strings are judged.
-abbrev pub Judged : Edition → List ℕ → ℕ → List ℕ → ℕ → List ℕ → Type 0
-Judged e image end places n sound = (i : ℕ) → i < n → get_or sound i 0 ≡ bit (is_subkey e (recorded_string image end places i))
+abbrev pub Judged : Edition → List ℕ → ℕ → List ℕ → ℕ → List Bool → Type 0
+Judged e image end places n sound = (i : ℕ) → i < n → get_or sound i false ≡ is_subkey e (recorded_string image end places i)
 
 -- An entry whose parent or string number does not exist, or whose string was judged no subkey.
-abbrev pub link_bad : ℕ → ℕ → List ℕ → Entry → Bool
-link_bad nodes strings sound e = no_parent nodes e || (no_string strings e || eqb (get_or sound e.string 0) 0)
+abbrev pub link_bad : ℕ → ℕ → List Bool → Entry → Bool
+link_bad nodes strings sound e = no_parent nodes e || (no_string strings e || not (get_or sound e.string false))
 
 -- Parents and string numbers of the nodes 1 to n, copied.
 pub record Copied (entry : ℕ → Entry) (n : ℕ) (parents names : List ℕ) : Type 0 where

@@ -1,11 +1,8 @@
--- The nodes left decide; the measure is their number.
-use Rattle.std.proofs.Common.{◌≡◌, ◌+◌, ◌-◌, ◌≤◌}
+-- The nodes from k on decide.
+use Rattle.std.proofs.Common.{◌≡◌, ◌+◌, ◌-◌}
 use Rattle.aff_format.specs.Lowest.{lowest_from}
 use Rattle.aff_areas.specs.passes.Marks.{is_marked}
 use Rattle.aff_areas.proofs.names.any_marked.Given as goal
 
 abbrev pub invariant-loop-k : goal.invariant-loop-k
-invariant-loop-k l = (l.k ≤ l.nodes) × (lowest_from (is_marked l.marks l.tree l.parent) (l.nodes - l.k) (l.k + 1) ≡ lowest_from (is_marked l.marks l.tree l.parent) l.nodes 1)
-
-abbrev pub decreases-loop-k : goal.decreases-loop-k
-decreases-loop-k l = l.nodes - l.k
+invariant-loop-k l = lowest_from (is_marked l.marks l.tree l.parent) (l.nodes + 1 - l.k) l.k ≡ lowest_from (is_marked l.marks l.tree l.parent) l.nodes 1

@@ -3,5 +3,5 @@ use Rattle.std.proofs.Math.ListN.{length-set}
 use Rattle.aff_format.proofs.NumberLaws.{put_next}
 use Rattle.aff_format.proofs.number.put_be.Goals as goal
 
-pub loop-left-preserved : goal.loop-left-preserved
-loop-left-preserved c = grind (arith, put_next, length-set)
+pub loop-k-preserved : goal.loop-k-preserved
+loop-k-preserved c = grind (arith, put_next, length-set)

@@ -1,68 +1,46 @@
-use Rattle.aff_list.proofs.ReadyLaws.{prepared_belongs, prepared_refused, prepared_judged}
+-- Opening decides, then the paths of the nodes listed.
+use Rattle.std.proofs.Common.{refl, ◌∙◌}
+use Rattle.aff_list.proofs.ReadyLaws.{refused_on, judged_is, order_is, lines_is, opened_ready}
 use Rattle.aff_list.proofs.blocks.begin.Goals as goal
 
-pub prepare-requires : goal.prepare-requires
-prepare-requires c =
+pub returns-in_err-reader-clause-answer : goal.returns-in_err-reader-clause-answer
+returns-in_err-reader-clause-answer c =
     let a = c.args in
-    let e = c.open-opening.ensures in
-    prepared_belongs a.image.now a.choice a.strings.now a.entries.now a.order.now c.open-opening.result c.form_for-form.ensures e.answer e.strings e.entries c.in-Accepted.is
+    let e = c.in_err-reader.ensures in
+    (refused_on _ _ c.from_residual.ensures.1).0 ∙ judged_is a.image.now a.choice a.strings.now a.entries.now a.order.now c.form_for-form.ensures e.answer e.strings e.entries
 
-pub returns-in-Refused-clause-answer : goal.returns-in-Refused-clause-answer
-returns-in-Refused-clause-answer c =
+pub returns-in_err-reader-clause-lines : goal.returns-in_err-reader-clause-lines
+returns-in_err-reader-clause-lines c =
     let a = c.args in
-    let e = c.open-opening.ensures in
-    (prepared_refused a.image.now a.choice a.strings.now a.entries.now a.order.now c.open-opening.result c.form_for-form.ensures e.answer e.strings e.entries
-    e.record _ c.in-Refused.is).0
+    let e = c.in_err-reader.ensures in
+    (refused_on _ _ c.from_residual.ensures.1).1 ∙ lines_is a.image.now a.choice a.strings.now a.entries.now a.order.now c.form_for-form.ensures e.answer e.strings e.entries _ refl
 
-pub returns-in-Refused-clause-record : goal.returns-in-Refused-clause-record
-returns-in-Refused-clause-record c =
+pub returns-in_err-reader-clause-order : goal.returns-in_err-reader-clause-order
+returns-in_err-reader-clause-order c =
     let a = c.args in
-    let e = c.open-opening.ensures in
-    (prepared_refused a.image.now a.choice a.strings.now a.entries.now a.order.now c.open-opening.result c.form_for-form.ensures e.answer e.strings e.entries
-    e.record _ c.in-Refused.is).1.0
+    let e = c.in_err-reader.ensures in
+    order_is a.image.now a.choice a.strings.now a.entries.now a.order.now c.form_for-form.ensures e.answer e.strings e.entries
 
-pub returns-in-Refused-clause-lines : goal.returns-in-Refused-clause-lines
-returns-in-Refused-clause-lines c =
+pub invariant_of-prepare : goal.invariant_of-prepare
+invariant_of-prepare c =
     let a = c.args in
-    let e = c.open-opening.ensures in
-    (prepared_refused a.image.now a.choice a.strings.now a.entries.now a.order.now c.open-opening.result c.form_for-form.ensures e.answer e.strings e.entries
-    e.record _ c.in-Refused.is).1.1.0
+    let e = c.in_ok-reader.ensures in
+    record { belongs = opened_ready a.image.now a.choice a.strings.now a.entries.now a.order.now c.form_for-form.ensures e.answer e.strings e.entries _ refl }
 
-pub returns-in-Refused-clause-order : goal.returns-in-Refused-clause-order
-returns-in-Refused-clause-order c =
+pub returns-clause-answer : goal.returns-clause-answer
+returns-clause-answer c =
     let a = c.args in
-    let e = c.open-opening.ensures in
-    (prepared_refused a.image.now a.choice a.strings.now a.entries.now a.order.now c.open-opening.result c.form_for-form.ensures e.answer e.strings e.entries
-    e.record _ c.in-Refused.is).1.1.1.1.1
+    let e = c.in_ok-reader.ensures in
+    c.prepare.ensures.answer ∙ judged_is a.image.now a.choice a.strings.now a.entries.now a.order.now c.form_for-form.ensures e.answer e.strings e.entries
 
-pub returns-in-Accepted-clause-answer : goal.returns-in-Accepted-clause-answer
-returns-in-Accepted-clause-answer c =
+pub returns-clause-lines : goal.returns-clause-lines
+returns-clause-lines c =
     let a = c.args in
-    let e = c.open-opening.ensures in
-    let p = c.prepare.ensures in
-    (prepared_judged a.image.now a.choice a.strings.now a.entries.now a.order.now c.open-opening.result c.form_for-form.ensures e.answer e.strings e.entries
-    c.in-Accepted.is c.prepare.result p.answer p.record p.lines p.order).0
+    let e = c.in_ok-reader.ensures in
+    c.prepare.ensures.lines ∙ lines_is a.image.now a.choice a.strings.now a.entries.now a.order.now c.form_for-form.ensures e.answer e.strings e.entries _ c.prepare.ensures.answer
 
-pub returns-in-Accepted-clause-record : goal.returns-in-Accepted-clause-record
-returns-in-Accepted-clause-record c =
+pub returns-clause-order : goal.returns-clause-order
+returns-clause-order c =
     let a = c.args in
-    let e = c.open-opening.ensures in
-    let p = c.prepare.ensures in
-    (prepared_judged a.image.now a.choice a.strings.now a.entries.now a.order.now c.open-opening.result c.form_for-form.ensures e.answer e.strings e.entries
-    c.in-Accepted.is c.prepare.result p.answer p.record p.lines p.order).1.0
-
-pub returns-in-Accepted-clause-lines : goal.returns-in-Accepted-clause-lines
-returns-in-Accepted-clause-lines c =
-    let a = c.args in
-    let e = c.open-opening.ensures in
-    let p = c.prepare.ensures in
-    (prepared_judged a.image.now a.choice a.strings.now a.entries.now a.order.now c.open-opening.result c.form_for-form.ensures e.answer e.strings e.entries
-    c.in-Accepted.is c.prepare.result p.answer p.record p.lines p.order).1.1.0
-
-pub returns-in-Accepted-clause-order : goal.returns-in-Accepted-clause-order
-returns-in-Accepted-clause-order c =
-    let a = c.args in
-    let e = c.open-opening.ensures in
-    let p = c.prepare.ensures in
-    (prepared_judged a.image.now a.choice a.strings.now a.entries.now a.order.now c.open-opening.result c.form_for-form.ensures e.answer e.strings e.entries
-    c.in-Accepted.is c.prepare.result p.answer p.record p.lines p.order).1.1.1.1.1
+    let e = c.in_ok-reader.ensures in
+    c.prepare.ensures.order ∙ order_is a.image.now a.choice a.strings.now a.entries.now a.order.now c.form_for-form.ensures e.answer e.strings e.entries

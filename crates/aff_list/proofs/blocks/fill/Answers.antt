@@ -1,21 +1,19 @@
-use Rattle.std.proofs.Common.{◌≡◌, ◌≤◌, length, take, length-take-le, arith}
+use Rattle.std.proofs.Common.{refl, ◌≤◌, length, arith}
+use Rattle.aff_reader.proofs.BelongsLaws.{record_belongs}
 use Rattle.aff_list.specs.Lister.{row_limit}
-use Rattle.aff_list.proofs.FillLaws.{node_at, filled_full, filling_next}
+use Rattle.aff_list.proofs.FillLaws.{filled_full, filling_next}
 use Rattle.aff_list.proofs.blocks.fill.Goals as goal
+
+pub invariant_of-belonging : goal.invariant_of-belonging
+invariant_of-belonging c = record { belongs = record_belongs c.requires.ready.belongs }
 
 pub returns-then-end-used : goal.returns-then-end-used
 returns-then-end-used c =
     let long : row_limit ≤ length c.args.block.now = omega arith in
-    let size : length (take c.args.lines c.args.order.now) ≡ c.args.lines = length-take-le c.args.lines c.args.order.now c.requires.1 in
-    let from : c.args.from ≤ length (take c.args.lines c.args.order.now) = omega (arith, c.requires.2, size) in
-    let (h, is) = node_at _ _ _ c.place-node.ensures c.loop-next-test.true c.requires.1 in
     let p = c.put_row-end.ensures in
-    filled_full c.requires.0 from c.loop-next.invariant h is p.value p.block_after long c.if-end-used.true
+    filled_full c.requires.ready c.requires.place c.loop-next.invariant (omega arith) refl p.value p.block_after long c.if-end-used.true
 
 pub loop-next-preserved : goal.loop-next-preserved
 loop-next-preserved c =
-    let size : length (take c.args.lines c.args.order.now) ≡ c.args.lines = length-take-le c.args.lines c.args.order.now c.requires.1 in
-    let from : c.args.from ≤ length (take c.args.lines c.args.order.now) = omega (arith, c.requires.2, size) in
-    let (h, is) = node_at _ _ _ c.place-node.ensures c.loop-next-test.true c.requires.1 in
     let p = c.put_row-end.ensures in
-    filling_next c.requires.0 from c.loop-next.invariant h is p.value p.block_after c.if-end-used.false
+    filling_next c.requires.ready c.requires.place c.loop-next.invariant (omega arith) refl p.value p.block_after c.if-end-used.false

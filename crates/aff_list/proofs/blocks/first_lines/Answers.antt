@@ -3,22 +3,30 @@ use Rattle.aff_list.proofs.FirstLaws.{first_refused, first_accepted}
 use Rattle.aff_list.proofs.ReadyLaws.{prepared_ready}
 use Rattle.aff_list.proofs.blocks.first_lines.Goals as goal
 
-pub fill-filled-requires : goal.fill-filled-requires
-fill-filled-requires c =
-    let b = c.begin-prepared in
-    let e = b.ensures in
-    let l = prepared_ready c.args.image.now c.args.choice c.args.strings.now c.args.entries.now c.args.order.now b.result
-    (e.answer, (e.record, (e.lines, (e.strings, (e.entries, e.order))))) c.in-Accepted.is in
-    (rw l.ordered l.ready, l.few, omega arith)
+pub returns-in-Err-clause-block : goal.returns-in-Err-clause-block
+returns-in-Err-clause-block c =
+    let e = c.begin.ensures in
+    first_refused c.args.image.now c.args.choice c.args.strings.now c.args.entries.now c.args.order.now c.requires (omega arith) (omega arith) c.begin.result
+    (e.answer, (e.lines, (e.strings, (e.entries, e.order)))) _ c.in-Err.is c.put_refusal.ensures
 
-pub returns-in-Refused-clause-block : goal.returns-in-Refused-clause-block
-returns-in-Refused-clause-block c =
-    let e = c.begin-prepared.ensures in
-    first_refused c.args.image.now c.args.choice c.args.strings.now c.args.entries.now c.args.order.now c.requires (omega arith) (omega arith) c.begin-prepared.result
-    (e.answer, (e.record, (e.lines, (e.strings, (e.entries, e.order))))) _ c.in-Refused.is c.put_refusal.ensures
+pub returns-in-Ok-clause-block : goal.returns-in-Ok-clause-block
+returns-in-Ok-clause-block c =
+    let e = c.begin.ensures in
+    first_accepted c.args.image.now c.args.choice c.args.strings.now c.args.entries.now c.args.order.now c.requires (omega arith) (omega arith) c.begin.result
+    (e.answer, (e.lines, (e.strings, (e.entries, e.order)))) _ c.in-Ok.is c.fill-filled.ensures
 
-pub returns-in-Accepted-clause-block : goal.returns-in-Accepted-clause-block
-returns-in-Accepted-clause-block c =
-    let e = c.begin-prepared.ensures in
-    first_accepted c.args.image.now c.args.choice c.args.strings.now c.args.entries.now c.args.order.now c.requires (omega arith) (omega arith) c.begin-prepared.result
-    (e.answer, (e.record, (e.lines, (e.strings, (e.entries, e.order))))) c.in-Accepted.is c.fill-filled.ensures
+pub shared_ref_as_front-fill : goal.shared_ref_as_front-fill
+shared_ref_as_front-fill c =
+    let e = c.begin.ensures in
+    omega (
+      arith,
+      (prepared_ready c.args.image.now c.args.choice c.args.strings.now c.args.entries.now c.args.order.now c.begin.result
+          (e.answer, (e.lines, (e.strings, (e.entries, e.order)))) _ c.in-Ok.is).few,
+    )
+
+pub fill-filled-requires-clause-ready : goal.fill-filled-requires-clause-ready
+fill-filled-requires-clause-ready c =
+    let e = c.begin.ensures in
+    let l = prepared_ready c.args.image.now c.args.choice c.args.strings.now c.args.entries.now c.args.order.now c.begin.result
+    (e.answer, (e.lines, (e.strings, (e.entries, e.order)))) _ c.in-Ok.is in
+    rw l.ordered l.ready

@@ -7,6 +7,9 @@ loop-next-init g c =
     let s = c.first_block-first.ensures.block in
     record { few = s.few; ready = s.ready; shown = shown_first s c.in_ok-text.ensures.all }
 
+pub fill-filled-requires-clause-ready : goal.fill-filled-requires-clause-ready
+fill-filled-requires-clause-ready g c = c.loop-next.invariant.ready c.loop-next-test.true
+
 pub loop-next-preserved : goal.loop-next-preserved
 loop-next-preserved g c =
     let i = c.loop-next.invariant in

@@ -1,11 +1,8 @@
 -- The invariant: the nodes above k are linked.
-use Rattle.std.proofs.Common.{◌≤◌, ◌+◌}
+use Rattle.std.proofs.Common.{◌+◌}
 use Rattle.aff_tables.specs.passes.Climb.{copied_parent as parent_in}
 use Rattle.aff_listing.specs.passes.Children.{ChildTables}
 use Rattle.aff_listing.proofs.children.link_all.Given as goal
 
 abbrev pub invariant-loop-k : goal.invariant-loop-k
-invariant-loop-k l = (l.k ≤ l.nodes) × ChildTables (parent_in l.parents) l.nodes (l.k + 1) l.first l.next
-
-abbrev pub decreases-loop-k : goal.decreases-loop-k
-decreases-loop-k l = l.k
+invariant-loop-k l = ChildTables (parent_in l.parents) l.nodes (l.k + 1) l.first l.next

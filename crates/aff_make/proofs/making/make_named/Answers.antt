@@ -7,15 +7,14 @@ use Rattle.aff_make.proofs.making.make_named.Goals as goal
 
 pub returns-then-any_marked-clause-answer : goal.returns-then-any_marked-clause-answer
 returns-then-any_marked-clause-answer c =
-    let marked = marks_children c.requires.0 c.args.name.now _ _ (length-replicate {A = ℕ} 2048 0) c.mark_strings.ensures c.args.parent in
-    rw (sym (c.any_marked.ensures ∙ marked) ∙ c.if-any_marked.true, c.refused.ensures)
+    let marked = marks_children c.requires.belongs c.args.name.now _ _ (length-replicate {A = ℕ} 2048 0) c.mark_strings.ensures c.args.parent in
+    rw (sym (c.any_marked.ensures ∙ marked) ∙ c.if-any_marked.true)
 
-pub make_sized-requires : goal.make_sized-requires
-make_sized-requires c =
-    let first = marks_first c.requires.0 c.args.name.now _ _ (length-replicate {A = ℕ} 2048 0) c.mark_strings.ensures in
-    (c.requires.0, c.first_mark-string.ensures ∙ first, c.requires.1)
+pub make_sized-requires-clause-numbered : goal.make_sized-requires-clause-numbered
+make_sized-requires-clause-numbered c =
+    c.first_mark.ensures ∙ marks_first c.requires.belongs c.args.name.now _ _ (length-replicate {A = ℕ} 2048 0) c.mark_strings.ensures
 
 pub returns-clause-answer : goal.returns-clause-answer
 returns-clause-answer c =
-    let marked = marks_children c.requires.0 c.args.name.now _ _ (length-replicate {A = ℕ} 2048 0) c.mark_strings.ensures c.args.parent in
+    let marked = marks_children c.requires.belongs c.args.name.now _ _ (length-replicate {A = ℕ} 2048 0) c.mark_strings.ensures c.args.parent in
     rw (sym (c.any_marked.ensures ∙ marked) ∙ c.if-any_marked.false) c.make_sized.ensures.answer

@@ -13,7 +13,7 @@ pub returns : goal.returns
 returns c =
     let a = c.args in
     let o = c.in_cleared in
-    let w = cleared_opens a.image.now a.form.now o.result a.strings.now c.clear.new.area o.new.strings
-    a.entries.now c.clear-2.new.area o.new.entries (sym c.if-lengths_wrong.ensures)
+    let w = cleared_opens a.image.now a.form.now o.result a.strings.now c.fill.new.self o.new.strings
+    a.entries.now c.fill-2.new.self o.new.entries (sym c.if-lengths_wrong.ensures)
     (omega arith) (omega arith) o.ensures.answer o.ensures.strings o.ensures.entries in
     record { answer = w.0; strings = w.1.0; entries = w.1.1 }

@@ -4,4 +4,4 @@ use Rattle.aff_read.proofs.paths.climb.Goals as goal
 
 pub loop-at-preserved : goal.loop-at-preserved
 loop-at-preserved c =
-    chaining_next c.requires.climbable c.loop-at.invariant c.loop-at-test.true _ c.recorded_entry-entry.ensures
+    chaining_next c.requires.climbable c.loop-at.invariant c.loop-at-test.true _ c.entry-entry.ensures

@@ -4,7 +4,7 @@ use Rattle.aff_read.proofs.ChainLaws.{Chaining}
 use Rattle.aff_read.proofs.paths.climb.Given as goal
 
 abbrev pub invariant-loop-at : goal.invariant-loop-at
-invariant-loop-at l = Chaining l.image l.entries l.nodes l.node l.chain l.names l.count l.at
+invariant-loop-at l = Chaining l.belonging.opened.image.now l.belonging.opened.entries.now l.belonging.opened.reader.nodes l.node l.chain l.names l.count l.at
 
 abbrev pub decreases-loop-at : goal.decreases-loop-at
-decreases-loop-at l = l.nodes - l.count
+decreases-loop-at l = l.belonging.opened.reader.nodes - l.count

@@ -1,14 +1,10 @@
 -- What is left of the name fits what is left of the path as the whole does.
-use Rattle.std.proofs.Common.{◌-◌, ◌≡◌, ◌≤◌, length, drop}
+use Rattle.std.proofs.Common.{◌≡◌, ◌≤◌, length, drop}
 use Rattle.aff_format.specs.Recorded.{name_from}
 use Rattle.aff_read.specs.passes.Fit.{fit_from}
 use Rattle.aff_read.proofs.paths.fit_from.Given as goal
 
 abbrev pub invariant-loop-k : goal.invariant-loop-k
 invariant-loop-k l =
-    (l.k ≤ l.end)
-    × (l.n ≤ length l.path)
+    (l.n ≤ length l.path)
     × (fit_from (name_from l.image l.end l.k) (drop l.n l.path) l.n ≡ fit_from (name_from l.image l.end l.from) (drop l.at l.path) l.at)
-
-abbrev pub decreases-loop-k : goal.decreases-loop-k
-decreases-loop-k l = l.end - l.k

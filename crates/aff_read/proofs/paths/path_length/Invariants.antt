@@ -1,11 +1,13 @@
 -- What is counted and the path of the node that the climb is at make up the path.
 use Rattle.std.proofs.Common.{length}
+use Rattle.aff_reader.specs.Opened.{of}
 use Rattle.aff_read.specs.Paths.{spelled_path_at}
+use Rattle.aff_read.specs.passes.Held.{holds}
 use Rattle.aff_read.proofs.StepLaws.{Measured}
 use Rattle.aff_read.proofs.paths.path_length.Given as goal
 
 abbrev pub invariant-loop-left : goal.invariant-loop-left
-invariant-loop-left l = Measured l.spelling l.image l.reader l.strings l.entries l.node l.limit l.left l.at
+invariant-loop-left l = holds l.belonging.opened (Measured l.spelling) l.node l.limit l.left l.at
 
 abbrev pub decreases-loop-left : goal.decreases-loop-left
-decreases-loop-left l = length (spelled_path_at l.spelling l.image l.reader l.strings l.entries l.at)
+decreases-loop-left l = length (of l.belonging.opened (spelled_path_at l.spelling) l.at)

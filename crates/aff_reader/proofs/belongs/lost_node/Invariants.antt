@@ -1,5 +1,5 @@
 -- The nodes left decide, and the parents of those passed are copied.
-use Rattle.std.proofs.Common.{◌-◌, ◌≡◌, ◌+◌, ◌≤◌}
+use Rattle.std.proofs.Common.{◌-◌, ◌≡◌, ◌+◌}
 use Rattle.aff_format.specs.Lowest.{lowest_from}
 use Rattle.aff_format.specs.Recorded.{recorded_entry}
 use Rattle.aff_reader.specs.Belongs.{node_lost}
@@ -8,9 +8,5 @@ use Rattle.aff_reader.proofs.belongs.lost_node.Given as goal
 
 abbrev pub invariant-loop-k : goal.invariant-loop-k
 invariant-loop-k l =
-    (l.k ≤ l.nodes)
-    × (lowest_from (node_lost l.image l.strings l.nodes l.entries) (l.nodes - l.k) (l.k + 1) ≡ lowest_from (node_lost l.image l.strings l.nodes l.entries) l.nodes 1)
-    × ParentsCopied (recorded_entry l.image l.entries) l.k l.parents
-
-abbrev pub decreases-loop-k : goal.decreases-loop-k
-decreases-loop-k l = l.nodes - l.k
+    (lowest_from (node_lost l.image l.strings l.nodes l.entries) (l.nodes + 1 - l.k) l.k ≡ lowest_from (node_lost l.image l.strings l.nodes l.entries) l.nodes 1)
+    × ParentsCopied (recorded_entry l.image l.entries) (l.k - 1) l.parents

@@ -1,5 +1,5 @@
 -- The invariant: the lowest of the nodes left is the lowest of all.
-use Rattle.std.proofs.Common.{◌≡◌, ◌+◌, ◌≤◌, ◌-◌}
+use Rattle.std.proofs.Common.{◌≡◌, ◌+◌, ◌-◌}
 use Rattle.aff_format.specs.Lowest.{lowest_from}
 use Rattle.aff_format.specs.Recorded.{recorded_entry}
 use Rattle.aff_tables.specs.Nodes.{data_outside}
@@ -7,9 +7,5 @@ use Rattle.aff_tables.proofs.data.data_outside.Given as goal
 
 abbrev pub invariant-loop-k : goal.invariant-loop-k
 invariant-loop-k l =
-    (l.k ≤ l.nodes)
-    × (lowest_from (data_outside l.from l.size (recorded_entry l.image l.entries)) (l.nodes - l.k) (l.k + 1)
-    ≡ lowest_from (data_outside l.from l.size (recorded_entry l.image l.entries)) l.nodes 1)
-
-abbrev pub decreases-loop-k : goal.decreases-loop-k
-decreases-loop-k l = l.nodes - l.k
+    let test = data_outside l.from l.size (recorded_entry l.image l.entries) in
+    lowest_from test (l.nodes + 1 - l.k) l.k ≡ lowest_from test l.nodes 1

@@ -6,4 +6,5 @@ use Rattle.aff_tables.proofs.links.linked.Goals as goal
 pub returns-clause-value : goal.returns-clause-value
 returns-clause-value c =
     let a = c.args in
-    links_judged _ (recorded_contents a.image.now a.end a.places.now a.strings a.entries.now a.nodes) _ _ c.judge.ensures c.links.ensures.value
+    let s = a.strings.now in
+    links_judged _ (recorded_contents s.image.now s.end s.places.now s.count a.entries.now a.nodes) _ _ c.judge.ensures c.links.ensures.value

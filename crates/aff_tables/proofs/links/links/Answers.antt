@@ -1,17 +1,25 @@
 -- One more node is copied.
-use Rattle.std.proofs.Common.{◌+◌, ◌<◌, length, sym, ap, ◌∙◌, arith}
-use Rattle.aff_format.proofs.LowestLaws.{lowest_on}
+use Rattle.std.proofs.Common.{◌+◌, ◌-◌, sym, refl, ap, ◌∙◌, arith}
+use Rattle.aff_format.proofs.StdLaws.{lowest_past, lowest_none}
 use Rattle.aff_tables.specs.passes.Results.{link_bad}
-use Rattle.aff_tables.proofs.LinkLaws.{copied_more}
+use Rattle.aff_tables.proofs.LinkLaws.{copied_more, copied_less}
 use Rattle.aff_tables.proofs.links.links.Goals as goal
 
 pub loop-k-preserved : goal.loop-k-preserved
 loop-k-preserved c =
     let lp = c.loop-k in
-    let good = sym (c.link_bad.ensures ∙ ap (link_bad c.args.nodes c.args.strings c.args.sound.now) c.recorded_entry-entry.ensures) ∙ c.if-link_bad.false in
-    let p : lp.k + 1 < length lp.parents = omega arith in
-    let n : lp.k + 1 < length lp.names = omega arith in (
-      omega arith,
-      copied_more _ lp.parents lp.names _ p n lp.invariant.1 _ c.recorded_entry-entry.ensures,
-      lowest_on _ _ _ 1 c.loop-k-test.true good ∙ lp.invariant.2,
+    let k = lp.k in
+    let good = sym (c.if-link_bad.ensures ∙ ap (link_bad c.args.nodes c.args.strings c.args.sound.now) c.recorded_entry-entry.ensures) in (
+      copied_less _ _ _ (k + 1 - 1) k (omega arith) (copied_more _ lp.parents lp.names k (omega arith) (omega arith) lp.invariant.0 _ c.recorded_entry-entry.ensures),
+      sym (lowest_past _ (c.args.nodes + 1 - k) (c.args.nodes + 1 - (k + 1)) k (omega arith) good) ∙ lp.invariant.1,
     )
+
+pub returns-else-link_bad : goal.returns-else-link_bad
+returns-else-link_bad c =
+    let lp = c.loop-k in
+    let k = lp.k in
+    let good = sym (c.if-link_bad.ensures ∙ ap (link_bad c.args.nodes c.args.strings c.args.sound.now) c.recorded_entry-entry.ensures) in
+    record {
+      value = sym (lowest_past _ (c.args.nodes + 1 - k) 0 k (omega arith) good ∙ lowest_none _ 0 (k + 1) refl) ∙ lp.invariant.1;
+      copied = λ _. copied_less _ _ _ c.args.nodes k (omega arith) (copied_more _ lp.parents lp.names k (omega arith) (omega arith) lp.invariant.0 _ c.recorded_entry-entry.ensures);
+    }

@@ -9,14 +9,14 @@ copied_checks-requires c =
     let a = c.args in
     let p = c.requires in (
       linked_by_copies a.edition (recorded_contents a.image.now a.end a.places.now a.strings a.entries.now a.nodes) _ _ _
-          c.linked.ensures.value c.in-Nothing.is (c.linked.ensures.copied c.in-Nothing.is) p.2 (omega arith),
+          c.linked.ensures.value c.in_default.is (c.linked.ensures.copied c.in_default.is) p.2 (omega arith),
       omega arith,
       p.3,
     )
 
-pub returns-in-Nothing : goal.returns-in-Nothing
-returns-in-Nothing c =
+pub returns : goal.returns
+returns c =
     let a = c.args in
     c.copied_checks.ensures
     ∙ checked_by_copies a.edition (recorded_contents a.image.now a.end a.places.now a.strings a.entries.now a.nodes) _ _ _
-    c.linked.ensures.value c.in-Nothing.is (c.linked.ensures.copied c.in-Nothing.is) a.from a.size tt c.requires.1
+    c.linked.ensures.value c.in_default.is (c.linked.ensures.copied c.in_default.is) a.from a.size tt c.requires.1

@@ -1,10 +1,6 @@
 -- The invariant: the walk is at an entry, `Walking`.
-use Rattle.std.proofs.Common.{◌-◌, length}
 use Rattle.aff_tables.proofs.WalkLaws.{Walking}
 use Rattle.aff_tables.proofs.tree.walk.Given as goal
 
 abbrev pub invariant-loop-n : goal.invariant-loop-n
 invariant-loop-n l = Walking l.section l.first l.fn.places l.places l.n l.at
-
-abbrev pub decreases-loop-n : goal.decreases-loop-n
-decreases-loop-n l = length l.fn.places - l.n

@@ -4,6 +4,6 @@ use Rattle.aff_format.proofs.TestLaws.{or_false}
 use Rattle.aff_write.specs.Begin.{begin_lengths_wrong}
 use Rattle.aff_write.proofs.beginning.begin.Goals as goal
 
-pub fresh-record-requires : goal.fresh-record-requires
+pub fresh-fresh-requires : goal.fresh-fresh-requires
 unfolding begin_lengths_wrong
-fresh-record-requires c = eqb-true _ 12 (not-false _ (or_false _ _ (sym c.lengths_wrong.ensures ∙ c.if-lengths_wrong.false)).0)
+fresh-fresh-requires c = eqb-true _ 12 (not-false _ (or_false _ _ (sym c.lengths_wrong.ensures ∙ c.if-lengths_wrong.false)).0)

@@ -21,24 +21,24 @@ slice_bounds-store_closed-end c =
 pub store_closed-made-requires : goal.store_closed-made-requires
 store_closed-made-requires c =
     let e = c.entries_out-size in
-    (c.requires, front_taken _ _ _ _ e.ensures.size e.ensures.area)
+    record { belongs = c.requires; entries = front_taken _ _ _ _ e.ensures.size e.ensures.area }
 
-pub overflow_add-writer : goal.overflow_add-writer
-overflow_add-writer c =
+pub overflow_add-needed : goal.overflow_add-needed
+overflow_add-needed c =
     let b = c.requires in
     omega (arith, entries_most _ _ b.few_nodes b.tree_area_is, b.text_inside, c.entries_out-size.ensures.size)
 
-pub overflow_add-writer-2 : goal.overflow_add-writer-2
-overflow_add-writer-2 c =
+pub overflow_add-needed-2 : goal.overflow_add-needed-2
+overflow_add-needed-2 c =
     let b = c.requires in
-    omega (arith, entries_most _ _ b.few_nodes b.tree_area_is, b.text_inside, c.entries_out-size.ensures.size, c.data_place-header.ensures)
+    omega (arith, entries_most _ _ b.few_nodes b.tree_area_is, b.text_inside, c.entries_out-size.ensures.size, c.data_place.ensures)
 
-pub returns-then-made-writer-clause-answer : goal.returns-then-made-writer-clause-answer
-returns-then-made-writer-clause-answer c =
-    let w = c.args.writer in
+pub returns-then-made-needed-clause-answer : goal.returns-then-made-needed-clause-answer
+returns-then-made-needed-clause-answer c =
+    let w = c.args.writer.now in
     let s = c.store_closed-made in
     let o = c.entries_out-size in
     let stores = close_stores c.args.buffer.now w c.args.text.now c.args.tree.now in
     let n = ap length (front_taken (entries_out c.args.tree.now w.nodes) (replicate tree_area 0) o.new.out o.result o.ensures.size o.ensures.area) in
-    let h : s.result < length stores = omega (arith, c.if-made-writer.true, n, s.ensures.needed, o.ensures.size, c.data_place-header.ensures.0) in
-    rw c.refused.ensures (spent_answer stores c.args.allowance s.result c.args.buffer.now s.new.buffer s.ensures.made s.ensures.buffer h)
+    let h : s.result < length stores = omega (arith, c.if-made-needed.true, n, s.ensures.needed, o.ensures.size, c.data_place.ensures.value) in
+    spent_answer stores c.args.allowance s.result c.args.buffer.now s.new.buffer s.ensures.made s.ensures.buffer h

@@ -10,5 +10,5 @@ pub returns : goal.returns
 returns c =
     let a = c.args in
     let n = c.section_header_size-size.ensures ∙ ap section_header_size c.by_number-edition.ensures in
-    headers_over (writer_edition a.writer) (section_of a.writer a.full a.symbols.now a.entries.now a.stored.now) _ _ _ _ _ c.requires.0 n
-    (length_section_of a.writer a.full a.symbols.now a.entries.now a.stored.now) c.put_ranked.ensures c.put_ranked-2.ensures c.put_ranked-3.ensures
+    headers_over (writer_edition a.writer.now) (section_of a.writer.now a.full a.symbols.now a.entries.now a.stored.now) _ _ _ _ _ c.requires.has_room n
+    (length_section_of a.writer.now a.full a.symbols.now a.entries.now a.stored.now) c.put_ranked.ensures c.put_ranked-2.ensures c.put_ranked-3.ensures

@@ -1,0 +1,41 @@
+// A record that belongs to what is passed with it.
+ghost use Rattle.std.specs.Prelude.{◌≡◌, true};
+ghost use Rattle.aff_reader.specs.Belongs.{reader_belongs};
+ghost use Rattle.aff_reader.specs.Opened.{of};
+
+use crate::opened::Opened;
+use aff_format::{Entry, recorded};
+
+// What a call has that has judged the record (24).
+#[derive(Clone, Copy)]
+pub struct Belonging<'a> {
+    pub opened: Opened<'a>,
+    pub ghost belongs: { of opened reader_belongs ≡ true },
+}
+
+impl Belonging<'_> {
+    ghost use Rattle.std.specs.Prelude.{◌+◌};
+    ghost use Rattle.aff_reader.specs.Opened.{opened_entry};
+
+    // The entry of a node; the root has none of its own.
+    pub fn entry(&self, node: usize) -> Entry
+        ensures { result ≡ opened_entry self.now.opened node }
+    {
+        recorded::recorded_entry(self.opened.image, self.opened.entries, node)
+    }
+
+    // The parent of a node; the root is its own.
+    pub fn parent(&self, node: usize) -> usize
+        ensures { result ≡ (opened_entry self.now.opened node).parent }
+    {
+        self.entry(node).parent as usize
+    }
+
+    // Where the symbol section ends.
+    pub fn symbols_end(&self) -> usize
+        ensures { result ≡ self.now.opened.reader.symbols.offset + self.now.opened.reader.symbols.size }
+    {
+        let symbols = self.opened.reader.symbols;
+        symbols.offset + symbols.size
+    }
+}
