@@ -78,9 +78,13 @@ def joined():
     print(n, "clauses")
 
 
+def answers(path):
+    return "/proofs/" in path and os.path.basename(path) in ("Answers.antt", "Invariants.antt")
+
+
 def lemma_files(top="."):
     for path in glob.glob(top + "/crates/*/specs/**/*.antt", recursive=True) + glob.glob(top + "/crates/*/proofs/**/*.antt", recursive=True):
-        if os.path.basename(path) not in ("Answers.antt", "Invariants.antt"):
+        if not answers(path):
             yield path
 
 
@@ -135,7 +139,7 @@ def gone(commit):
         now[path.split("/")[2]].update(declared(open(path).read()))
     total = 0
     for path in tree:
-        if not path.endswith(".antt") or os.path.basename(path) in ("Answers.antt", "Invariants.antt"):
+        if not path.endswith(".antt") or answers(path):
             continue
         text = subprocess.run(["git", "show", f"{commit}:{path}"], capture_output=True, text=True, check=True).stdout
         for name in declared(text):

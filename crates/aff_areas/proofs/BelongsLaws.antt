@@ -1,30 +1,29 @@
 -- 24 for the writer: the test in the order of the passes, the test and document 01's clauses (both ways), and what `judge` says to its
 -- callers. Node by node: an entry is lost, or has all that the clauses ask. Assumes nothing.
 use mathlib.Core.Path.{◌≡◌, refl, sym, ◌∙◌}
-use mathlib.Core.Bool.{Bool, true, false, ◌&&◌, and-false, true≢false}
-use mathlib.Core.List.{List}
+use mathlib.Core.Bool.{Bool, true, false, ◌&&◌, true≢false}
+use mathlib.Core.List.{List, ◌++◌}
 use Prim.Native.Nat.{ℕ, ◌+◌, ◌-◌, ◌*◌, ◌≤◌, ◌<◌}
 use native.Mathlib.Omega.{arith}
 use lib.Dec.{eqb, leb}
 use lib.ListN.{length}
 use borrow.Author.Tests.{eq-eqb, le-leb, lt-leb, eqb-true, leb-true, leb-false, not-true, not-false}
-use Rattle.aff_format.specs.Answer.{accepted, first_wrong}
+use Rattle.aff_format.specs.Answer.{accepted, refused, first_wrong, Check}
+use Rattle.aff_format.specs.declared.refusal.RefusalCode.{RefusalCode}
 use Rattle.aff_format.specs.Kind.{element_size, is_void}
 use Rattle.aff_format.specs.Limits.{image_limit, string_limit, node_limit, text_area, tree_area}
 use Rattle.aff_format.specs.Lowest.{lowest_from, none_from}
 use Rattle.aff_format.specs.Strings.{ends_in_zero}
-use Rattle.aff_format.specs.passes.Counts.{zeros_in}
 use Rattle.aff_format.specs.declared.entry.Entry.{Entry}
 use Rattle.std.specs.Prelude.{Option, Some, None}
-use Rattle.aff_format.proofs.AnswerLaws.{passed}
+use Rattle.aff_format.proofs.AnswerLaws.{passed, passed_before, refused_before}
 use Rattle.aff_format.proofs.LowestLaws.{none_holds, holds_none, none_at}
-use Rattle.aff_format.proofs.StringsLaws.{strings_zeros}
 use Rattle.aff_format.proofs.TestLaws.{both, all_seven, or_false}
 use Rattle.aff_format.specs.Entry.{or_none}
 use Rattle.aff_format.proofs.EditionLaws.{names_written_lem, written_named}
 use Rattle.aff_format.proofs.EntryLaws.{data_asks}
 use Rattle.aff_format.specs.Edition.{names_written}
-use Rattle.aff_areas.specs.Areas.{used_text, names_in, found_slot, slot_entry, entry_sizes, finished_size}
+use Rattle.aff_areas.specs.Areas.{used_text, names_in, found_slot, slot_entry, finished_size}
 use Rattle.aff_areas.specs.Belongs.{writer_belongs, WriterBelongs, writer_sizes_belong, text_belongs, slot_lost, writer_node_lost, writer_nodes_belong, writer_checks}
 use Rattle.aff_areas.specs.Writer.{data_place, data_size, no_writer}
 use Rattle.aff_areas.specs.declared.writer.Writer.{Writer}
@@ -36,14 +35,6 @@ module _ (size : ℕ) (writer : Writer) (text tree : List ℕ) where
   pub edition_decides : names_written writer.edition ≡ false → writer_belongs size writer text tree ≡ false
   unfolding writer_belongs
   edition_decides h = rw h
-
-  pub sizes_decide : writer_sizes_belong size writer text tree ≡ false → writer_belongs size writer text tree ≡ false
-  unfolding writer_belongs
-  sizes_decide h = rw (h, and-false)
-
-  pub text_decides : text_belongs writer text ≡ false → writer_belongs size writer text tree ≡ false
-  unfolding writer_belongs
-  text_decides h = simp (h, and-false)
 
   pub nodes_decide : names_written writer.edition ≡ true → writer_sizes_belong size writer text tree ≡ true → text_belongs writer text ≡ true → writer_belongs size writer text tree ≡ writer_nodes_belong writer tree
   unfolding writer_belongs
@@ -71,37 +62,12 @@ module _ (size : ℕ) (writer : Writer) (text tree : List ℕ) where
       (eqb (length tree) tree_area) (leb writer.strings string_limit) (leb writer.text text_area) (leb writer.nodes node_limit) h in
       (eqb-true _ _ p.0, leb-true _ _ p.1, eqb-true _ _ p.2, eqb-true _ _ p.3, leb-true _ _ p.4, leb-true _ _ p.5, leb-true _ _ p.6)
 
--- The zeros are counted where the text ends in one.
-pub unended_decides : (writer : Writer) (text : List ℕ) → ends_in_zero (used_text writer text) ≡ false → text_belongs writer text ≡ false
-unfolding text_belongs
-unended_decides writer text h = rw h
-
-pub zeros_decide : (writer : Writer) (text : List ℕ) → ends_in_zero (used_text writer text) ≡ true
-    → text_belongs writer text ≡ eqb (zeros_in (used_text writer text)) writer.strings
-unfolding text_belongs
-zeros_decide writer text h = rw (h, strings_zeros (used_text writer text) h)
-
 module _ (writer : Writer) (tree : List ℕ) where
-  pub header_decides : writer.end < data_place writer → writer_nodes_belong writer tree ≡ false
-  unfolding writer_nodes_belong
-  header_decides h = rw (lt-leb (data_place writer) writer.end h)
-
-  pub lost_decides : {k from : ℕ} → from ≡ data_place writer → lowest_from (writer_node_lost writer.strings from (writer.end - from) tree) writer.nodes 1 ≡ Some k
-      → writer_nodes_belong writer tree ≡ false
-  unfolding writer_nodes_belong
-  lost_decides p h = rw (← p, h, and-false)
-
   pub size_decides : {from : ℕ} → from ≡ data_place writer → data_place writer ≤ writer.end
       → lowest_from (writer_node_lost writer.strings from (writer.end - from) tree) writer.nodes 1 ≡ None
       → writer_nodes_belong writer tree ≡ leb (finished_size writer tree) writer.length
   unfolding writer_nodes_belong
   size_decides p l h = rw (le-leb (data_place writer) writer.end l, ← p, h)
-
-  -- The finished size does not fit where header and data do not.
-  pub end_decides : writer.length < writer.end → writer_nodes_belong writer tree ≡ false
-  unfolding writer_nodes_belong finished_size
-  end_decides h =
-      simp (lt-leb (writer.end + writer.text + entry_sizes tree writer.nodes) writer.length (omega arith), and-false)
 
 -- ---- Nodes.
 
@@ -217,8 +183,18 @@ none_belongs size text tree = refl
 
 -- ---- What `judge` says decides every call that judges first.
 
-pub judged : {size : ℕ} {writer : Writer} {text tree : List ℕ} → first_wrong (writer_checks size writer text tree) (tt {0}) ≡ accepted (tt {0})
-    → WriterBelongs size writer text tree × (writer.live ≡ true)
-judged {size} {writer} {text} {tree} h =
-    let (b, (l, _)) = passed (writer_checks size writer text tree) (tt {0}) h in
-    (belongs_record (not-false (writer_belongs size writer text tree) b), not-false writer.live l)
+module _ (size : ℕ) (writer : Writer) (text tree : List ℕ) {A : Type 0} (a : A) where
+  -- Accepted: the record belongs and is live, and the checks after decide.
+  pub judge_belongs : {b : A} → accepted b ≡ first_wrong (writer_checks size writer text tree) a → WriterBelongs size writer text tree × (writer.live ≡ true)
+  judge_belongs h =
+      let (b, (l, _)) = passed (writer_checks size writer text tree) a (sym h) in
+      (belongs_record (not-false (writer_belongs size writer text tree) b), not-false writer.live l)
+
+  pub judge_leaves : {B : Type 0} {b : A} → accepted b ≡ first_wrong (writer_checks size writer text tree) a → (more : List Check) (c : B)
+      → first_wrong more c ≡ first_wrong (writer_checks size writer text tree ++ more) c
+  judge_leaves h more c = sym (passed_before (writer_checks size writer text tree) more a c (sym h))
+
+  -- Refused: the refusal is the call's, and it is 24 or 22.
+  pub judge_refuses : {B : Type 0} {t : RefusalCode} → refused t ≡ first_wrong (writer_checks size writer text tree) a → (more : List Check) (c : B)
+      → refused t ≡ first_wrong (writer_checks size writer text tree ++ more) c
+  judge_refuses h more c = sym (refused_before (writer_checks size writer text tree) more a c (sym h))

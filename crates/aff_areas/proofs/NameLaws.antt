@@ -3,20 +3,17 @@
 use mathlib.Core.Path.{◌≡◌, refl, sym, ap, ◌∙◌}
 use mathlib.Core.Bool.{Bool, true, false, cond, true≢false}
 use mathlib.Core.List.{List, [], ◌∷◌, ◌++◌}
-use Prim.Native.Nat.{ℕ, zero, suc, ◌+◌, ◌-◌, ◌≤◌, ◌<◌}
+use Prim.Native.Nat.{ℕ, zero, suc, ◌+◌, ◌≤◌, ◌<◌}
 use native.Mathlib.Omega.{arith}
 use lib.Dec.{eqb}
-use lib.ListN.{length, get_or, set, take, drop, length-append, length-drop, length-map, drop_of_length-le}
-use lib.Seq.{drop-drop, take_all}
+use lib.ListN.{length, get_or, set, take, drop, length-append, length-map, drop_of_length-le}
 use Rattle.std.proofs.lemmas.List.Recursion.{is_position_or_len}
 use Rattle.std.specs.List.{position_or_len}
 use borrow.Author.Tests.{eqb-true}
-use Rattle.aff_format.specs.Bytes.{part, same_bytes, laid_over}
+use Rattle.aff_format.specs.Bytes.{same_bytes, laid_over}
 use Rattle.aff_format.specs.Strings.{strings_of, ends_in_zero, up_to_zero, index_in}
 use Rattle.aff_format.proofs.StringsLaws.{ends_in_zero_append, ends_in_zero_tail, strings_of_one, up_to_zero_without}
-use Rattle.aff_format.specs.Recorded.{name_from}
-use Rattle.aff_format.proofs.RecordedLaws.{name_part}
-use Rattle.aff_format.proofs.LaidLaws.{Laid, laid_start, laid_store, laid_all, laid_front}
+use Rattle.aff_format.proofs.LaidLaws.{Laid, laid_store, laid_all, laid_front}
 use Rattle.aff_areas.specs.Areas.{names_in}
 use Rattle.aff_areas.specs.Belongs.{WriterBelongs}
 use Rattle.aff_areas.specs.passes.Marks.{mark_of, marks_of, first_mark}
@@ -69,55 +66,32 @@ module _ (l : List ℕ) (some : 0 < length l) (ended : ends_in_zero l ≡ true) 
   rest_ended =
       ends_in_zero_tail 0 _ (sym (ends_in_zero_append (up_to_zero l) 0 (drop (suc (length (up_to_zero l))) l)) ∙ ap ends_in_zero (sym (first_string l some ended)) ∙ ended)
 
--- The pass over a text: the strings before `at` are marked, i of them.
-pub record Marking (text name marks₀ marks : List ℕ) (at i : ℕ) : Type 0 where
-  pub at_end : at ≤ length text
-  pub ended : ends_in_zero (drop at text) ≡ true
-  pub laid : Laid marks₀ (marks_of name (strings_of text)) marks i (marks_of name (strings_of (drop at text)))
+-- The pass over a text: the strings before `rest` are marked, i of them.
+pub record Marking (text name marks₀ rest marks : List ℕ) (i : ℕ) : Type 0 where
+  pub ended : ends_in_zero rest ≡ true
+  pub laid : Laid marks₀ (marks_of name (strings_of text)) marks i (marks_of name (strings_of rest))
 
-pub mark_start : (text name marks : List ℕ) → ends_in_zero text ≡ true → Marking text name marks marks 0 0
-mark_start text name marks e = record { at_end = omega arith; ended = e; laid = laid_start marks (marks_of name (strings_of text)) }
+module _ {text name marks₀ rest marks : List ℕ} {i : ℕ} (m : Marking text name marks₀ rest marks i) where
+  module _ (some : 0 < length rest) where
+    pub mark_inside : length (up_to_zero rest) < length rest
+    mark_inside = first_short rest some m.ended
 
-module _ {text name marks₀ marks : List ℕ} {at i : ℕ} (m : Marking text name marks₀ marks at i) where
-  module _ {end : ℕ} (h : at < length text) (e : end ≡ at + length (name_from text (length text) at)) where
-    name_is : name_from text (length text) at ≡ up_to_zero (drop at text)
-    unfolding name_from
-    name_is = ap up_to_zero (take_all (length text - at) (drop at text) (rw length-drop (omega arith)))
-
-    some : 0 < length (drop at text)
-    some = rw length-drop (omega arith)
-
-    pub mark_inside : end < length text
-    mark_inside = omega (arith, first_short (drop at text) some m.ended, ap length name_is, length-drop at text)
-
-    rest_is : drop (suc (length (up_to_zero (drop at text)))) (drop at text) ≡ drop (end + 1) text
-    rest_is =
-        let n : at + suc (length (up_to_zero (drop at text))) ≡ end + 1 = omega (arith, ap length name_is) in
-        drop-drop (suc (length (up_to_zero (drop at text)))) at text ∙ rw n
-
-    here : strings_of (drop at text) ≡ part at (end - at) text ∷ strings_of (drop (end + 1) text)
-    here =
-        let p : part at (end - at) text ≡ up_to_zero (drop at text) = name_part text (length text) at end m.at_end (omega arith) e ∙ name_is in
-        rw (p, ← rest_is) (strings_cons (drop at text) some m.ended)
-
-    marks_here : Laid marks₀ (marks_of name (strings_of text)) marks i (mark_of name (part at (end - at) text) ∷ marks_of name (strings_of (drop (end + 1) text)))
-    marks_here = rw here at m.laid
+    marks_here : Laid marks₀ (marks_of name (strings_of text)) marks i
+        (mark_of name (up_to_zero rest) ∷ marks_of name (strings_of (drop (suc (length (up_to_zero rest))) rest)))
+    marks_here = rw (strings_cons rest some m.ended) at m.laid
 
     pub mark_buffer : length (strings_of text) ≤ length marks₀ → i < length marks
     mark_buffer r = omega (arith, marks_here.count, marks_here.long, length-map (strings_of text) (mark_of name))
 
-    pub mark_next : length (strings_of text) ≤ length marks₀ → {v : ℕ} → v ≡ mark_of name (part at (end - at) text)
-        → Marking text name marks₀ (set marks i v) (end + 1) (i + 1)
+    pub mark_next : length (strings_of text) ≤ length marks₀ → {v : ℕ} → v ≡ mark_of name (up_to_zero rest)
+        → Marking text name marks₀ (drop (length (up_to_zero rest) + 1) rest) (set marks i v) (i + 1)
     mark_next r {v} is =
-        record {
-          at_end = omega (arith, mark_inside);
-          ended = rw (← rest_is) (rest_ended (drop at text) some m.ended);
-          laid = rw is (laid_store marks_here (mark_buffer r));
-        }
+        let n : length (up_to_zero rest) + 1 ≡ suc (length (up_to_zero rest)) = omega arith in
+        rw n (record { ended = rest_ended rest some m.ended; laid = rw is (laid_store marks_here (mark_buffer r)) })
 
-  pub mark_all : length text ≤ at → marks ≡ laid_over marks₀ (marks_of name (strings_of text))
+  pub mark_all : length rest ≡ 0 → marks ≡ laid_over marks₀ (marks_of name (strings_of text))
   unfolding strings_of
-  mark_all h = (laid_all (rw (drop_of_length-le text h) at m.laid)).1.1
+  mark_all h = let e : rest ≡ [] = drop_of_length-le rest {i = 0} (omega arith) in (laid_all (rw e at m.laid)).1.1
 
 -- The lowest mark, in std's words.
 pub first_mark_is : (marks : List ℕ) → position_or_len (λ x. eqb x 1) marks ≡ first_mark marks

@@ -3,4 +3,6 @@ pub mod Writer
 pub mod Stores
 pub mod Areas
 pub mod Belongs
+pub mod Given
+pub mod Held
 pub mod passes

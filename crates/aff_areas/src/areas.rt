@@ -1,4 +1,5 @@
 // Strings and nodes so far, by what the record and the two areas say.
+// `node ≤ node_limit`, `nodes ≤ node_limit` and `0 < node` stay clauses: they are facts of plain numbers, and a type for them would be no plainer.
 ghost use Rattle.std.specs.Prelude.{◌≡◌, cond, [], ◌∷◌, ◌++◌, ◌+◌, ◌*◌, ◌≤◌, ◌<◌, length, take, drop};
 ghost use Rattle.aff_format.specs.Bytes.{spliced};
 ghost use Rattle.aff_format.specs.Entry.{slot_bytes};

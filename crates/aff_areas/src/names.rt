@@ -1,5 +1,5 @@
 // The strings that are a name.
-ghost use Rattle.std.specs.Prelude.{◌≡◌, true, ◌≤◌, length, take};
+ghost use Rattle.std.specs.Prelude.{◌≡◌, true, ◌≤◌, length, take, drop};
 ghost use Rattle.aff_format.specs.Limits.{node_limit};
 ghost use Rattle.aff_format.specs.Lowest.{lowest_from, is_at};
 ghost use Rattle.aff_format.specs.Strings.{strings_of, ends_in_zero};
@@ -16,6 +16,14 @@ fn mark(string: &[u8], name: &[u8]) -> u8
     u8::from(bytes::same(string, name))
 }
 
+// The bytes from a place on.
+fn after<'a>(bytes: &'a [u8], from: usize) -> &'a [u8]
+    requires { from ≤ length bytes.now }
+    ensures { result.now ≡ drop from bytes.now }
+{
+    &bytes[from..]
+}
+
 // Marks each string of a text: 1 where it is the name, else 0. One pass: the end of each string is searched once, and its bytes are compared
 // only where it is as long as the name.
 #[tactic(auto, using(crate::proofs::NameLaws::mark_buffer, crate::proofs::NameLaws::mark_all))]
@@ -24,14 +32,14 @@ pub fn mark_strings(text: &[u8], name: &[u8], marks: &mut [u8])
     requires has_room { length (strings_of text.now) ≤ length marks.old }
     ensures { marks.new ≡ laid_over marks.old (marks_of name.now (strings_of text.now)) }
 {
-    let mut at = 0;
+    let mut rest = text;
     let mut i = 0;
     // From string to string, so that no place is counted.
-    while at < text.len() {
-        let end = recorded::name_end(text, at, text.len());
-        marks[i] = mark(&text[at..end], name);
+    while !rest.is_empty() {
+        let string = recorded::until_zero(rest);
+        marks[i] = mark(string, name);
+        rest = after(rest, string.len() + 1);
         i += 1;
-        at = end + 1;
     }
 }
 
@@ -49,17 +57,14 @@ fn is_marked(marks: &[u8], tree: &[u8], parent: usize, node: usize) -> bool
     ensures { result ≡ is_marked marks.now tree.now parent node }
 {
     let entry = areas::slot_entry(tree, node);
-    if entry.parent != parent as u64 {
-        return false;
-    }
-    let string = entry.string as usize;
-    if marks.len() <= string {
-        return false;
-    }
-    marks[string] == 1
+    entry.parent == parent as u64
+        && marks
+            .get(entry.string as usize)
+            .is_some_and(|&mark| mark == 1)
 }
 
 // Whether some node is a child of the parent and its string is marked. One entry read a node.
+// Tried: `(1..=nodes).any(..)`; its contract is told by the steps of a range, and the proof didn't close.
 pub fn any_marked(marks: &[u8], tree: &[u8], nodes: usize, parent: usize) -> bool
     requires { nodes ≤ node_limit }
     ensures { result ≡ is_at (lowest_from (is_marked marks.now tree.now parent) nodes 1) }

@@ -96,7 +96,6 @@ impl Writer {
 }
 
 // The 12 bytes of a form.
-#[tactic(auto, using(aff_format::proofs::BytesLaws::spliced_whole))]
 fn form_of(form: &[u8]) -> [u8; 12]
     requires { length form.now ≡ 12 }
     ensures { result ≡ form.now }

@@ -3,7 +3,6 @@ use mathlib.Core.Path.{◌≡◌, refl, sym, ap, ◌∙◌}
 use mathlib.Core.Bool.{Bool, true, false, not, ◌&&◌, true≢false}
 use mathlib.Core.List.{List, [], ◌∷◌, ◌++◌}
 use Prim.Native.Nat.{ℕ}
-use native.Mathlib.Omega.{arith}
 use lib.Dec.{eqb}
 use borrow.Author.Tests.{not-true}
 use Rattle.aff_format.specs.declared.refusal.RefusalCode.{RefusalCode}
@@ -12,7 +11,7 @@ use Rattle.aff_format.proofs.TestLaws.{both}
 
 -- No answer is both accepted and refused.
 pub not_both : {A X : Type 0} {a : A} {r : RefusalCode} → refused r ≡ accepted a → X
-not_both e = let z : ◌≡◌ {A = ℕ} 0 1 = cc in absurd (omega arith)
+not_both e = absurd cc
 
 -- An accepted call: nothing was wrong, and the value is the call's.
 pub passed : {A : Type 0} (checks : List Check) (a : A) {b : A} → first_wrong checks a ≡ accepted b → Clear checks
@@ -42,20 +41,20 @@ pub data FirstIs : List Check → RefusalCode → Type 0 where
   later : {q r : RefusalCode} {checks : List Check} → FirstIs checks r → FirstIs (check false q ∷ checks) r
 
 pub refused_by : {A : Type 0} (checks : List Check) (a : A) {r : RefusalCode} → first_wrong checks a ≡ refused r → FirstIs checks r
-refused_by [] a e = let z : ◌≡◌ {A = ℕ} 0 1 = cc in absurd (omega arith)
+refused_by [] a e = absurd cc
 refused_by (check true q ∷ checks) a {r} e = let p : q ≡ r = cc in rw p here
 refused_by (check false q ∷ checks) a e = later (refused_by checks a e)
 
 -- The checks do not look at the value.
 pub same_refusal : {A B : Type 0} (checks : List Check) (a : A) (b : B) {r : RefusalCode} → first_wrong checks a ≡ refused r → first_wrong checks b ≡ refused r
-same_refusal [] a b e = let z : ◌≡◌ {A = ℕ} 0 1 = cc in absurd (omega arith)
+same_refusal [] a b e = absurd cc
 same_refusal (check true q ∷ checks) a b e = cc
 same_refusal (check false q ∷ checks) a b e = same_refusal checks a b e
 
 -- Checks and more checks after them: a refusal of the first is the answer; where they pass, the others decide.
 pub refused_before : {A B : Type 0} (before after : List Check) (a : A) (b : B) {t : RefusalCode} → first_wrong before a ≡ refused t
     → first_wrong (before ++ after) b ≡ refused t
-refused_before [] after a b e = let z : ◌≡◌ {A = ℕ} 0 1 = cc in absurd (omega arith)
+refused_before [] after a b e = absurd cc
 refused_before (check true q ∷ before) after a b e = cc
 refused_before (check false q ∷ before) after a b e = refused_before before after a b e
 

@@ -6,7 +6,7 @@ use native.Mathlib.Nat.{add-zero, add_assoc}
 use native.Mathlib.Numerals.{add-one}
 use native.Mathlib.Omega.{arith}
 use lib.ListN.{length, get_or, set, take, drop, length-append, length-drop, take-append-drop, drop_of_length-le}
-use lib.Seq.{length-take-le, take-length, take-nil, take_at, drop_at, drop-drop, drop-cons, take-add, take-take, take-set-le, drop-set-add, set_split, get_or-drop, take-append-le, drop-append-le, drop-append-add}
+use lib.Seq.{length-take-le, take-nil, take_at, drop_at, drop-drop, drop-cons, take-add, take-take, take-set-le, drop-set-add, set_split, get_or-drop, take-append-le, drop-append-le, drop-append-add}
 use Rattle.aff_format.specs.Bytes.{Octets, part, spliced}
 
 -- Parts.
@@ -22,13 +22,6 @@ part_cons l at end h k = let n : end - at ≡ suc (end - (at + 1)) = omega arith
 
 pub part_empty : (l : List ℕ) (at end : ℕ) → end ≤ at → part at (end - at) l ≡ []
 part_empty l at end h = let n : end - at ≡ 0 = omega arith in rw n
-
-pub part_whole : (l : List ℕ) → part 0 (length l - 0) l ≡ l
-part_whole l = let n : length l - 0 ≡ length l = omega arith in rw n (take-length l)
-
--- A run around a part of it.
-pub section_is : (image : List ℕ) (at n : ℕ) → image ≡ take at image ++ (part at n image ++ drop (at + n) image)
-section_is image at n = rw (← drop-drop n at image, take-append-drop n (drop at image), take-append-drop at image)
 
 pub drop_take : (q n : ℕ) (l : List ℕ) → drop q (take n l) ≡ take (n - q) (drop q l)
 drop_take zero n l = let e : n - 0 ≡ n = omega arith in rw e

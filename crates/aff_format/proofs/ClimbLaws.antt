@@ -11,7 +11,7 @@ use borrow.Author.Tests.{ne_eqb, leb-true, leb-false}
 use Rattle.aff_format.specs.Tree.{reaches_by}
 
 pub absurd_bool : {A : Type 0} → false ≡ true → A
-absurd_bool e = let z : ◌≡◌ {A = ℕ} 0 1 = cc in absurd (omega arith)
+absurd_bool e = absurd cc
 
 le_or_lt_by : (m n : ℕ) (b : Bool) → leb m n ≡ b → (m ≤ n) ⊎ (n < m)
 le_or_lt_by m n true e = inl (leb-true m n e)

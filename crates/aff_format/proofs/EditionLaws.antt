@@ -12,14 +12,11 @@ use Rattle.aff_format.specs.Edition.{editions, edition_number, signature_text, s
 use Rattle.aff_format.specs.Layouts.{Layouts}
 use Rattle.aff_format.specs.Bytes.{spliced, same_bytes}
 use Rattle.aff_format.specs.Number.{be_bytes}
-use Rattle.aff_format.specs.Section.{section_number}
 use Rattle.aff_format.specs.declared.section.Section.{Section}
 use Rattle.aff_format.specs.declared.section.Section.TheVariants.{Symbol, Tree, Data}
 use Rattle.aff_format.specs.declared.edition.Edition.{Edition}
 use Rattle.aff_format.specs.declared.edition.Edition.TheVariants.{One, Two, Three}
 use Rattle.std.specs.Prelude.{Option, Some, None}
-use Rattle.std.specs.Option.{unwrap_or}
-use Rattle.std.specs.List.{position}
 use Rattle.aff_format.proofs.ClimbLaws.{absurd_bool}
 use Rattle.aff_format.proofs.NumberLaws.{length_be_bytes}
 
@@ -34,18 +31,6 @@ pub each_edition : (P : Edition → Type 0) → Each P editions → (e : Edition
 each_edition P h One = h.0
 each_edition P h Two = h.1.0
 each_edition P h Three = h.1.1.0
-
--- The place of a section in the order of the headers, by std's word.
-pub rank_by_position : (e : Edition) (s : Section) → unwrap_or (position (λ t. eqb (section_number s) (section_number t)) (header_order e)) 3 ≡ section_rank e s
-rank_by_position One Symbol = refl
-rank_by_position One Tree = refl
-rank_by_position One Data = refl
-rank_by_position Two Symbol = refl
-rank_by_position Two Tree = refl
-rank_by_position Two Data = refl
-rank_by_position Three Symbol = refl
-rank_by_position Three Tree = refl
-rank_by_position Three Data = refl
 
 pub edition_of_number : (e : Edition) → edition_of (edition_number e) ≡ Some e
 edition_of_number One = refl
@@ -138,10 +123,6 @@ header_least e = omega (arith, section_header_sizes e)
 
 pub header_most : (e : Edition) → header_size e ≤ 168
 header_most e = omega (arith, section_header_sizes e)
-
--- A section header lies between the signature and the header sum, and its sum is its last 16 bytes.
-pub section_header_least : (e : Edition) (s : Section) → 32 ≤ section_header_at e s
-section_header_least e s = omega arith
 
 ranks_fit : (r n : ℕ) → r < 3 → r * n + n ≤ 3 * n
 ranks_fit zero n h = omega arith

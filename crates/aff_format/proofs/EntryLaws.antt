@@ -47,10 +47,10 @@ unfolding fields_of
 shape_cond k l e true t h =
     let q : e ≡ fields_of k l = cc in
     subst (Shape (Some k) l) (sym q) (record { known = refl; inside = leb-true (entry_size k) (length l) t; fields = refl })
-shape_cond k l e false t h = let z : ◌≡◌ {A = ℕ} 0 1 = cc in absurd (omega arith)
+shape_cond k l e false t h = absurd cc
 
 shape_of : (f : Option Kind) (l : List ℕ) (e : Entry) → entry_of_kind f l ≡ Some e → Shape f l e
-shape_of None l e h = let z : ◌≡◌ {A = ℕ} 0 1 = cc in absurd (omega arith)
+shape_of None l e h = absurd cc
 shape_of (Some k) l e h = shape_cond k l e (leb (entry_size k) (length l)) refl h
 
 shape : (l : List ℕ) (e : Entry) → entry_of l ≡ Some e → Shape (kind_of (type_field l)) l e

@@ -3,7 +3,7 @@ use borrow.Author.Tests.{eqb-true}
 use mathlib.Core.Path.{◌≡◌, refl, sym, ap, ◌∙◌}
 use mathlib.Core.Bool.{Bool, true, false, cond, true≢false}
 use mathlib.Core.List.{List}
-use Prim.Native.Nat.{ℕ, ◌*◌, ◌/◌, ◌≤◌, ◌<◌}
+use Prim.Native.Nat.{ℕ, ◌/◌, ◌≤◌}
 use native.Mathlib.Nat.{div-one}
 use native.Mathlib.Omega.{arith}
 use lib.Dec.{eqb}
@@ -36,21 +36,7 @@ code_of_kind n k =
     (code_row n k Int _ (eqb n 3) refl
     (code_row n k Double _ (eqb n 4) refl
     (code_row n k Complex _ (eqb n 5) refl
-    (λ h. let z : ◌≡◌ {A = ℕ} 0 1 = cc in absurd (omega arith))))))
-
-pub element_size_positive : (k : Kind) → is_void k ≡ false → 0 < element_size k
-element_size_positive Void h = let z : ◌≡◌ {A = ℕ} 0 1 = cc in absurd (omega arith)
-element_size_positive Char h = omega arith
-element_size_positive Int h = omega arith
-element_size_positive Double h = omega arith
-element_size_positive Complex h = omega arith
-
-pub count_in_fits : (k : Kind) (l : List ℕ) → count_in k l * element_size k ≤ length l
-count_in_fits Void l = omega arith
-count_in_fits Char l = omega arith
-count_in_fits Int l = omega arith
-count_in_fits Double l = omega arith
-count_in_fits Complex l = omega arith
+    (λ h. absurd cc)))))
 
 pub count_in_few : (k : Kind) (l : List ℕ) → count_in k l ≤ length l
 count_in_few Void l = omega arith
@@ -67,7 +53,7 @@ count_in_void Double l h = absurd (true≢false (sym h))
 count_in_void Complex l h = absurd (true≢false (sym h))
 
 pub count_in_div : (k : Kind) (l : List ℕ) → is_void k ≡ false → count_in k l ≡ length l / element_size k
-count_in_div Void l h = let z : ◌≡◌ {A = ℕ} 0 1 = cc in absurd (omega arith)
+count_in_div Void l h = cc
 count_in_div Char l h = sym (div-one (length l))
 count_in_div Int l h = refl
 count_in_div Double l h = refl

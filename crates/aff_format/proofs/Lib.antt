@@ -7,12 +7,10 @@ pub mod LowestLaws
 pub mod RuleLaws
 pub mod EditionLaws
 pub mod BytesLaws
-pub mod CopyLaws
 pub mod WrittenLaws
 pub mod CappedLaws
 pub mod SameLaws
 pub mod LaidLaws
-pub mod ClearLaws
 pub mod NumberLaws
 pub mod KindLaws
 pub mod SubkeyLaws

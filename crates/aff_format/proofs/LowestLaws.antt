@@ -37,7 +37,7 @@ module _ (test : ℕ → Bool) where
   none_holds (suc left) k e j lo hi = go (test k) refl (λ f. none_holds left (k + 1) f)
     where
       go : (b : Bool) → test k ≡ b → (lowest_from test left (k + 1) ≡ None → (i : ℕ) → k + 1 ≤ i → i < k + 1 + left → test i ≡ false) → test j ≡ false
-      go true t ih = let x : Some k ≡ None = rw t at e in let z : ◌≡◌ {A = ℕ} 0 1 = cc in absurd (omega arith)
+      go true t ih = let x : Some k ≡ None = rw t at e in absurd cc
       go false t ih =
           ⊎_elim (λ (q : k ≡ j). rw (sym q) t) (λ (q : k < j). ih (rw t at e) j (omega arith) (omega arith)) (eq-or-lt_of_le lo)
 
@@ -55,7 +55,7 @@ module _ (test : ℕ → Bool) where
 
   pub lowest_is : (left k j : ℕ) → lowest_from test left k ≡ Some j → LowestIs left k j
   unfolding lowest_from
-  lowest_is zero k j e = let z : ◌≡◌ {A = ℕ} 0 1 = cc in absurd (omega arith)
+  lowest_is zero k j e = absurd cc
   lowest_is (suc left) k j e = go (test k) refl (λ f. lowest_is left (k + 1) j f)
     where
       go : (b : Bool) → test k ≡ b → (lowest_from test left (k + 1) ≡ Some j → LowestIs left (k + 1) j) → LowestIs (suc left) k j

@@ -8,13 +8,13 @@ use native.Mathlib.Numerals.{add-one}
 use native.Mathlib.Omega.{arith}
 use lib.Dec.{eqb}
 use lib.ListN.{length, get_or, take, drop, length-append, length-drop}
-use lib.Seq.{drop-drop, length-take-le, take_all}
+use lib.Seq.{drop-drop, length-take-le}
 use borrow.Author.Tests.{eq-eqb, ne_eqb, eqb-true}
 use Rattle.aff_format.specs.Bytes.{part, Without, EachWithout}
-use Rattle.aff_format.specs.Subkey.{subkey_from, is_sound, is_subkey}
+use Rattle.aff_format.specs.Subkey.{subkey_from, is_sound, is_subkey, shifted}
 use Rattle.aff_format.specs.Path.{ahead, between_slashes, or_else, parts_from, after_slash, path_grammar, is_path, joined_path, Subkeys, WellFormed, root, subkeys}
 use Rattle.aff_format.specs.passes.Counts.{until_slash}
-use Rattle.aff_format.proofs.SubkeyLaws.{subkey_no_zero, subkey_no_slash, sound_shift, sound_is}
+use Rattle.aff_format.proofs.SubkeyLaws.{subkey_no_zero, subkey_no_slash, subkey_shift, sound_shift, sound_is}
 use Rattle.aff_format.specs.declared.edition.Edition.{Edition}
 use Rattle.std.specs.Prelude.{Option, Some, None}
 
@@ -62,13 +62,13 @@ later_some (x ∷ l) h = go (eqb x 47) h (later_some l)
     go true k ih = refl
     go false k ih = rw (add-one (until_slash l + 1)) (ih (omega arith))
 
--- A part of a path from place at up to the next slash, at end, in which the rule finds r.
-module _ (e : Edition) (l : List ℕ) (at end : ℕ) (r : Option ℕ) (found : end ≡ at + until_slash (drop at l)) (finds : r ≡ subkey_from e at (part at (end - at) l)) where
-  first_part : parts_from e at (between_slashes (drop at l)) ≡ or_else r (parts_from e (at + length (part at (end - at) l) + 1) (later_parts (drop at l)))
+-- A part of a path from place at up to the next slash, at end, in which the rule finds r, counted from the part's first byte.
+module _ (e : Edition) (l : List ℕ) (at end : ℕ) (r : Option ℕ) (found : end ≡ at + until_slash (drop at l)) (finds : r ≡ subkey_from e 0 (part at (end - at) l)) where
+  first_part : parts_from e at (between_slashes (drop at l)) ≡ or_else (shifted at r) (parts_from e (at + length (part at (end - at) l) + 1) (later_parts (drop at l)))
   unfolding parts_from
-  first_part = let n : end - at ≡ until_slash (drop at l) = omega arith in rw (finds, n, between_first)
+  first_part = let n : end - at ≡ until_slash (drop at l) = omega arith in rw (finds, ← subkey_shift e at, n, between_first)
 
-  pub parts_break : (place : ℕ) → r ≡ Some place → parts_from e at (between_slashes (drop at l)) ≡ Some place
+  pub parts_break : (place : ℕ) → r ≡ Some place → parts_from e at (between_slashes (drop at l)) ≡ Some (at + place)
   parts_break place h = first_part ∙ rw h
 
   pub parts_last : r ≡ None → end ≡ length l → parts_from e at (between_slashes (drop at l)) ≡ None
@@ -136,13 +136,6 @@ unfolding until_slash
 until_append [] r w = refl
 until_append (x ∷ k) r w = rw (w.0, until_append k r w.1, add-one)
 
--- Split at the first slash.
-pub between_last : (l : List ℕ) → length l ≤ until_slash l → between_slashes l ≡ l ∷ []
-between_last l h = between_first l ∙ rw (later_none l, take_all (until_slash l) l)
-
-pub between_next : (l : List ℕ) → until_slash l < length l → between_slashes l ≡ take (until_slash l) l ∷ between_slashes (drop (until_slash l + 1) l)
-between_next l h = between_first l ∙ rw (later_some l)
-
 -- Paths joined.
 pub joined_append : (ks js : List (List ℕ)) → joined_path (ks ++ js) ≡ joined_path ks ++ joined_path js
 unfolding joined_path
@@ -160,7 +153,7 @@ joined_between (x ∷ l) = go (eqb x 47) refl (between_slashes l) (joined_betwee
   where
     go : (b : Bool) → eqb x 47 ≡ b → (ps : List (List ℕ)) → joined_path ps ≡ 47 ∷ l → joined_path (cond b ([] ∷ ps) (ahead x ps)) ≡ 47 ∷ x ∷ l
     go true q ps h = rw (h, eqb-true x 47 q)
-    go false q [] h = absurd (let z : ◌≡◌ {A = ℕ} 0 1 = cc in omega arith)
+    go false q [] h = absurd cc
     go false q (p ∷ ps) h = let t : p ++ joined_path ps ≡ l = cc in rw t
 
 between_one : (k r : List ℕ) (ps : List (List ℕ)) → Without 47 k → between_slashes r ≡ [] ∷ ps → between_slashes (k ++ r) ≡ k ∷ ps
@@ -190,16 +183,6 @@ subkeys_at e (k ∷ ks) s (suc i) h = subkeys_at e ks s.1 i (omega arith)
 pub subkeys_more : (e : Edition) (ks : List (List ℕ)) (k : List ℕ) → Subkeys e ks → is_subkey e k ≡ true → Subkeys e (ks ++ (k ∷ []))
 subkeys_more e [] k s h = (h, tt)
 subkeys_more e (j ∷ ks) k s h = (s.0, subkeys_more e ks k s.1 h)
-
--- Subkeys are determined by their path.
-pub joined_injective : (e : Edition) (ks js : List (List ℕ)) → Subkeys e ks → Subkeys e js → joined_path ks ≡ joined_path js → ks ≡ js
-unfolding joined_path
-joined_injective e [] [] s t h = refl
-joined_injective e [] (j ∷ js) s t h = absurd (let z : ◌≡◌ {A = ℕ} 0 1 = cc in omega arith)
-joined_injective e (k ∷ ks) [] s t h = absurd (let z : ◌≡◌ {A = ℕ} 0 1 = cc in omega arith)
-joined_injective e (k ∷ ks) (j ∷ js) s t h =
-    let q : k ++ joined_path ks ≡ j ++ joined_path js = cc in
-    sym (between_joined k ks (subkeys_without e (k ∷ ks) s)) ∙ ap between_slashes q ∙ between_joined j js (subkeys_without e (j ∷ js) t)
 
 -- What ends in a slash and a text without one is determined by its last slash.
 slash_in : (front text : List ℕ) → Without 47 (front ++ (47 ∷ text)) → ⊥

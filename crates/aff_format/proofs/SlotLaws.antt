@@ -2,11 +2,11 @@
 use mathlib.Core.Path.{◌≡◌, ap, ◌∙◌}
 use mathlib.Core.Bool.{true, false}
 use mathlib.Core.List.{List, ◌∷◌, ◌++◌, append_assoc, append-nil}
-use Prim.Native.Nat.{ℕ, zero, suc, ◌-◌}
-use native.Mathlib.Nat.{sub-zero, zero-sub, suc-sub-suc}
+use Prim.Native.Nat.{ℕ, ◌-◌}
 use native.Mathlib.Numerals.{one-add}
 use native.Mathlib.Omega.{arith}
 use lib.ListN.{length, drop, replicate, length-append}
+use Rattle.std.proofs.lemmas.List.{drop-replicate}
 use Rattle.aff_format.specs.Bytes.{spliced}
 use Rattle.aff_format.specs.Number.{be_bytes}
 use Rattle.aff_format.specs.Kind.{kind_code, entry_size, is_void}
@@ -16,11 +16,6 @@ use Rattle.aff_format.proofs.BytesLaws.{spliced_next}
 use Rattle.aff_format.proofs.NumberLaws.{length_be_bytes}
 use Rattle.aff_format.proofs.EntryLaws.{length_entry_bytes}
 
-drop_zeros : (n m : ℕ) → drop n (replicate m 0) ≡ replicate {A = ℕ} (m - n) 0
-drop_zeros zero m = rw sub-zero
-drop_zeros (suc n) zero = rw zero-sub
-drop_zeros (suc n) (suc m) = rw suc-sub-suc (drop_zeros n m)
-
 over_zeros : (k : ℕ) (x : List ℕ) → spliced 1 x (k ∷ replicate 24 0) ≡ k ∷ (x ++ drop (length x) (replicate 24 0))
 unfolding spliced
 over_zeros k x = rw (one-add (length x))
@@ -29,7 +24,7 @@ slot_over : (e : Entry) (k : ℕ) (x : List ℕ) → k ∷ x ≡ entry_bytes e �
 unfolding slot_bytes
 slot_over e k x h =
     let n : 24 - length x ≡ 25 - entry_size e.kind = omega (arith, ap length h, length_entry_bytes e) in
-    over_zeros k x ∙ rw (drop_zeros (length x) 24, n, ← h)
+    over_zeros k x ∙ rw (drop-replicate {X = ℕ} (length x) 24 0, n, ← h)
 
 bytes_void : (e : Entry) → is_void e.kind ≡ true → kind_code e.kind ∷ (be_bytes 8 e.parent ++ be_bytes 4 e.string) ≡ entry_bytes e
 unfolding entry_bytes

@@ -4,7 +4,8 @@ use Rattle.std.proofs.lemmas.List.{drop-drop, take-replicate}
 use lib.ListN.{length-append, length-replicate, drop_of_length-le}
 use mathlib.Core.List.{append-nil}
 use Rattle.std.proofs.lemmas.List.Recursion.{is_position_or_len, is_count_by}
-use Rattle.std.specs.List.{position, position_or_len, prefix_len, count_by}
+use Rattle.std.proofs.lemmas.List.Sums.{prefix_len-le-length}
+use Rattle.std.specs.List.{position, position_or_len, count_by}
 use Rattle.std.specs.Cmp.Lexicographic.{pointwise}
 use borrow.Rule.Slice.PartMut.{put_mid}
 use borrow.Author.Tests.{ltb-false}
@@ -42,18 +43,13 @@ up_to_zero_is (x ∷ xs) = go (eqb x 0) (up_to_zero_is xs)
     go true h = refl
     go false h = omega (arith, h)
 
-prefix_len_le : (p : ℕ → Bool) (xs : List ℕ) → prefix_len p xs ≤ length xs
-prefix_len_le p [] = omega arith
-prefix_len_le p (x ∷ xs) =
-    elim (p x) as (λ b. cond b (1 + prefix_len p xs) 0 ≤ length (x ∷ xs)) [ true ↦ omega (arith, prefix_len_le p xs) | false ↦ omega arith ]
-
 -- `position` and the length where it finds none.
 pub position_or : (p : ℕ → Bool) (xs : List ℕ) → unwrap_or (position p xs) (length xs) ≡ position_or_len p xs
 position_or p xs = go (ltb (position_or_len p xs) (length xs)) refl
   where
     go : (b : Bool) → ltb (position_or_len p xs) (length xs) ≡ b → unwrap_or (cond b (Some (position_or_len p xs)) None) (length xs) ≡ position_or_len p xs
     go true e = refl
-    go false e = omega (arith, ltb-false (position_or_len p xs) (length xs) e, prefix_len_le (λ x. not (p x)) xs)
+    go false e = omega (arith, ltb-false (position_or_len p xs) (length xs) e, prefix_len-le-length (λ x. not (p x)) xs)
 
 pub cast_signed_is : (n : ℕ) → cast_signed w32 n ≡ twos_complement n
 unfolding twos_complement

@@ -10,13 +10,13 @@ use native.Mathlib.Omega.{arith}
 use lib.Dec.{eqb, ltb, leb-suc-suc}
 use lib.ListN.{length, get_or, take, drop, length-append}
 use lib.Seq.{drop-append-add, drop-append-le, drop-drop}
-use borrow.Author.Tests.{eqb-true, ltb-true, ltb-false, lt-ltb}
+use borrow.Author.Tests.{eqb-true, ltb-true, lt-ltb}
 use Rattle.aff_format.specs.Bytes.{part, same_bytes, Without, EachWithout}
 use Rattle.aff_format.specs.Path.{ahead}
 use Rattle.aff_format.proofs.BytesLaws.{drop_take}
 use Rattle.aff_format.specs.Strings.{strings_of, last_or, ends_in_zero, with_last_zero, places_of, text_of, up_to_zero, is_in, index_in}
 use Rattle.aff_format.specs.passes.Counts.{zeros_in}
-use Rattle.aff_format.proofs.SameLaws.{same_eq, same_refl, same_ne, ne_same}
+use Rattle.aff_format.proofs.SameLaws.{same_eq, same_refl, same_ne}
 
 -- The last byte.
 
@@ -41,10 +41,6 @@ ends_in_zero_last (x ∷ l) h = let n : suc (length l) - 1 ≡ length l = omega 
 pub ends_in_zero_append : (s : List ℕ) (x : ℕ) (t : List ℕ) → ends_in_zero (s ++ (x ∷ t)) ≡ ends_in_zero (x ∷ t)
 unfolding ends_in_zero
 ends_in_zero_append s x t = ap (λ (y : ℕ). eqb y 0) (last_append 0 s x t)
-
-pub ends_in_zero_snoc : (s : List ℕ) → ends_in_zero (s ++ (0 ∷ [])) ≡ true
-unfolding ends_in_zero
-ends_in_zero_snoc s = ends_in_zero_append s 0 []
 
 pub ends_in_zero_tail : (x : ℕ) (l : List ℕ) → ends_in_zero (x ∷ l) ≡ true → ends_in_zero l ≡ true
 unfolding ends_in_zero
@@ -110,7 +106,7 @@ strings_without_zero (x ∷ l) = go (eqb x 0) refl (strings_without_zero l)
 
 text_ahead : (x y : ℕ) (l : List ℕ) (ss : List (List ℕ)) → text_of ss ≡ y ∷ l → text_of (ahead x ss) ≡ x ∷ y ∷ l
 unfolding text_of
-text_ahead x y l [] h = absurd (let z : ◌≡◌ {A = ℕ} 0 1 = cc in omega arith)
+text_ahead x y l [] h = absurd cc
 text_ahead x y l (s ∷ ss) h = ap (λ (r : List ℕ). x ∷ r) h
 
 -- A run with its last zero is the text of its strings.
@@ -141,15 +137,6 @@ strings_with_last_zero l ss is w =
 -- The zero of the last string may be there or not: a run that is not empty and does not end in zero has the same strings with one zero after it.
 pub last_zero_optional : (l : List ℕ) → ends_in_zero l ≡ false → strings_of (l ++ (0 ∷ [])) ≡ strings_of l
 last_zero_optional l h = ap strings_of (sym (text_of_unended l h)) ∙ strings_of_text_of (strings_of l) (strings_without_zero l)
-
-pub strings_of_append : (s t : List ℕ) → ends_in_zero s ≡ true → strings_of (s ++ t) ≡ strings_of s ++ strings_of t
-strings_of_append s t h =
-    ap (λ (r : List ℕ). strings_of (r ++ t)) (sym (text_of_strings_of s h)) ∙ text_then (strings_of s) t (strings_without_zero s)
-
-pub strings_of_snoc : (s name : List ℕ) → ends_in_zero s ≡ true → Without 0 name → strings_of (s ++ (name ++ (0 ∷ []))) ≡ strings_of s ++ (name ∷ [])
-unfolding strings_of
-strings_of_snoc s name h w =
-    strings_of_append s (name ++ (0 ∷ [])) h ∙ ap (λ (r : List (List ℕ)). strings_of s ++ r) (strings_of_one name [] w)
 
 -- The string that begins here.
 
@@ -302,10 +289,6 @@ unfolding zeros_in
 zeros_in_without [] w = refl
 zeros_in_without (x ∷ s) w = rw w.0 (zeros_in_without s w.1)
 
-pub zeros_in_snoc : (s name : List ℕ) → Without 0 name → zeros_in (s ++ (name ++ (0 ∷ []))) ≡ zeros_in s + 1
-unfolding zeros_in
-zeros_in_snoc s name w = zeros_in_append s (name ++ (0 ∷ [])) ∙ rw (zeros_in_append name (0 ∷ []), zeros_in_without name w)
-
 pub zeros_in_text_of : (ss : List (List ℕ)) → EachWithout 0 ss → zeros_in (text_of ss) ≡ length ss
 unfolding zeros_in text_of
 zeros_in_text_of [] w = refl
@@ -313,11 +296,6 @@ zeros_in_text_of (s ∷ ss) w = zeros_in_append s (0 ∷ text_of ss) ∙ rw (zer
 
 pub strings_zeros : (l : List ℕ) → ends_in_zero l ≡ true → length (strings_of l) ≡ zeros_in l
 strings_zeros l h = sym (zeros_in_text_of (strings_of l) (strings_without_zero l)) ∙ ap zeros_in (text_of_strings_of l h)
-
-pub strings_zeros_unended : (l : List ℕ) → ends_in_zero l ≡ false → length (strings_of l) ≡ zeros_in l + 1
-unfolding zeros_in
-strings_zeros_unended l h =
-    sym (zeros_in_text_of (strings_of l) (strings_without_zero l)) ∙ ap zeros_in (text_of_unended l h) ∙ zeros_in_append l (0 ∷ [])
 
 -- A string among others.
 
@@ -378,41 +356,6 @@ index_in_append x (s ∷ ss) ts = go (same_bytes s x) (is_in x ss) (index_in_app
     go true c h = refl
     go false true h = rw h
     go false false h = rw h (omega arith)
-
--- Put at the end: found where it was, or as the last.
-pub index_in_old : (x : List ℕ) (ss ts : List (List ℕ)) → is_in x ss ≡ true → index_in x (ss ++ ts) ≡ index_in x ss
-index_in_old x ss ts h = index_in_append x ss ts ∙ rw h
-
-pub index_in_new : (x : List ℕ) (ss : List (List ℕ)) → is_in x ss ≡ false → index_in x (ss ++ (x ∷ [])) ≡ length ss
-unfolding index_in
-index_in_new x ss h = index_in_append x ss (x ∷ []) ∙ rw (h, same_refl, add-zero)
-
-pub is_in_last : (x : List ℕ) (ss : List (List ℕ)) → is_in x (ss ++ (x ∷ [])) ≡ true
-unfolding is_in
-is_in_last x ss = is_in_append x ss (x ∷ []) ∙ rw same_refl (go (is_in x ss))
-  where
-    go : (b : Bool) → (b || true) ≡ true
-    go true = refl
-    go false = refl
-
-pub is_in_other : (x y : List ℕ) (ss : List (List ℕ)) → (y ≡ x → ⊥) → is_in x (ss ++ (y ∷ [])) ≡ is_in x ss
-unfolding is_in
-is_in_other x y ss n = is_in_append x ss (y ∷ []) ∙ rw (ne_same y x n) (go (is_in x ss))
-  where
-    go : (b : Bool) → (b || false) ≡ b
-    go true = refl
-    go false = refl
-
--- The number k of a string that is x, where none before is.
-pub index_in_is : (x : List ℕ) (ss : List (List ℕ)) (k : ℕ) → k < length ss → get_or ss k [] ≡ x → ((j : ℕ) → j < k → get_or ss j [] ≡ x → ⊥) → index_in x ss ≡ k
-index_in_is x ss k h e n = go (ltb k (index_in x ss)) refl (ltb (index_in x ss) k) refl
-  where
-    go : (a : Bool) → ltb k (index_in x ss) ≡ a → (b : Bool) → ltb (index_in x ss) k ≡ b → index_in x ss ≡ k
-    go true p b q = absurd (index_in_lowest x ss k (ltb-true _ _ p) e)
-    go false p true q =
-        let m : index_in x ss < k = ltb-true _ _ q in
-        absurd (n (index_in x ss) m (index_in_found x ss (omega arith)))
-    go false p false q = omega (arith, ltb-false k (index_in x ss) p, ltb-false (index_in x ss) k q)
 
 pub is_in_at : (x : List ℕ) (ss : List (List ℕ)) (k : ℕ) → k < length ss → get_or ss k [] ≡ x → is_in x ss ≡ true
 unfolding is_in

@@ -7,6 +7,7 @@ use Prim.Native.Nat.{ℕ, ◌+◌, ◌-◌, ◌<◌, ◌≤◌}
 use native.Mathlib.Nat.{add-zero}
 use native.Mathlib.Omega.{arith}
 use lib.ListN.{length, get_or}
+use lib.Seq.{take_all}
 use borrow.Author.Tests.{ne_eqb, eqb-false}
 use Rattle.std.specs.List.{position, position_from}
 use Rattle.std.proofs.lemmas.Iterator.Adapters.{position_from-zero}
@@ -14,25 +15,17 @@ use Rattle.aff_format.specs.Answer.{refused, Check, refusal_at, first_wrong}
 use Rattle.aff_format.specs.Bytes.{part, Without}
 use Rattle.aff_format.specs.Subkey.{narrow_first, narrow_next, wide, may_begin, may_follow, rest_of_subkey, subkey_from, is_sound, break_place, check_grammar, is_subkey, shifted}
 use Rattle.aff_format.proofs.AnswerLaws.{Others, others_reported}
-use Rattle.aff_format.proofs.BytesLaws.{part_cons, part_empty}
+use Rattle.aff_format.proofs.BytesLaws.{part_cons}
 use Rattle.aff_format.specs.declared.edition.Edition.{Edition}
 use Rattle.aff_format.specs.declared.edition.Edition.TheVariants.{One, Two, Three}
 use Rattle.aff_format.specs.declared.refusal.RefusalCode.{RefusalCode}
 use Rattle.std.specs.Prelude.{Option, Some, None}
 
--- A part of a run, from place at on, in the code's terms.
-module _ (e : Edition) (l : List ℕ) (at end : ℕ) (more : at < end) (within : end ≤ length l) where
-  pub begin_good : may_begin e (get_or l at 0) ≡ true → subkey_from e at (part at (end - at) l) ≡ rest_of_subkey e (at + 1) (part (at + 1) (end - (at + 1)) l)
-  unfolding subkey_from
-  begin_good h = rw (part_cons l at end, h)
-
-  pub begin_bad : may_begin e (get_or l at 0) ≡ false → subkey_from e at (part at (end - at) l) ≡ Some at
-  unfolding subkey_from
-  begin_bad h = rw (part_cons l at end, h)
-
-pub begin_empty : (e : Edition) (l : List ℕ) (at end : ℕ) → end ≤ at → subkey_from e at (part at (end - at) l) ≡ Some at
-unfolding subkey_from
-begin_empty e l at end h = rw (part_empty l at end)
+-- After the first byte, one that may not follow is where the rule breaks.
+pub rest_bad : (e : Edition) (l : List ℕ) (at end : ℕ) → at < end → end ≤ length l → may_follow e (get_or l at 0) ≡ false
+    → rest_of_subkey e at (part at (end - at) l) ≡ Some at
+unfolding rest_of_subkey
+rest_bad e l at end m w h = rw (part_cons l at end m w, h)
 
 -- Another start moves the place of a fault, and nothing else.
 rest_shift : (e : Edition) (a b : ℕ) (l : List ℕ) → rest_of_subkey e (a + b) l ≡ shifted a (rest_of_subkey e b l)
@@ -56,13 +49,25 @@ faults e i (x ∷ l) = go (may_follow e x) (faults e (i + 1) l)
     go true h = h
     go false h = refl
 
-pub begin_by_position : (e : Edition) (l : List ℕ) (from end : ℕ) → from < end → end ≤ length l → may_begin e (get_or l from 0) ≡ true
-    → subkey_from e from (part from (end - from) l) ≡ shifted (from + 1) (position (λ x. not (may_follow e x)) (part (from + 1) (end - (from + 1)) l))
-begin_by_position e l from end h k b =
-    let rest : List ℕ = part (from + 1) (end - (from + 1)) l in
-    begin_good e l from end h k b
-    ∙ rw add-zero at (rest_shift e (from + 1) 0 rest)
-    ∙ ap (shifted (from + 1)) (faults e 0 rest ∙ sym (position_from-zero (λ x. not (may_follow e x)) rest))
+-- A name, in the code's terms: it is empty, its first byte may not begin one, or the rest is searched.
+pub begin_empty : (e : Edition) (l : List ℕ) → length l < 1 → subkey_from e 0 l ≡ Some 0
+unfolding subkey_from
+begin_empty e [] h = refl
+begin_empty e (x ∷ l) h = absurd (omega arith)
+
+pub begin_bad : (e : Edition) (l : List ℕ) → 1 ≤ length l → may_begin e (get_or l 0 0) ≡ false → subkey_from e 0 l ≡ Some 0
+unfolding subkey_from
+begin_bad e [] h b = refl
+begin_bad e (x ∷ l) h b = rw b
+
+pub begin_by_position : (e : Edition) (l : List ℕ) → 1 ≤ length l → may_begin e (get_or l 0 0) ≡ true
+    → subkey_from e 0 l ≡ shifted 1 (position (λ x. not (may_follow e x)) (part 1 (length l - 1) l))
+unfolding subkey_from
+begin_by_position e [] h b = absurd (omega arith)
+begin_by_position e (x ∷ l) h b =
+    let p = λ (y : ℕ). not (may_follow e y) in
+    let whole : part 1 (length (x ∷ l) - 1) (x ∷ l) ≡ l = take_all (length (x ∷ l) - 1) l (omega arith) in
+    rw b (rest_shift e 1 0 l ∙ ap (shifted 1) (faults e 0 l ∙ sym (position_from-zero p l) ∙ ap (position p) (sym whole)))
 
 pub subkey_shift : (e : Edition) (at : ℕ) (l : List ℕ) → subkey_from e at l ≡ shifted at (subkey_from e 0 l)
 unfolding subkey_from
@@ -79,9 +84,6 @@ sound_shift e at l = ap is_sound (subkey_shift e at l) ∙ go (subkey_from e 0 l
     go : (g : Option ℕ) → is_sound (shifted at g) ≡ is_sound g
     go None = refl
     go (Some p) = refl
-
-pub break_shift : (e : Edition) (at p : ℕ) (l : List ℕ) → subkey_from e 0 l ≡ Some p → subkey_from e at l ≡ Some (at + p)
-break_shift e at p l h = subkey_shift e at l ∙ rw h
 
 pub sound_is : (g : Option ℕ) → is_sound g ≡ true → g ≡ None
 sound_is None h = refl
@@ -130,7 +132,7 @@ pub reports_14 : {A : Type 0} (g : Option ℕ) (checks : List Check) (a : A) (p 
     → (first_wrong (check_grammar g ∷ checks) a ≡ refused (refusal_at 14 p)) ↔ (g ≡ Some p)
 reports_14 None checks a p o = (
   λ h. absurd (eqb-false 14 14 (others_reported 14 checks o a h) refl),
-  λ h. absurd (let z : ◌≡◌ {A = ℕ} 0 1 = cc in omega arith),
+  λ h. absurd cc,
 )
 reports_14 (Some q) checks a p o = (
   λ h. let e : refusal_at 14 q ≡ refusal_at 14 p = cc in ap (λ (t : RefusalCode). Some t.place) e,

@@ -10,7 +10,7 @@ use crate::section::Section;
 use std::error::Error;
 use std::fmt;
 
-// An edition of the format.
+// An edition of the format. An enum and no trait: an edition is a number in files and records, and the sizes are functions of it (request C-15).
 #[derive(Clone, Copy, Debug, PartialEq, Eq)]
 pub enum Edition {
     One = 1,
@@ -129,7 +129,6 @@ impl Edition {
     }
 
     // Which of the three section headers is a section's, counted from 0.
-    #[tactic(auto, using(crate::proofs::EditionLaws::rank_by_position))]
     pub fn rank(self, section: Section) -> usize
         ensures { result ≡ section_rank self section }
     {

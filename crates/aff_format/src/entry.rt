@@ -42,7 +42,7 @@ fn fields(kind: Kind, bytes: &[u8], at: usize) -> Entry
 }
 
 // The entry in a run of bytes at a place.
-#[tactic(auto, using(crate::proofs::EntryLaws::entry_past), unfolding(crate::specs::Entry::entry_of))]
+#[tactic(auto, unfolding(crate::specs::Entry::entry_of))]
 pub fn entry_at(bytes: &[u8], at: usize) -> Option<Entry>
     ensures { result ≡ entry_of (drop at bytes.now) }
 {

@@ -18,6 +18,7 @@ pub fn be<const N: usize>(bytes: &[u8], at: usize) -> u64
 }
 
 // Writes the width low bytes of n at a place, the high one first.
+// By hand, since the contract has no bound on the width: `to_be_bytes` has eight bytes, and be_bytes (specs/Number.antt) any number.
 #[tactic(auto, using(crate::proofs::NumberLaws::put_done))]
 pub fn put_be(out: &mut [u8], at: usize, width: usize, n: u64)
     requires { at + width ≤ length out.old }
@@ -38,12 +39,17 @@ pub fn signed(n: u32) -> i32
     n.cast_signed()
 }
 
-// The double of 64 stored bits. `f64::from_bits` is undefined at a NaN pattern, so every such pattern is returned as one NaN,
-// made by arithmetic: its sign and payload are lost.
+// The sign bit of a double, and the bits of infinity: a pattern above these, its sign aside, is a NaN.
+const SIGN: u64 = 0x8000_0000_0000_0000;
+
+const INFINITY: u64 = 0x7ff0_0000_0000_0000;
+
+// The double of 64 stored bits.
+// By hand at a NaN pattern, which `from_bits` does not take: each is returned as one NaN, made by arithmetic, and its sign and payload are lost.
 pub fn real(n: u64) -> f64
     ensures { result ≡ real_of n }
 {
-    if 9218868437227405312 < n % 9223372036854775808 {
+    if INFINITY < n % SIGN {
         return 0.0 / 0.0;
     }
     f64::from_bits(n)

@@ -10,12 +10,14 @@ use crate::{bytes, subkey};
 fn next_slash(path: &[u8], from: usize) -> usize
     requires { from ≤ length path.now }
     ensures value { result ≡ from + until_slash (drop from path.now) }
-    ensures inside { (from ≤ result) × (result ≤ length path.now) }
+    ensures after { from ≤ result }
+    ensures inside { result ≤ length path.now }
 {
     from + bytes::bytes_before(&path[from..], b'/')
 }
 
-// The first fault of the subkeys after the first slash. The loop goes from one subkey to the next, and counts none.
+// The first fault of the subkeys after the first slash.
+// A `loop`, by places: `split` would give the subkeys without them, and each place would be counted by hand.
 #[tactic(auto, using(crate::proofs::PathLaws::parts_break, crate::proofs::PathLaws::parts_last, crate::proofs::PathLaws::parts_next))]
 fn parts(edition: Edition, path: &[u8]) -> Option<usize>
     requires { 0 < length path.now }
@@ -24,8 +26,8 @@ fn parts(edition: Edition, path: &[u8]) -> Option<usize>
     let mut at: usize = 1;
     loop {
         let end = next_slash(path, at);
-        if let Some(place) = subkey::subkey_within(edition, path, at, end) {
-            return Some(place);
+        if let Some(place) = subkey::subkey(edition, &path[at..end]) {
+            return Some(at + place);
         }
         if end == path.len() {
             return None;

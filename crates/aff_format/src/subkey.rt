@@ -1,5 +1,5 @@
 // The rule for a subkey.
-ghost use Rattle.std.specs.Prelude.{◌≡◌, ◌-◌, ◌≤◌, not, length, position};
+ghost use Rattle.std.specs.Prelude.{◌≡◌, ◌-◌, ◌≤◌, not, length, position, IfSome};
 ghost use Rattle.aff_format.specs.Bytes.{part};
 ghost use Rattle.aff_format.specs.Subkey.{narrow_first, narrow_next, wide, may_begin, may_follow, subkey_from};
 
@@ -54,22 +54,18 @@ fn first_fault(edition: Edition, bytes: &[u8]) -> Option<usize>
     bytes.iter().position(|&x| !may_follow(edition, x))
 }
 
-// What the rule finds in bytes[from..end].
-#[tactic(auto, using(crate::proofs::SubkeyLaws::begin_bad, crate::proofs::SubkeyLaws::begin_empty, crate::proofs::SubkeyLaws::begin_by_position))]
-pub fn subkey_within(edition: Edition, bytes: &[u8], from: usize, end: usize) -> Option<usize>
-    requires { (from ≤ end) × (end ≤ length bytes.now) }
-    ensures { result ≡ subkey_from edition from (part from (end - from) bytes.now) }
-{
-    if from == end || !may_begin(edition, bytes[from]) {
-        return Some(from);
-    }
-    let fault = first_fault(edition, &bytes[from + 1..end])?;
-    Some(from + 1 + fault)
-}
-
 // What the rule of an edition finds in a name.
+#[tactic(auto, using(crate::proofs::SubkeyLaws::begin_bad, crate::proofs::SubkeyLaws::begin_empty, crate::proofs::SubkeyLaws::begin_by_position))]
 pub fn subkey(edition: Edition, name: &[u8]) -> Option<usize>
-    ensures { result ≡ subkey_from edition 0 name.now }
+    ensures value { result ≡ subkey_from edition 0 name.now }
+    ensures inside { IfSome result (λ place. place ≤ length name.now) }
 {
-    subkey_within(edition, name, 0, name.len())
+    let [first, rest @ ..] = name else {
+        return Some(0);
+    };
+    if !may_begin(edition, *first) {
+        return Some(0);
+    }
+    let fault = first_fault(edition, rest)?;
+    Some(1 + fault)
 }

@@ -1,13 +1,13 @@
 -- A block that is filled with line after line: what is filled and the lines that are left are the lines from the first on, and what is not filled
 -- stays. Assumes nothing.
-use mathlib.Core.Path.{◌≡◌, refl, sym, ap, ◌∙◌}
+use mathlib.Core.Path.{◌≡◌, sym, ap, ◌∙◌}
 use mathlib.Core.List.{List, [], ◌∷◌, ◌++◌, append_assoc}
 use mathlib.Core.Logic.{⊎_elim}
 use Prim.Native.Nat.{ℕ, ◌+◌, ◌≤◌, ◌<◌}
 use native.Mathlib.Numerals.{add-one}
 use native.Mathlib.Omega.{arith}
 use lib.ListN.{length, get_or, take, drop, length-append}
-use lib.Seq.{drop-cons, drop-drop, get_or-take, take_at, length-take-le}
+use lib.Seq.{drop-cons, drop-drop, take_at, length-take-le}
 use borrow.Author.Tests.{ltb-false}
 use Rattle.aff_format.specs.Bytes.{spliced}
 use Rattle.aff_format.proofs.BytesLaws.{length_spliced, drop_spliced}
@@ -30,11 +30,6 @@ unfolding spliced
 taken_after used text l h =
     ap (take (used + length text)) (sym (append_assoc (take used l) text (drop (used + length text) l)))
     ∙ take_at (take used l ++ text) _ (used + length text) (length-append (take used l) text ∙ ap (λ (n : ℕ). n + length text) (length-take-le used l h))
-
--- The node at a place below `lines`.
-pub node_at : (order : List ℕ) (lines k : ℕ) {n : ℕ} → n ≡ get_or order k 0 → k < lines → lines ≤ length order
-    → (k < length (take lines order)) × (n ≡ get_or (take lines order) k 0)
-node_at order lines k e h few = (omega (arith, length-take-le lines order few), e ∙ sym (get_or-take lines order k 0 h))
 
 -- The lines from place `from` on were put into a block, up to place `next`.
 pub record Filling (image : List ℕ) (reader : Reader) (strings entries order : List ℕ) (from : ℕ) (block₀ block : List ℕ) (next used : ℕ) : Type 0 where
@@ -71,14 +66,7 @@ module _ {image : List ℕ} {reader : Reader} {strings entries order : List ℕ}
       omega (arith, row_length n, length-append written (32 ∷ (kind_word (kind_at image entries n) ++ (32 ∷ decimal 10 (count_at image entries n)))), tail_length (kind_at image entries n) (count_at image entries n), short, line_path_length image reader strings entries n)
 
   module _ {from : ℕ} {o : List ℕ} (some : from ≤ length order) where
-    pub filling_none : Filling image reader strings entries order from o o from 0
-    filling_none = record { least = omega arith; most = some; inside = omega arith; text = refl; sized = refl; stays = refl; first = λ h. refl }
-
     module _ {block : List ℕ} {next used : ℕ} (v : Filling image reader strings entries order from o block next used) where
-      pub filled_all : length order ≤ next → Fills image reader strings entries order from next used o block
-      filled_all h =
-          record { more = λ q. omega arith; most = v.most; inside = v.inside; text = v.text; stays = v.stays; full = λ q. absurd (omega arith) }
-
       module _ (h : next < length order) {n end : ℕ} {p : List ℕ} (is : n ≡ get_or order next 0)
           (ends : end ≡ end_after used (row_of n) block) (puts : p ≡ put_after used (row_of n) block) where
         pub filled_full : row_limit ≤ length o → end ≡ used → Fills image reader strings entries order from next used o p
@@ -112,8 +100,3 @@ module _ {image : List ℕ} {reader : Reader} {strings entries order : List ℕ}
                   ∙ sym (drop-drop (length (row_of n)) used block) ∙ ap (drop (length (row_of n))) v.stays ∙ drop-drop (length (row_of n)) used o);
               first = λ g. absurd (omega (arith, v.least));
             }
-
--- Where a line is left, the next place is further on.
-pub fills_on : {image : List ℕ} {reader : Reader} {strings entries : List ℕ} (numbers : List ℕ) (lines : ℕ) {from next used : ℕ} {before after : List ℕ}
-    → lines ≤ length numbers → Fills image reader strings entries (take lines numbers) from next used before after → from < lines → from < next
-fills_on numbers lines few f h = f.more (omega (arith, length-take-le lines numbers few))

@@ -1,23 +1,18 @@
 -- The first block of what is printed: a line by itself, or the lines that `fill` put there. Assumes nothing.
 use mathlib.Core.Path.{◌≡◌, refl, sym, ap, ◌∙◌}
-use mathlib.Core.Bool.{cond}
 use mathlib.Core.List.{List, ◌++◌, append-nil}
 use Prim.Native.Nat.{ℕ, ◌≤◌, ◌<◌}
 use native.Mathlib.Omega.{arith}
 use lib.ListN.{length, take, drop, length-append}
 use lib.Seq.{drop_at, length-take-le}
-use borrow.Author.Tests.{lt-ltb, le-ltb}
 use Rattle.aff_format.specs.Refusal.{number_of, place_of}
 use Rattle.aff_format.specs.declared.refusal.Refusal.{Refusal}
 use Rattle.std.specs.Prelude.{Result, Ok, Err}
-use Rattle.aff_open.specs.Opening.{reader_after, strings_after, entries_after}
-use Rattle.aff_reader.specs.Reader.{no_reader}
-use Rattle.aff_open.specs.Sections.{form_for}
 use Rattle.aff_reader.specs.declared.reader.Reader.{Reader}
 use Rattle.aff_listing.specs.declared.choice.Choice.{Choice}
 use Rattle.aff_format.specs.passes.Written.{Written}
 use Rattle.aff_format.proofs.WrittenLaws.{written_front, written_taken}
-use Rattle.aff_list.specs.Lister.{input_limit, is_long, Ready, Fills, Starts, judged, answer_of_prepared, lines_of, lines_after, order_after, printed_text, refusal_line, too_long_line, listed, printed, rows_from}
+use Rattle.aff_list.specs.Lister.{input_limit, Ready, Fills, Starts, answer_of_prepared, lines_of, printed_text, refusal_line, too_long_line, listed, printed, rows_from}
 use Rattle.aff_list.specs.declared.blocks.Prepared.{Prepared}
 use Rattle.aff_list.proofs.PrintedLaws.{printed_long, printed_short, rows_end}
 use Rattle.aff_list.proofs.ReadyLaws.{Decided, prepared_ready}
@@ -77,27 +72,7 @@ module _ (image : List ℕ) (choice : Choice) (strings entries numbers : List �
       let l = prepared_ready image choice strings entries numbers o b p h in
       starts_lines l.few (printed_is ∙ ap (λ p. printed_text image ss es choice (answer_of_prepared p)) h ∙ rw l.ordered) (rw l.ordered l.ready) f
 
--- What is left of an input: the first block, the record, the number of lines, the areas and listing order.
-module _ (image : List ℕ) (choice : Choice) (strings entries numbers : List ℕ) where
-  abbrev Left : Reader → ℕ → List ℕ → List ℕ → List ℕ → Type 0
-  Left reader lines ss es ns =
-      (reader ≡ cond (is_long image) no_reader (reader_after (judged image choice strings entries)))
-      × ((lines ≡ cond (is_long image) 0 (lines_after image choice strings entries))
-      × ((ss ≡ cond (is_long image) strings (strings_after image (form_for image) strings entries))
-      × ((es ≡ cond (is_long image) entries (entries_after image (form_for image) strings entries))
-      × (ns ≡ cond (is_long image) numbers (order_after image choice strings entries numbers)))))
-
-  pub first_long : input_limit < length image → {reader : Reader} → reader ≡ no_reader → {used : ℕ} {before after : List ℕ}
-      → Written 0 too_long_line before after used
-      → Starts image reader strings entries (printed choice image) numbers 0 0 used before after × Left reader 0 strings entries numbers
-  first_long h {reader} none w =
-      rw (printed_long choice image h, lt-ltb input_limit (length image) h)
-      (starts_whole refl w, (none, (refl, (refl, (refl, refl)))))
-
-  pub first_short : length image ≤ input_limit → {reader : Reader} {lines : ℕ} {ss es ns : List ℕ}
-      → (reader ≡ reader_after (judged image choice strings entries))
-      × ((lines ≡ lines_after image choice strings entries)
-      × ((ss ≡ strings_after image (form_for image) strings entries)
-      × ((es ≡ entries_after image (form_for image) strings entries) × (ns ≡ order_after image choice strings entries numbers))))
-      → Left reader lines ss es ns
-  first_short h left = rw (le-ltb input_limit (length image) h) left
+-- An input that is too long.
+pub first_long : (image : List ℕ) (choice : Choice) → input_limit < length image → {reader : Reader} {strings entries numbers : List ℕ} {used : ℕ} {before after : List ℕ}
+    → Written 0 too_long_line before after used → Starts image reader strings entries (printed choice image) numbers 0 0 used before after
+first_long image choice h w = rw (printed_long choice image h) (starts_whole refl w)

@@ -2,20 +2,19 @@
 use mathlib.Core.Path.{◌≡◌, refl, sym, ap, ◌∙◌}
 use mathlib.Core.Bool.{Bool, true, false}
 use mathlib.Core.List.{List, [], ◌∷◌, ◌++◌, append_assoc}
-use Prim.Native.Nat.{ℕ, zero, suc, ◌+◌, ◌*◌, ◌≤◌, ◌<◌}
+use Prim.Native.Nat.{ℕ, zero, suc, ◌+◌, ◌*◌, ◌≤◌}
 use native.Mathlib.Nat.{zero-add}
 use native.Mathlib.Omega.{arith}
-use borrow.Author.Tests.{lt-ltb, le-ltb}
+use borrow.Author.Tests.{le-ltb}
 use lib.ListN.{length, take, drop, length-append, take-append-drop}
 use lib.Seq.{length-take-le, drop-append-le}
-use Rattle.aff_format.specs.Answer.{Answer, accepted, refused}
+use Rattle.aff_format.specs.Answer.{Answer, accepted}
 use Rattle.aff_format.specs.Bytes.{spliced}
 use Rattle.aff_format.specs.declared.entry.Entry.{Entry}
 use Rattle.aff_format.specs.Kind.{element_size, is_void}
 use Rattle.aff_format.specs.Limits.{image_limit}
 use Rattle.aff_format.specs.declared.kind.Kind.{Kind}
 use Rattle.aff_format.specs.declared.kind.Kind.TheVariants.{Void, Char, Int, Double, Complex}
-use Rattle.aff_format.specs.declared.refusal.RefusalCode.{RefusalCode}
 use Rattle.aff_format.proofs.ClimbLaws.{absurd_bool}
 use Rattle.aff_reader.specs.Belongs.{ReaderBelongs}
 use Rattle.aff_format.specs.Recorded.{recorded_entry}
@@ -26,7 +25,7 @@ use Rattle.aff_nodes.specs.Recall.{kind_at, count_at}
 use Rattle.aff_format.specs.passes.Written.{Written, text_answer}
 use Rattle.aff_nodes.proofs.ElementLaws.{void_count}
 use Rattle.aff_nodes.proofs.SpanLaws.{data_ends}
-use Rattle.aff_format.proofs.WrittenLaws.{written_length, written_more, written_front, written_taken, text_accepted, text_refused}
+use Rattle.aff_format.proofs.WrittenLaws.{written_length, written_more, written_front, written_taken, text_accepted}
 use Rattle.aff_list.specs.Line.{kind_word, decimal, line_at}
 use Rattle.aff_list.proofs.DigitLaws.{length_decimal, decimal_whole}
 
@@ -93,12 +92,6 @@ module _ {path text o : List ℕ} {size : ℕ} {r : Answer ℕ} {q : List ℕ} (
 
   output_by : {a : Answer ℕ} → r ≡ a → q ≡ front_written a path (take size o)
   output_by e = first.output ∙ ap (λ (a : Answer ℕ). front_written a path (take size o)) e
-
-  pub after_refused : (t : RefusalCode) → r ≡ refused t → (refused t ≡ text_answer (length o) (path ++ text)) × (q ++ drop size o ≡ o)
-  after_refused t e =
-      let f = text_refused (length (take size o)) path (sym first.answer ∙ e) in
-      let l : length o < length (path ++ text) = simp length-append (omega (arith, f.1, size_is, first.left)) in
-      (ap refused f.0 ∙ rw (lt-ltb (length o) (length (path ++ text)) l), rw (output_by e) (take-append-drop size o))
 
   module _ {n : ℕ} (e : r ≡ accepted n) where
     accepted_fits : (n ≡ length path) × (length path ≤ size)

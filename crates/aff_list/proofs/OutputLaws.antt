@@ -4,7 +4,8 @@ use mathlib.Core.Logic.{⊎_elim}
 use Rattle.std.proofs.lemmas.List.{take_at}
 use Rattle.std.specs.Io.KnownBytes.{Appends, Consumes, IsAtEnd}
 use Rattle.console.specs.Part.{AppendsPart}
-use Rattle.console.proofs.Writing.{appended, part_longer, part_on}
+use Rattle.std.proofs.KnownBytes.{Appends-trans}
+use Rattle.console.proofs.Writing.{part_longer, part_on}
 use Rattle.aff_reader.specs.declared.reader.Reader.{Reader}
 use Rattle.aff_tables.proofs.OrderLaws.{split}
 use Rattle.aff_listing.specs.declared.choice.Choice.{Choice}
@@ -21,7 +22,7 @@ pub shown_more : {a b c : Option (List ℕ)} {text left more : List ℕ} (bs : L
 shown_more {a} {b} {c} {text} {left} {more} bs s w e =
     record {
       bytes = s.bytes ++ bs;
-      written = appended a b c s.bytes bs s.written w;
+      written = Appends-trans a b c s.bytes bs s.written w;
       rest = s.rest ∙ ap (λ (l : List ℕ). s.bytes ++ l) e ∙ sym (append_assoc s.bytes bs more);
     }
 
@@ -52,9 +53,6 @@ module _ {image : List ℕ} {reader : Reader} {strings entries text numbers : Li
   pub shown_first : {a b : Option (List ℕ)} → Appends a b (take used after) → Shown a b text (rows_from image reader strings entries (take lines numbers) next)
   shown_first w = record { bytes = take used after; written = w; rest = starts_text }
 
-  pub cut_first : (a b : Option (List ℕ)) → AppendsPart a b (take used after) → AppendsPart a b text
-  cut_first a b f = subst (AppendsPart a b) (sym starts_text) (part_longer a b (take used after) _ f)
-
 -- No line is left after the last.
 pub no_more : (image : List ℕ) (reader : Reader) (strings entries numbers : List ℕ) (lines next : ℕ) → lines ≤ length numbers → lines ≤ next
     → rows_from image reader strings entries (take lines numbers) next ≡ []
@@ -76,8 +74,3 @@ read_decides (Some xs) (Some ys) buffer n long inside p end =
     (λ (h : length buffer ≤ n).
     ap (printed choice) (sym (ap (take n) p ∙ take_at (take n buffer) ys n (length-take-le n buffer inside))) ∙ printed_front choice xs n (omega arith))
     (split n (length buffer))
-
-pub read_shown : (a old now : Option (List ℕ)) (choice : Choice) (part : List ℕ) → Decides a part
-    → Appends old now (printed choice part) → IfSome a (λ xs. Appends old now (printed choice xs))
-read_shown None old now choice part e w = tt
-read_shown (Some xs) old now choice part e w = subst (Appends old now) (e choice) w

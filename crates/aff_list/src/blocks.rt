@@ -86,7 +86,8 @@ pub fn begin(
 // Puts a node's line and a line feed after the first `used` bytes of a block, and returns where they end. Where they do not fit, the
 // block stays, and `used` is returned.
 fn put_row(belonging: &Belonging<'_>, node: usize, used: usize, block: &mut [u8]) -> usize
-    requires { (node ≤ belonging.now.opened.reader.nodes) × (used ≤ length block.old) }
+    requires exists { node ≤ belonging.now.opened.reader.nodes }
+    requires inside { used ≤ length block.old }
     ensures value { result ≡ end_after used (of belonging.now.opened row node) block.old }
     ensures block_after { block.new ≡ put_after used (of belonging.now.opened row node) block.old }
 {

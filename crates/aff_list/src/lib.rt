@@ -1,7 +1,6 @@
 // What the programs `list` and `listall` print of an image.
 #![tactic(auto)]
 
-pub mod decimal; // numbers in decimal digits
 pub mod line; // a node's line
 pub mod refusal_line; // the line `refused N P`
 pub mod blocks; // the text, block by block

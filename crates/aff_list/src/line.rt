@@ -7,12 +7,12 @@ ghost use Rattle.aff_format.specs.passes.Written.{Written, text_answer};
 ghost use Rattle.aff_spelling.specs.declared.spelling.Spelling.TheVariants.{Escaped};
 ghost use Rattle.aff_list.specs.Line.{kind_word, decimal, line_at, line_answer};
 
-use crate::decimal;
 use aff_format::{Kind, Refusal, bytes};
 use aff_nodes::node;
 use aff_read::paths;
 use aff_reader::{Belonging, Opened};
 use aff_spelling::Spelling;
+use itoa::Buffer;
 
 // Writes the type word between two spaces at the front of an output. Returns where they end.
 fn put_word(kind: Kind, out: &mut [u8]) -> usize
@@ -35,7 +35,8 @@ fn put_tail(kind: Kind, count: u32, out: &mut [u8]) -> usize
     ensures { Written 0 (32 ∷ (kind_word kind ++ (32 ∷ decimal 10 count))) out.old out.new result }
 {
     let end = put_word(kind, out);
-    decimal::put_decimal(count as usize, 10, end, out)
+    let mut digits = Buffer::new();
+    bytes::put_run(digits.format(count).as_bytes(), end, out)
 }
 
 // Writes a node's path, escaped, and a text after it at the front of an output: 21. The passes of the path, and one over the text.

@@ -2,7 +2,7 @@
 // say that what is written is the text of what is read (`printed`). Standard input and output say neither.
 ghost use Rattle.std.specs.Prelude.{◌≡◌, List, ℕ, ◌+◌, ◌⊎◌, ◌≤◌, ◌<◌, length, take, IfOk, IfSome, OnOk, OnErr};
 ghost use Rattle.std.specs.Io.KnownBytes.{Appends, Consumes, Keeps};
-ghost use Rattle.console.specs.Part.{AppendsPart};
+ghost use Rattle.console.specs.Part.{AppendsPart, ConsumesPart, ConsumesAtMost};
 ghost use Rattle.aff_listing.specs.declared.choice.Choice.{Choice};
 ghost use Rattle.aff_list.specs.Lister.{input_limit, printed};
 
@@ -42,6 +42,7 @@ pub fn print<W: Write>(out: &mut W, input: &[u8], choice: Choice) -> io::Result<
         strings: &strings,
         entries: &entries,
     };
+    // A loop: it goes from block to block, and counts no index.
     while next < lines {
         let filled = blocks::fill(&opened, &order[..lines], next, &mut block);
         console::text(out, &block[..filled.used])?;
@@ -57,8 +58,7 @@ fn read_input<R: Read>(input: &mut R, buffer: &mut [u8]) -> io::Result<usize>
     ensures inside { IfOk result (λ n. n ≤ length buffer.new) }
     ensures bytes { IfOk result (λ n. Consumes (R.remaining input.old) (R.remaining input.new) (take n buffer.new)) }
     ensures decides { IfOk result (λ n. IfSome (R.remaining input.old) (λ xs. (choice : Choice) → printed choice (take n buffer.new) ≡ printed choice xs)) }
-    ensures cut { OnErr result ((n : ℕ) × (n ≤ length buffer.new)
-        × Consumes (R.remaining input.old) (R.remaining input.new) (take n buffer.new)) }
+    ensures cut { OnErr result (ConsumesPart (R.remaining input.old) (R.remaining input.new) buffer.new) }
 {
     let size = console::read_full(input, buffer)?;
     Ok(size)
@@ -67,12 +67,11 @@ fn read_input<R: Read>(input: &mut R, buffer: &mut [u8]) -> io::Result<usize>
 // Reads an input and prints its text: a line for each node that the choice lists, in listing order; or the line `refused N P`; or, for an input
 // above 65,536 bytes, `too long`. After an error nothing is printed, or the first bytes of this text, but not all. Whether it succeeds or not,
 // the input has lost at most 65,537 bytes, all from its front.
-#[tactic(auto, using(crate::proofs::OutputLaws::read_shown))]
 pub fn run<R: Read, W: Write>(input: &mut R, out: &mut W, choice: Choice) -> io::Result<()>
     ensures all { OnOk result (IfSome (R.remaining input.old) (λ xs. Appends (W.contents out.old) (W.contents out.new) (printed choice xs))) }
     ensures cut { OnErr result (IfSome (R.remaining input.old) (λ xs. Keeps (W.contents out.old) (W.contents out.new)
         ⊎ AppendsPart (W.contents out.old) (W.contents out.new) (printed choice xs))) }
-    ensures reads { (bs : List ℕ) × (length bs ≤ input_limit + 1) × Consumes (R.remaining input.old) (R.remaining input.new) bs }
+    ensures reads { ConsumesAtMost (R.remaining input.old) (R.remaining input.new) (input_limit + 1) }
 {
     let mut buffer = [0u8; 65537];
     let size = read_input(input, &mut buffer)?;

@@ -4,13 +4,14 @@ use mathlib.Core.Bool.{Bool, true, false, cond}
 use mathlib.Core.List.{List, [], ◌∷◌, ◌++◌, append_assoc, append-nil}
 use mathlib.Core.Logic.{⊎_elim}
 use Prim.Native.Nat.{ℕ, zero, suc, ◌+◌, ◌≤◌, ◌<◌}
-use native.Mathlib.Nat.{le_refl, eq-or-lt_of_le}
+use native.Mathlib.Nat.{le_refl, eq-or-lt_of_le, zero-add}
 use native.Mathlib.Numerals.{add-one}
 use native.Mathlib.Omega.{arith}
 use borrow.Author.Tests.{eqb-true, eqb-false}
 use lib.Dec.{eqb}
 use lib.Seq.{take-length}
 use lib.ListN.{length, get_or, take, length-append}
+use Rattle.std.specs.List.{count_by, fold, range_with_len}
 use Rattle.aff_listing.specs.ListingOrder.{own, every, child_of, children_to, preorder, kept, kept_below}
 use Rattle.aff_listing.specs.Once.{hit, occurrences}
 use Rattle.aff_listing.proofs.OnceLaws.{hit_other, occurrences_append, cond_zero, cond_add, total, total_length, Below}
@@ -136,3 +137,16 @@ pub every_below : (m : ℕ) → kept_below every m ≡ m
 unfolding kept_below
 every_below zero = refl
 every_below (suc m) = omega (arith, every_below m)
+
+-- The count of a range, as std has it, is that count.
+counted_on : (keep : ℕ → Bool) (a m : ℕ) → fold (λ n x. n + cond (keep x) 1 0) (kept_below keep a) (range_with_len a m) ≡ kept_below keep (a + m)
+unfolding kept_below
+counted_on keep a zero = ap (kept_below keep) (let z : a ≡ a + 0 = omega arith in z)
+counted_on keep a (suc m) =
+    ap (λ (n : ℕ). fold (λ n x. n + cond (keep x) 1 0) n (range_with_len (a + 1) m)) (sym (ap (kept_below keep) (add-one a)))
+    ∙ counted_on keep (a + 1) m
+    ∙ ap (kept_below keep) (let z : a + 1 + m ≡ a + suc m = omega arith in z)
+
+pub kept_below_is : (keep : ℕ → Bool) (m : ℕ) → count_by keep (range_with_len 0 m) ≡ kept_below keep m
+unfolding kept_below
+kept_below_is keep m = counted_on keep 0 m ∙ ap (kept_below keep) (zero-add m)

@@ -1,18 +1,16 @@
 -- The nodes that a choice lists, for a record that belongs: each once, and no other number; how many they are; and how they are
 -- written. Assumes nothing.
 use mathlib.Core.Path.{◌≡◌, refl, sym, ap, ◌∙◌}
-use mathlib.Core.Bool.{Bool, false, cond}
+use mathlib.Core.Bool.{Bool, true, false, cond}
 use mathlib.Core.List.{List, [], ◌∷◌, ◌++◌}
 use mathlib.Core.Logic.{⊎_elim}
 use Prim.Native.Nat.{ℕ, ◌+◌, ◌≤◌, ◌<◌}
 use native.Mathlib.Omega.{arith}
 use lib.ListN.{length, get_or, take, drop}
-use Rattle.aff_format.specs.Recorded.{recorded_entry}
-use Rattle.aff_reader.specs.Belongs.{ReaderBelongs}
-use Rattle.aff_reader.specs.passes.Belongs.{ParentsCopied}
+use Rattle.aff_reader.specs.Belongs.{ReaderBelongs, reader_belongs}
+use Rattle.aff_reader.proofs.BelongsLaws.{belongs_record}
 use Rattle.aff_reader.specs.declared.reader.Reader.{Reader}
 use Rattle.aff_tables.proofs.OrderLaws.{split}
-use Rattle.aff_tables.specs.passes.Climb.{copied_parent as parent_in}
 use Rattle.aff_listing.specs.ListingOrder.{every, preorder, kept, is_listed, listing_order, listed_count}
 use Rattle.aff_listing.specs.Once.{occurrences}
 use Rattle.aff_nodes.specs.Recall.{parent_at}
@@ -20,9 +18,8 @@ use Rattle.aff_listing.specs.declared.choice.Choice.{Choice}
 use Rattle.aff_listing.specs.declared.choice.Choice.TheVariants.{AllNodes}
 use Rattle.aff_format.specs.passes.Written.{Written}
 use Rattle.aff_listing.proofs.KeptLaws.{preorder_kept, kept_count, kept_length, kept_none, kept_most, every_below}
-use Rattle.aff_listing.proofs.ListingLaws.{preorder_same}
 use Rattle.aff_listing.proofs.OnceLaws.{occurs, cond_zero, all_once, all_only}
-use Rattle.aff_format.proofs.WrittenLaws.{written_same, written_length, written_front, written_taken}
+use Rattle.aff_format.proofs.WrittenLaws.{written_same, written_front, written_taken}
 
 module _ {image : List ℕ} {reader : Reader} {strings entries : List ℕ} (b : ReaderBelongs image reader strings entries) (choice : Choice) where
   abbrev keep : ℕ → Bool
@@ -76,21 +73,6 @@ module _ {image : List ℕ} {reader : Reader} {strings entries : List ℕ} (b : 
   pub all_length : length all ≡ reader.nodes + 1
   all_length = order_length b AllNodes ∙ every_below (reader.nodes + 1)
 
-  module _ {parents : List ℕ} (copied : ParentsCopied (recorded_entry image entries) reader.nodes parents) where
-    abbrev made : List ℕ
-    made = preorder every (parent_in parents) (reader.nodes + 1) (reader.nodes + 1) 0
-
-    made_all : made ≡ all
-    made_all =
-        preorder_same (parent_in parents) (parent_at image entries) every every (reader.nodes + 1) (λ k z h. copied.parent k z (omega arith)) (λ k h. refl) (reader.nodes + 1) 0
-        (omega arith)
-
-    pub all_fits : (o : List ℕ) → length o ≡ 2049 → 0 + length made ≤ length o
-    all_fits o h = omega (arith, ap length made_all, all_length, b.few_nodes)
-
-    pub all_written : {o p : List ℕ} {end : ℕ} → length o ≡ 2049 → Written 0 made o p end → Written 0 all o p end × (length p ≡ 2049)
-    all_written {o} h w = (written_same made_all w, written_length w (all_fits o h) ∙ h)
-
   module _ (choice : Choice) {o p : List ℕ} {count : ℕ} (w : Written 0 all o p count) where
     pub all_few : length p ≡ 2049 → count ≤ length p
     all_few h = omega (arith, w.ends, all_length, b.few_nodes)
@@ -105,3 +87,8 @@ module _ {image : List ℕ} {reader : Reader} {strings entries : List ℕ} (b : 
     pub listed_written : {out q : List ℕ} {end : ℕ} → Written 0 (kept (is_listed image entries choice) (take count p)) out q end
         → (end ≡ listed_count image reader strings entries choice) × (q ≡ listing_order image reader strings entries choice ++ drop (length (listing_order image reader strings entries choice)) out)
     listed_written v = let f = written_front (written_same listed_kept v) in (f.0 ∙ order_length b choice, f.1)
+
+-- By the test itself, for an attribute to name: a table of 2,049 numbers has space for the order of all nodes.
+pub all_fits : (image : List ℕ) (reader : Reader) (strings entries : List ℕ) → reader_belongs image reader strings entries ≡ true
+    → length (preorder every (parent_at image entries) (reader.nodes + 1) (reader.nodes + 1) 0) ≤ 2049
+all_fits image reader strings entries belongs = let b = belongs_record belongs in omega (arith, all_length b, b.few_nodes)

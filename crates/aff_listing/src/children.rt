@@ -1,29 +1,35 @@
-// Each node's children in number order, by two tables: the lowest child of each node, and the next sibling of each.
-ghost use Rattle.std.specs.Prelude.{◌+◌, ◌≤◌, ◌<◌, length};
-ghost use Rattle.aff_format.specs.Limits.{node_limit};
-ghost use Rattle.aff_tables.specs.passes.Climb.{copied_parent as parent_in};
-ghost use Rattle.aff_listing.specs.passes.Children.{ChildTables, ParentsWithin};
+// The children of each node of a record that belongs, in number order.
+ghost use Rattle.std.specs.Prelude.{◌+◌, ◌≤◌, ◌<◌};
+ghost use Rattle.aff_listing.specs.passes.Children.{ChildTables, NextChild, parent_of};
 
-use aff_format::recorded;
+use crate::links::Links;
+use aff_reader::Belonging;
 
-// Puts node k before the children of its parent that have higher numbers.
-fn link(parents: &[u32], nodes: usize, k: usize, first: &mut [u32], next: &mut [u32])
-    requires node_exists { (0 < k) × (k ≤ nodes) × (nodes ≤ node_limit) × ParentsWithin (parent_in parents.now) nodes }
-    requires tables { (nodes < length first.old) × (nodes < length next.old) × ChildTables (parent_in parents.now) nodes (k + 1) first.old next.old }
-    ensures { ChildTables (parent_in parents.now) nodes k first.new next.new }
-{
-    let p = recorded::place(parents, k);
-    next[k] = first[p];
-    first[p] = k as u32;
+// A record that belongs, and the links of all its nodes.
+#[derive(Clone, Copy, Debug, PartialEq, Eq)]
+pub struct Children<'a> {
+    pub belonging: Belonging<'a>,
+    pub links: &'a [Links; 2049],
+    pub ghost tables: { ChildTables (parent_of belonging.opened) belonging.opened.reader.nodes 1 links.now },
 }
 
-// Makes both tables, nodes + 1 where there is no child or sibling. From the highest number down, two stores a node.
-pub fn link_all(parents: &[u32], nodes: usize, first: &mut [u32], next: &mut [u32])
-    requires { (nodes ≤ node_limit) × (nodes < length first.old) × (nodes < length next.old) × ParentsWithin (parent_in parents.now) nodes }
-    ensures { ChildTables (parent_in parents.now) nodes 1 first.new next.new }
-{
-    first.fill(nodes as u32 + 1);
-    for k in (1..=nodes).rev() {
-        link(parents, nodes, k, first, next);
+impl Children<'_> {
+    // The lowest child of a node; nodes + 1 where there is none.
+    #[tactic(auto, using(aff_reader::proofs::BelongsLaws::nodes_few))]
+    pub fn first(&self, node: usize) -> usize
+        requires { node ≤ self.now.belonging.opened.reader.nodes }
+        ensures { NextChild (parent_of self.now.belonging.opened) self.now.belonging.opened.reader.nodes node 1 result }
+    {
+        self.links[node].first as usize
+    }
+
+    // The next child of the parent of node k; nodes + 1 where there is none.
+    #[tactic(auto, using(aff_reader::proofs::BelongsLaws::nodes_few))]
+    pub fn after(&self, k: usize) -> usize
+        requires some { 0 < k }
+        requires exists { k ≤ self.now.belonging.opened.reader.nodes }
+        ensures { NextChild (parent_of self.now.belonging.opened) self.now.belonging.opened.reader.nodes (parent_of self.now.belonging.opened k) (k + 1) result }
+    {
+        self.links[k].next as usize
     }
 }

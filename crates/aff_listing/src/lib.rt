@@ -3,6 +3,7 @@
 #![tactic(auto)]
 
 pub mod choice; // which nodes a listing has
+mod links; // the lowest child and the next sibling of each node
 mod children; // the children of each node in number order
 pub mod listing; // listing order
 

@@ -1,21 +1,20 @@
 // Listing order: the nodes that a choice lists; each node before its children, and these in number order, each followed by its whole subtree.
-ghost use Rattle.std.specs.Prelude.{◌≡◌, [], ◌∷◌, ◌+◌, ◌≤◌, ◌<◌, length, take};
+ghost use Rattle.std.specs.Prelude.{◌≡◌, [], ◌∷◌, ◌+◌, ◌≤◌, ◌<◌, count_by, length, take};
+ghost use Rattle.std.specs.List.{range_with_len};
 ghost use Rattle.aff_format.specs.Answer.{accepted};
-ghost use Rattle.aff_format.specs.Limits.{node_limit};
-ghost use Rattle.aff_reader.specs.Opened.{of, opened_entry};
-ghost use Rattle.aff_reader.specs.passes.Belongs.{ParentsCopied};
-ghost use Rattle.aff_tables.specs.passes.Climb.{copied_parent as parent_in};
+ghost use Rattle.aff_reader.specs.Opened.{of};
 ghost use Rattle.aff_format.specs.Verdict.{answer_of};
 ghost use Rattle.aff_read.specs.Paths.{front_written};
-ghost use Rattle.aff_listing.specs.ListingOrder.{own, every, children_to, preorder, kept, kept_below, listing_order, listed_count, listing_answer};
+ghost use Rattle.aff_listing.specs.ListingOrder.{own, kept, kept_below, listing_order, listed_count, listing_answer};
 ghost use Rattle.aff_listing.specs.declared.choice.Choice.TheVariants.{AllNodes};
-ghost use Rattle.aff_listing.specs.passes.Children.{ChildTables};
+ghost use Rattle.aff_listing.specs.passes.Children.{subtree, subtrees};
 ghost use Rattle.aff_listing.specs.passes.Listed.{listed};
 ghost use Rattle.aff_format.specs.passes.Written.{Written};
 
-use crate::children;
+use crate::children::Children;
 use crate::choice::Choice;
-use aff_format::{Refusal, recorded};
+use crate::links::{self, Links};
+use aff_format::Refusal;
 use aff_reader::{Belonging, Opened};
 
 // Whether a choice lists a node.
@@ -25,32 +24,28 @@ fn is_listed(belonging: &Belonging<'_>, choice: Choice, node: usize) -> bool
     choice.lists(belonging.entry(node).kind)
 }
 
-// How many nodes a choice lists. One pass over the nodes.
-#[tactic(auto, unfolding(crate::specs::ListingOrder::kept_below))]
+// How many of the nodes numbered below `end` a choice lists. One pass over them.
+fn listed_below(belonging: &Belonging<'_>, choice: Choice, end: usize) -> usize
+    ensures { result ≡ count_by (listed belonging.now.opened choice) (range_with_len 0 end) }
+{
+    (0..end)
+        .filter(|&node| is_listed(belonging, choice, node))
+        .count()
+}
+
+// How many nodes a choice lists.
+#[tactic(auto, using(aff_reader::proofs::BelongsLaws::nodes_few, crate::proofs::KeptLaws::kept_below_is))]
 fn count_listed(belonging: &Belonging<'_>, choice: Choice) -> usize
     ensures { result ≡ of belonging.now.opened listed_count choice }
 {
-    let mut count = 0;
-    for node in 0..=belonging.opened.reader.nodes {
-        count += is_listed(belonging, choice, node) as usize;
-    }
-    count
-}
-
-// Copies the parents of the nodes. One pass over the nodes.
-fn copy_parents(belonging: &Belonging<'_>, parents: &mut [u32])
-    requires { belonging.now.opened.reader.nodes < length parents.old }
-    ensures { ParentsCopied (opened_entry belonging.now.opened) belonging.now.opened.reader.nodes parents.new }
-{
-    for k in 1..=belonging.opened.reader.nodes {
-        parents[k] = belonging.parent(k) as u32;
-    }
+    listed_below(belonging, choice, belonging.opened.reader.nodes + 1)
 }
 
 // Stores a node's number, and returns the place after it.
 #[tactic(auto, using(aff_format::proofs::WrittenLaws::written_one))]
 fn put_number(node: usize, at: usize, out: &mut [u32]) -> usize
-    requires { (node < 4294967296) × (at < length out.old) }
+    requires narrow { node < 4294967296 }
+    requires space { at < length out.old }
     ensures { Written at (node ∷ []) out.old out.new result }
 {
     out[at] = node as u32;
@@ -58,69 +53,64 @@ fn put_number(node: usize, at: usize, out: &mut [u32]) -> usize
 }
 
 // Stores a node and its subtree from a place on, at most `depth` levels, and returns where they end. It calls the loop over the node's children, which
-// calls it for each of them: remaining depth and children fall. The parents are passed for the contract: the tables are of them.
+// calls it for each of them: remaining depth and children fall.
 #[cycle(list_children_list_node)]
-#[tactic(auto, using(crate::proofs::ListingLaws::preorder_ended, crate::proofs::ListingLaws::below_fits, aff_format::proofs::WrittenLaws::written_none))]
+#[tactic(auto, using(aff_reader::proofs::BelongsLaws::nodes_few, crate::proofs::ListingLaws::preorder_ended, crate::proofs::ListingLaws::below_fits, aff_format::proofs::WrittenLaws::written_none))]
 fn list_node(
-    parents: &[u32; 2049],
-    first: &[u32; 2049],
-    next: &[u32; 2049],
-    nodes: usize,
+    children: &Children<'_>,
     node: usize,
     depth: usize,
     at: usize,
     order: &mut [u32; 2049],
 ) -> usize
-    requires tables { (nodes ≤ node_limit) × (node ≤ nodes) × ChildTables (parent_in parents.now) nodes 1 first.now next.now }
-    requires fits { at + length (preorder every (parent_in parents.now) (nodes + 1) depth node) ≤ length order.old }
-    ensures { Written at (preorder every (parent_in parents.now) (nodes + 1) depth node) order.old order.new result }
+    requires node_exists { node ≤ children.now.belonging.opened.reader.nodes }
+    requires fits { at + length (subtree children.now.belonging.opened depth node) ≤ length order.old }
+    ensures { Written at (subtree children.now.belonging.opened depth node) order.old order.new result }
 {
     if depth == 0 {
         return at;
     }
     let end = put_number(node, at, order);
-    list_children(parents, first, next, nodes, node, depth - 1, end, order)
+    list_children(children, node, depth - 1, end, order)
 }
 
 // Stores the subtrees of a node's children, in number order. One step a child, besides the subtrees.
 #[cycle(list_children_list_node)]
-#[tactic(auto, using(crate::proofs::ListingLaws::sibling_fits))]
 fn list_children(
-    parents: &[u32; 2049],
-    first: &[u32; 2049],
-    next: &[u32; 2049],
-    nodes: usize,
+    children: &Children<'_>,
     node: usize,
     depth: usize,
     at: usize,
     order: &mut [u32; 2049],
 ) -> usize
-    requires tables { (nodes ≤ node_limit) × (node ≤ nodes) × ChildTables (parent_in parents.now) nodes 1 first.now next.now }
-    requires fits { at + length (children_to (preorder every (parent_in parents.now) (nodes + 1) depth) (parent_in parents.now) node (nodes + 1)) ≤ length order.old }
-    ensures { Written at (children_to (preorder every (parent_in parents.now) (nodes + 1) depth) (parent_in parents.now) node (nodes + 1)) order.old order.new result }
+    requires node_exists { node ≤ children.now.belonging.opened.reader.nodes }
+    requires fits { at + length (subtrees children.now.belonging.opened depth node (children.now.belonging.opened.reader.nodes + 1)) ≤ length order.old }
+    ensures { Written at (subtrees children.now.belonging.opened depth node (children.now.belonging.opened.reader.nodes + 1)) order.old order.new result }
 {
+    let nodes = children.belonging.opened.reader.nodes;
     let mut end = at;
-    let mut k = recorded::place(first, node);
+    let mut k = children.first(node);
     // It follows siblings and counts no index, so no `for` fits.
     while k <= nodes {
-        end = list_node(parents, first, next, nodes, k, depth, end, order);
-        k = recorded::place(next, k);
+        end = list_node(children, k, depth, end, order);
+        k = children.after(k);
     }
     end
 }
 
-// Makes the order of all nodes by tables made once. Returns how many they are.
+// Makes the order of all nodes by links made once. Returns how many they are.
+#[tactic(auto, using(crate::proofs::ListedLaws::all_fits))]
 fn full_order(belonging: &Belonging<'_>, order: &mut [u32; 2049]) -> usize
-    requires { length order.old ≡ 2049 }
-    ensures { Written 0 (of belonging.now.opened listing_order AllNodes) order.old order.new result × (length order.new ≡ 2049) }
+    ensures { Written 0 (of belonging.now.opened listing_order AllNodes) order.old order.new result }
 {
     let nodes = belonging.opened.reader.nodes;
-    let mut parents = [0u32; 2049];
-    copy_parents(belonging, &mut parents);
-    let mut first = [0u32; 2049];
-    let mut next = [0u32; 2049];
-    children::link_all(&parents, nodes, &mut first, &mut next);
-    list_node(&parents, &first, &next, nodes, 0, nodes + 1, 0, order)
+    let mut links = [Links::default(); 2049];
+    links::link_all(belonging, &mut links);
+    let children = Children {
+        belonging: *belonging,
+        links: &links,
+    };
+    list_node(&children, 0, nodes + 1, 0, order)
 }
 
 // Stores a number where the choice lists that node, and returns the place after it.
@@ -163,7 +153,7 @@ fn put_all_listed(
 
 // Writes the nodes that a choice lists, in listing order, at the front of an output with a place for each. Returns how many they are. A few passes over the
 // nodes: the order of all nodes is made in a table, then those listed are stored. Recursion depth is the number of levels of the tree, at most 2,049, and
-// a level takes 64 bytes as compiled for x86-64: with four tables of 8,196 bytes about 164,000 bytes of stack.
+// a level takes 48 bytes as compiled for x86-64: with an order of 8,196 bytes and links of 16,392 about 123,500 bytes of stack.
 pub fn listing_of(belonging: &Belonging<'_>, choice: Choice, out: &mut [u32]) -> usize
     requires { of belonging.now.opened listed_count choice ≤ length out.old }
     ensures answer { result ≡ of belonging.now.opened listed_count choice }

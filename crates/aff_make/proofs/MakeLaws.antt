@@ -1,9 +1,9 @@
 -- Make a child, in the terms of its code: whether a name is new, what 20 and 21 ask, what an accepted make leaves, and which marks report
 -- a child of that name. Assumes nothing.
 use mathlib.Core.Path.{◌≡◌, ap, subst, ◌∙◌}
-use mathlib.Core.Bool.{Bool, true, false, cond, ◌&&◌}
+use mathlib.Core.Bool.{Bool, true, false, ◌&&◌}
 use mathlib.Core.List.{List, [], ◌∷◌, ◌++◌}
-use Prim.Native.Nat.{ℕ, ◌+◌, ◌-◌, ◌≤◌, ◌<◌}
+use Prim.Native.Nat.{ℕ, ◌+◌, ◌≤◌, ◌<◌}
 use native.Mathlib.Omega.{arith}
 use lib.Dec.{eqb, ltb}
 use lib.ListN.{length, get_or}
@@ -16,18 +16,17 @@ use Rattle.aff_format.specs.Strings.{is_in, index_in}
 use Rattle.aff_format.specs.declared.kind.Kind.TheVariants.{Void}
 use Rattle.aff_format.proofs.LowestLaws.{lowest_same}
 use Rattle.aff_format.proofs.StringsLaws.{is_in_index_in, index_in_within}
-use Rattle.aff_format.proofs.TestLaws.{or_false, left_short}
+use Rattle.aff_format.proofs.TestLaws.{or_false}
 use Rattle.aff_format.proofs.LaidLaws.{laid_at}
 use Rattle.aff_areas.specs.Areas.{names_in, slot_at, slot_entry}
-use Rattle.aff_areas.specs.Belongs.{WriterBelongs}
+use Rattle.aff_format.specs.Answer.{accepted, refused, first_wrong}
+use Rattle.aff_format.specs.declared.refusal.RefusalCode.{RefusalCode}
+use Rattle.aff_areas.specs.Belongs.{WriterBelongs, writer_checks}
+use Rattle.aff_areas.proofs.BelongsLaws.{judge_refuses, judge_leaves}
 use Rattle.aff_areas.specs.passes.Marks.{marks_of, is_marked}
 use Rattle.aff_areas.specs.declared.writer.Writer.{Writer}
 use Rattle.aff_areas.proofs.NameLaws.{mark_at, marks_many}
-use Rattle.aff_make.specs.Make.{added_strings, added_text, too_many, made_text, made_tree, is_child, child_exists}
-
--- 21, by the size and the text that the code has.
-pub buffer_short : (a s k : ℕ) {size added : ℕ} → s ≤ a → size ≡ s → added ≡ k → ltb (a - size) (13 + added) ≡ ltb a (s + 13 + k)
-buffer_short a s k h p q = let e : s + (13 + k) ≡ s + 13 + k = omega arith in rw (p, q) (left_short a s (13 + k) h ∙ ap (ltb a) e)
+use Rattle.aff_make.specs.Make.{added_strings, added_text, too_many, made_text, made_tree, is_child, child_exists, child_checks, make_answer}
 
 -- A name is new where no string is it.
 module _ (writer : Writer) (text name : List ℕ) (string : ℕ) (is : string ≡ index_in name (names_in writer text))
@@ -46,35 +45,6 @@ module _ (writer : Writer) (text name : List ℕ) (string : ℕ) (is : string �
 
   pub added_new : writer.strings ≤ string → length name + 1 ≡ added_text writer text name
   added_new h = rw (is_new h)
-
-  -- 20.
-  pub many_nodes : writer.nodes ≡ node_limit → true ≡ too_many writer text name
-  unfolding too_many
-  many_nodes e = rw (lt-ltb node_limit (writer.nodes + 1) (omega arith))
-
-  module _ (nodes : writer.nodes ≤ node_limit) (full : writer.nodes ≡ node_limit → ⊥) where
-    few : ltb node_limit (writer.nodes + 1) ≡ false
-    few = le-ltb node_limit (writer.nodes + 1) (omega arith)
-
-    pub many_old : writer.strings ≤ string_limit → writer.text ≤ text_area → string < writer.strings → false ≡ too_many writer text name
-    unfolding too_many
-    many_old s t h = rw (few, is_old h, le-ltb string_limit (writer.strings + 0) (omega arith), le-ltb text_area (writer.text + 0) (omega arith))
-
-    pub many_strings : writer.strings ≤ string → writer.strings ≡ string_limit → true ≡ too_many writer text name
-    unfolding too_many
-    many_strings h e = rw (few, is_new h, lt-ltb string_limit (writer.strings + 1) (omega arith))
-
-    pub many_text : writer.strings ≤ string_limit → writer.text ≤ text_area → writer.strings ≤ string → (writer.strings ≡ string_limit → ⊥)
-        → ltb (text_area - writer.text) (length name + 1) ≡ too_many writer text name
-    unfolding too_many
-    many_text s t h n = rw (few, is_new h, le-ltb string_limit (writer.strings + 1) (omega arith)) (left_short text_area writer.text (length name + 1) t)
-
-pub added_most : (writer : Writer) (text name : List ℕ) → added_text writer text name ≤ length name + 1
-added_most writer text name = go (is_in name (names_in writer text))
-  where
-    go : (b : Bool) → cond b 0 (length name + 1) ≤ length name + 1
-    go true = omega arith
-    go false = omega arith
 
 pub not_many : (writer : Writer) (text name : List ℕ) → too_many writer text name ≡ false
     → (writer.nodes + 1 ≤ node_limit) × (writer.strings + added_strings writer text name ≤ string_limit) × (writer.text + added_text writer text name ≤ text_area)
@@ -120,3 +90,14 @@ module _ {size : ℕ} {writer : Writer} {text tree : List ℕ} (b : WriterBelong
   unfolding child_exists
   marks_children parent =
       ap is_at (lowest_same (is_marked marks tree parent) (is_child writer text tree parent name) writer.nodes 1 (λ j lo hi. marked_child parent j (omega arith) (omega arith)))
+
+-- What `judge` refuses (24, 22) is the call's refusal; else the call's other checks decide.
+module _ (size : ℕ) (writer : Writer) (text tree : List ℕ) (parent : ℕ) (name : List ℕ) {A : Type 0} (a : A) where
+  pub judge_stops : {t : RefusalCode} → refused t ≡ first_wrong (writer_checks size writer text tree) a → refused t ≡ make_answer size writer text tree parent name
+  unfolding make_answer
+  judge_stops h = judge_refuses size writer text tree a h (child_checks writer text tree parent name) (writer.nodes + 1)
+
+  pub judge_passes : {b : A} → accepted b ≡ first_wrong (writer_checks size writer text tree) a
+      → first_wrong (child_checks writer text tree parent name) (writer.nodes + 1) ≡ make_answer size writer text tree parent name
+  unfolding make_answer
+  judge_passes h = judge_leaves size writer text tree a h (child_checks writer text tree parent name) (writer.nodes + 1)

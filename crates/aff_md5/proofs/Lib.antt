@@ -2,7 +2,6 @@
 pub mod DigestLaws
 pub mod Copying
 pub mod Examples
-mod Table
 mod StepTables
 mod Steps
 mod Blocks

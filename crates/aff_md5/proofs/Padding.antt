@@ -1,9 +1,10 @@
 -- A padded message: its length, its last bytes, and its whole blocks before them. Assumes nothing.
-use Rattle.std.proofs.Common.{◌≡◌, ℕ, ◌+◌, ◌-◌, ◌*◌, ◌/◌, ◌%◌, ◌<◌, ◌≤◌, List, ◌∷◌, ◌++◌, length, take, drop, set, replicate, ap, ◌∙◌, append_assoc, arith, length-append, length-drop, take-append-drop, take_all, sym, suc, refl, zero-add}
+use Rattle.std.proofs.Common.{◌≡◌, ℕ, ◌+◌, ◌-◌, ◌*◌, ◌/◌, ◌%◌, ◌^◌, ◌<◌, ◌≤◌, List, ◌∷◌, ◌++◌, length, take, drop, set, replicate, ap, ◌∙◌, append_assoc, arith, length-append, length-drop, take-append-drop, take_all, sym, suc, refl, zero-add}
 use lib.ListN.{length-replicate, replicate-append-replicate}
 use lib.Seq.{take_at, set_at}
 use Rattle.std.proofs.lemmas.List.{drop-replicate}
-use Rattle.aff_md5.specs.Md5.{le, padding, pad, zeros}
+use Rattle.aff_md5.specs.declared.State.{State}
+use Rattle.aff_md5.specs.Md5.{le, padding, pad, zeros, start, all_blocks, output, md5}
 use Rattle.aff_md5.proofs.Writing.{le_length}
 
 -- the length of a padded list
@@ -53,3 +54,10 @@ padded_whole m s r bits j e hj hs he hr =
     let q : s ≡ drop (64 * j) m = hs ∙ take_all (length m - 64 * j) (drop (64 * j) m) t in
     let n : length (pad (drop (64 * j) m) bits) ≡ e = rw (pad_length, length-drop, d, he) (omega arith) in
     ap (λ l. take (64 * j) m ++ l) (rw (q, n) at hr) ∙ pad_whole m bits j hj
+
+-- the digest from its parts: s and r as before, v the state after all blocks, and o its bytes
+pub digested : (m s r o : List ℕ) (bits j e : ℕ) (v : State) → bits ≡ length m * 8 % 2 ^ 64 → j ≡ length m / 64
+    → s ≡ take (length m - 64 * j) (drop (64 * j) m) → e ≡ length m % 64 + 1 + zeros (length m % 64) + 8
+    → take (length (pad s bits)) r ≡ pad s bits → v ≡ all_blocks start (take (64 * j) m ++ take e r) → o ≡ output v → o ≡ md5 m
+unfolding md5
+digested m s r o bits j e v hb hj hs he hr hv ho = rw (ho, hv, padded_whole m s r bits j e hj hs he hr, hb)

@@ -1,8 +1,6 @@
 -- The bytes of a number, the low byte first, and a list written over a part of another. Assumes nothing.
 use Rattle.std.proofs.Common.{◌≡◌, ℕ, zero, suc, ◌+◌, ◌/◌, ◌≤◌, List, ◌++◌, length, take, drop, refl, ap, append_assoc, arith, length-append, length-take}
 use Rattle.std.specs.Int.{w32, w64, to_le_bytes}
-use Rattle.std.proofs.lemmas.List.{drop-drop}
-use borrow.Rule.Slice.PartMut.{put_mid}
 use lib.Seq.{take_at}
 use native.Mathlib.Nat.{div-div-eq-div-mul}
 use Rattle.aff_md5.specs.Md5.{le}
@@ -21,10 +19,7 @@ pub le_bytes_eight : (x : ℕ) → to_le_bytes w64 x ≡ le 8 x
 unfolding le
 le_bytes_eight x = simp div-div-eq-div-mul
 
--- a part of a list written over
-pub put_mid_over : (at k : ℕ) (s b : List ℕ) → k ≡ length s → put_mid at k b s ≡ take at b ++ (s ++ drop (at + length s) b)
-put_mid_over at k s b e = rw e (ap (λ z. take at b ++ (s ++ z)) (drop-drop (length s) at b))
-
+-- the front of a list that is written over in the middle
 pub put_front : (at n : ℕ) (s b p : List ℕ) → at + length s ≤ length b → length s ≡ n → p ≡ take at b ++ (s ++ drop (at + length s) b)
     → take (at + n) p ≡ take at b ++ s
 put_front at n s b p h l e =

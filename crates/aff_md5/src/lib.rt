@@ -15,6 +15,7 @@ struct State {
 }
 
 // The three tables of the 64 steps, by step number.
+// Not one of structs: RFC 1321 and its definition here have a list each (`additive`, `shifts`, `word_order`).
 
 // The additive constants.
 static T: [u32; 64] = [
@@ -45,7 +46,6 @@ static WORDS: [u8; 64] = *b"\
 // ---- Bytes.
 
 // Writes s into b from index `at` on. A function of its own, so that one contract says what `copy_from_slice` leaves at a part of an array.
-#[tactic(auto, using(crate::proofs::Writing::put_mid_over))]
 fn put(b: &mut [u8], at: usize, s: &[u8])
     requires { at + length s.now ≤ length b.old }
     ensures { b.new ≡ take at b.old ++ (s.now ++ drop (at + length s.now) b.old) }
@@ -110,7 +110,6 @@ fn mix(i: usize, x: u32, y: u32, z: u32) -> u32
 
 // v after step i on the block m. The word and the constant are read before `mix`: so ordered, the compiler adds the word to v.a beside
 // the computation of `mix` and not after it.
-#[tactic(auto, unfolding(crate::specs::Md5::step))]
 fn step(v: State, m: &[u8], i: usize) -> State
     requires block { length m.now ≡ 64 }
     requires index { i < 64 }

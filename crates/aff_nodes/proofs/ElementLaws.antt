@@ -1,5 +1,5 @@
 -- The decoding of a node's data counts its elements as the entry does. Assumes nothing.
-use mathlib.Core.Path.{◌≡◌, refl, sym, ◌∙◌}
+use mathlib.Core.Path.{◌≡◌, refl, sym, ap, ◌∙◌}
 use mathlib.Core.Bool.{Bool, true, false}
 use mathlib.Core.List.{List, [], ◌∷◌}
 use Prim.Native.Nat.{ℕ, ◌-◌, ◌*◌, ◌≤◌, ◌<◌}
@@ -8,6 +8,7 @@ use lib.Dec.{leb}
 use lib.ListN.{length, get_or, drop}
 use mathlib.Core.Logic.{⊎_elim}
 use Rattle.aff_format.proofs.ClimbLaws.{at_zero}
+use Rattle.aff_format.proofs.AnswerLaws.{passed_value, passed_before}
 use Rattle.aff_format.proofs.EntryLaws.{whole_void_count}
 use Rattle.aff_format.specs.Answer.{accepted, check, refusal, first_wrong}
 use Rattle.aff_format.specs.Element.{count_in, element_at, decoded}
@@ -16,14 +17,13 @@ use Rattle.aff_format.specs.declared.kind.Kind.{Kind}
 use Rattle.aff_format.specs.declared.kind.Kind.TheVariants.{Void, Char, Int, Double, Complex}
 use Rattle.aff_format.proofs.BytesLaws.{length_part}
 use Rattle.aff_format.proofs.KindLaws.{count_in_void}
-use Rattle.aff_reader.specs.Belongs.{ReaderBelongs, reader_belongs}
+use Rattle.aff_reader.specs.Belongs.{ReaderBelongs}
 use Rattle.aff_reader.specs.Opened.{of}
 use Rattle.aff_reader.specs.declared.opened.Opened.{Opened}
-use Rattle.aff_reader.proofs.BelongsLaws.{belongs_record}
 use Rattle.aff_format.specs.Recorded.{recorded_entry}
 use Rattle.aff_reader.specs.declared.reader.Reader.{Reader}
 use Rattle.aff_nodes.specs.Answers.{exists_checks, element_answer}
-use Rattle.aff_nodes.proofs.JudgeLaws.{judged_same, judged_exists, judged_leaves}
+use Rattle.aff_nodes.proofs.JudgeLaws.{judge_belongs}
 use Rattle.aff_nodes.specs.Recall.{kind_at, count_at, data_span, bytes_at}
 use Rattle.aff_nodes.proofs.SpanLaws.{data_ends}
 
@@ -57,11 +57,13 @@ module _ {image : List ℕ} {reader : Reader} {strings entries : List ℕ} (b : 
   element_decoded index = rw count_in_lem
 
 -- What is decoded of a judged record is the call's answer.
-pub element_judged : (o b : Opened) (node index : ℕ) → accepted b ≡ first_wrong (of o exists_checks node) o → of b reader_belongs ≡ true
+pub element_judged : (o b : Opened) (node index : ℕ) → accepted b ≡ first_wrong (of o exists_checks node) o
     → decoded (kind_at b.image.now b.entries.now node) (bytes_at b.image.now b.entries.now node) index ≡ of o element_answer node index
 unfolding element_answer
-element_judged o b node index j h =
-    element_decoded (belongs_record h) node (judged_exists o b node j) index
-    ∙ rw (judged_same o b node j)
-    (judged_leaves o b node j (check (leb (count_at o.image.now o.entries.now node) index) (refusal 16) ∷ [])
-    (element_at (kind_at o.image.now o.entries.now node) (bytes_at o.image.now o.entries.now node) index))
+element_judged o b node index j =
+    let (belongs, exists) = judge_belongs o.image.now o.reader o.strings.now o.entries.now node o j in
+    let same : o ≡ b = passed_value (of o exists_checks node) o (sym j) in
+    ap (λ (x : Opened). decoded (kind_at x.image.now x.entries.now node) (bytes_at x.image.now x.entries.now node) index) (sym same)
+    ∙ element_decoded belongs node exists index
+    ∙ sym (passed_before (of o exists_checks node) (check (leb (count_at o.image.now o.entries.now node) index) (refusal 16) ∷ []) o
+    (element_at (kind_at o.image.now o.entries.now node) (bytes_at o.image.now o.entries.now node) index) (sym j))

@@ -2,22 +2,22 @@
 use mathlib.Core.Path.{◌≡◌, refl, sym, ap, ◌∙◌}
 use mathlib.Core.Bool.{Bool, true, false, cond}
 use mathlib.Core.List.{List, []}
-use Prim.Native.Nat.{ℕ, ◌+◌, ◌-◌, ◌*◌, ◌^◌, ◌≤◌, ◌<◌}
+use Prim.Native.Nat.{ℕ, ◌+◌, ◌-◌, ◌*◌, ◌≤◌, ◌<◌}
 use native.Mathlib.Omega.{arith}
 use lib.Dec.{eqb}
-use lib.ListN.{length, get_or}
+use lib.ListN.{length, get_or, take, drop}
 use borrow.Author.Tests.{eq-eqb, ne_eqb}
 use mathlib.Core.Logic.{⊎_elim}
 use Rattle.aff_format.proofs.ClimbLaws.{absurd_bool, at_zero}
 use Rattle.aff_format.specs.Recorded.{name_from, recorded_entry}
-use Rattle.aff_reader.proofs.BelongsLaws.{string_within}
+use Rattle.aff_reader.proofs.BelongsLaws.{belongs_record, string_within}
 use Rattle.aff_format.specs.Bytes.{Octets, part}
 use Rattle.aff_format.specs.Strings.{up_to_zero}
 use Rattle.aff_format.proofs.BytesLaws.{octets_nil, octets_take, octets_part}
 use Rattle.aff_format.proofs.StringsLaws.{take_up_to_zero}
 use Rattle.aff_format.specs.Kind.{element_size, is_void}
 use Rattle.aff_format.specs.declared.entry.Entry.{Entry}
-use Rattle.aff_reader.specs.Belongs.{ReaderBelongs}
+use Rattle.aff_reader.specs.Belongs.{ReaderBelongs, reader_belongs}
 use Rattle.aff_reader.specs.Reader.{no_span}
 use Rattle.aff_reader.specs.declared.reader.Span.{Span}
 use Rattle.aff_reader.specs.declared.reader.Reader.{Reader}
@@ -62,12 +62,6 @@ module _ {image : List ℕ} {reader : Reader} {strings entries : List ℕ} (b : 
       → (recorded_entry image entries node).offset + (recorded_entry image entries node).count * element_size (recorded_entry image entries node).kind ≤ length image
   data_ends v = b.node_data node (not_root v) there v
 
-  pub full_fits : (e : Entry) → e ≡ recorded_entry image entries node → is_void e.kind ≡ false → (size : ℕ) → size ≡ element_size e.kind → e.count * size < 2 ^ 64
-  full_fits e is v size h =
-      let q = data_ends (ap (λ (x : Entry). is_void x.kind) (sym is) ∙ v) in
-      let r : e.count * size ≤ length image = rw (h, is) (omega (arith, q)) in
-      omega (arith, b.length_recorded, b.length_allowed)
-
   pub data_within : (data_span image entries node).offset + (data_span image entries node).size ≤ length image
   unfolding data_span
   data_within = go (is_void (recorded_entry image entries node).kind) refl
@@ -89,15 +83,22 @@ module _ {image : List ℕ} {reader : Reader} {strings entries : List ℕ} (b : 
       rw (ne_eqb node 0 (λ q. omega arith)) (omega (arith, w, b.symbols_inside)))
       (at_zero (λ k. k) node)
 
+-- The same by the test itself, for an attribute to name.
+module _ (image : List ℕ) (reader : Reader) (strings entries : List ℕ) (belongs : reader_belongs image reader strings entries ≡ true) (node : ℕ) (there : node ≤ reader.nodes) where
+  pub name_begins : 0 < node → get_or strings (recorded_entry image entries node).string 0 ≤ symbols_end reader
+  name_begins = name_from_lem (belongs_record belongs) node there
+
+  pub data_lies : (data_span image entries node).offset + (data_span image entries node).size ≤ length image
+  data_lies = data_within (belongs_record belongs) node there
+
 -- The root's name, and another's.
 module _ (image : List ℕ) (reader : Reader) (strings entries : List ℕ) (node : ℕ) where
   pub name_root : {s : Span} → node ≡ 0 → s ≡ no_span → s ≡ name_span image reader strings entries node
   unfolding name_span
   name_root z h = h ∙ rw (eq-eqb node 0 z)
 
-  pub name_other : (e : Entry) (from end : ℕ) → (node ≡ 0 → ⊥) → e ≡ recorded_entry image entries node → from ≡ get_or strings e.string 0
-      → end ≡ from + length (name_from image (symbols_end reader) from) → ◌≡◌ {A = Span} (record { offset = from; size = end - from }) (name_span image reader strings entries node)
-  unfolding name_span name_at
-  name_other e from end n is h g =
-      let d : end - from ≡ length (name_from image (symbols_end reader) from) = omega arith in
-      rw (ne_eqb node 0 n, d, h, is)
+  pub name_other : (e : Entry) (from end : ℕ) (name : List ℕ) → (node ≡ 0 → ⊥) → e ≡ recorded_entry image entries node → from ≡ get_or strings e.string 0
+      → end ≡ symbols_end reader → name ≡ up_to_zero (take (end - from) (drop from image))
+      → ◌≡◌ {A = Span} (record { offset = from; size = length name }) (name_span image reader strings entries node)
+  unfolding name_span name_at name_from
+  name_other e from end name other is h g run = rw (ne_eqb node 0 other, run, g, h, is)

@@ -1,5 +1,6 @@
 // Name, kind, count and data of a node.
 ghost use Rattle.std.specs.Prelude.{◌≡◌, ◌+◌, ◌≤◌, length};
+ghost use Rattle.std.specs.Result.{IfOk};
 ghost use Rattle.aff_format.specs.Answer.{first_wrong};
 ghost use Rattle.aff_format.specs.Element.{decoded};
 ghost use Rattle.aff_format.specs.Verdict.{answer_of};
@@ -23,7 +24,7 @@ pub fn judge<'a>(opened: &Opened<'a>, node: usize) -> Result<Belonging<'a>, Refu
 }
 
 // Where the name of a node is.
-#[tactic(auto, using(crate::proofs::SpanLaws::name_root, crate::proofs::SpanLaws::name_other))]
+#[tactic(auto, using(crate::proofs::SpanLaws::name_root, crate::proofs::SpanLaws::name_other, crate::proofs::SpanLaws::name_begins, aff_reader::proofs::BelongsLaws::symbols_within))]
 pub fn name_span(belonging: &Belonging<'_>, node: usize) -> Span
     requires { node ≤ belonging.now.opened.reader.nodes }
     ensures { result ≡ of belonging.now.opened name_span node }
@@ -33,10 +34,11 @@ pub fn name_span(belonging: &Belonging<'_>, node: usize) -> Span
     }
     let Opened { image, strings, .. } = belonging.opened;
     let offset = recorded::place(strings, belonging.entry(node).string as usize);
-    let end = recorded::name_end(image, offset, belonging.symbols_end());
+    let end = belonging.symbols_end();
+    let name = recorded::until_zero(&image[offset..end]);
     Span {
         offset,
-        size: end - offset,
+        size: name.len(),
     }
 }
 
@@ -56,7 +58,8 @@ pub fn data_span(belonging: &Belonging<'_>, node: usize) -> Span
     }
 }
 
-// The name of a node: where it is in the image, up to its zero or to the symbol section's end. The root's is empty.
+// The name of a node: where it is in the image, up to its zero or to the symbol section's end. The root's is empty. Two lines over `judge`, as
+// `view_bounds`: a parameter for the span would be longer.
 #[tactic(auto, unfolding(crate::specs::Answers::name_answer))]
 pub fn name_bounds(opened: &Opened<'_>, node: usize) -> Result<Span, Refusal>
     ensures { answer_of result ≡ of opened.now name_answer node }
@@ -92,7 +95,7 @@ pub fn view_bounds(opened: &Opened<'_>, node: usize) -> Result<Span, Refusal>
     Ok(data_span(&belonging, node))
 }
 
-// The bytes of the image that a span names, where it lies inside.
+// The bytes of the image that a span names, where it lies inside. It can't fail: whoever calls it knows that.
 fn span_of<'a>(image: &'a [u8], span: Span) -> &'a [u8]
     requires { span.offset + span.size ≤ length image.now }
     ensures { result.now ≡ span_bytes image.now span }
@@ -100,29 +103,34 @@ fn span_of<'a>(image: &'a [u8], span: Span) -> &'a [u8]
     &image[span.offset..span.offset + span.size]
 }
 
-// The name of a node, as a part of the image; empty where the call is refused.
-#[tactic(auto, using(crate::proofs::JudgeLaws::span_inside_lem, crate::proofs::SpanLaws::name_within), unfolding(crate::specs::Answers::name_answer))]
+// The bytes that an answer names; none where the call was refused.
+fn bytes_of<'a>(image: &'a [u8], bounds: Result<Span, Refusal>) -> &'a [u8]
+    requires { IfOk bounds (λ span. span.offset + span.size ≤ length image.now) }
+    ensures { result.now ≡ part_of image.now (answer_of bounds) }
+{
+    match bounds {
+        Ok(span) => span_of(image, span),
+        Err(_) => &image[..0],
+    }
+}
+
+// The name of a node, as a part of the image; empty where the call is refused. No `Result`: its clause, `part_of`, says that it can't fail. One line over
+// `name_bounds`, as `view` over `view_bounds`: a parameter for the span would be longer.
 pub fn name<'a>(opened: &Opened<'a>, node: usize) -> &'a [u8]
     ensures { result.now ≡ part_of opened.now.image.now (of opened.now name_answer node) }
 {
-    match name_bounds(opened, node) {
-        Ok(span) => span_of(opened.image, span),
-        Err(_) => &opened.image[..0],
-    }
+    bytes_of(opened.image, name_bounds(opened, node))
 }
 
-// The data of a node, as a part of the image; empty where the call is refused.
-#[tactic(auto, using(crate::proofs::JudgeLaws::span_inside_lem, crate::proofs::SpanLaws::data_within), unfolding(crate::specs::Answers::view_answer))]
+// The data of a node, as a part of the image; empty where the call is refused. No `Result`, as `name`.
 pub fn view<'a>(opened: &Opened<'a>, node: usize) -> &'a [u8]
     ensures { result.now ≡ part_of opened.now.image.now (of opened.now view_answer node) }
 {
-    match view_bounds(opened, node) {
-        Ok(span) => span_of(opened.image, span),
-        Err(_) => &opened.image[..0],
-    }
+    bytes_of(opened.image, view_bounds(opened, node))
 }
 
 // One element of a node's data: 16.
+#[tactic(auto, using(crate::proofs::SpanLaws::data_lies))]
 pub fn element_of(belonging: &Belonging<'_>, node: usize, index: usize) -> ElementAnswer
     requires { node ≤ belonging.now.opened.reader.nodes }
     ensures { answer_of result ≡ decoded (kind_at belonging.now.opened.image.now belonging.now.opened.entries.now node) (bytes_at belonging.now.opened.image.now belonging.now.opened.entries.now node) index }

@@ -3,18 +3,17 @@ use mathlib.Core.Path.{◌≡◌, refl}
 use mathlib.Core.Bool.{false, not, true≢false}
 use mathlib.Core.List.{List}
 use Prim.Native.Nat.{ℕ, ◌+◌, ◌≤◌}
-use native.Mathlib.Omega.{arith}
 use lib.ListN.{length, take}
 use borrow.Author.Tests.{ltb-false}
 use Rattle.aff_format.specs.Answer.{accepted, first_wrong}
 use Rattle.aff_format.specs.Bytes.{same_bytes}
-use Rattle.aff_format.specs.Edition.{editions, header_size, section_sum_at, signature_text, is_known, or_two}
+use Rattle.aff_format.specs.Edition.{editions, header_size, signature_text, is_known, or_two}
 use Rattle.aff_format.specs.declared.section.Section.{Section}
 use Rattle.aff_format.specs.declared.section.Section.TheVariants.{Symbol, Tree, Data}
 use Rattle.aff_format.specs.declared.edition.Edition.{Edition}
 use Rattle.std.specs.Prelude.{Option, Some, None}
 use Rattle.aff_format.proofs.AnswerLaws.{passed}
-use Rattle.aff_format.proofs.EditionLaws.{section_header_most, section_sum_last, found_passes, edition_of_text}
+use Rattle.aff_format.proofs.EditionLaws.{found_passes, edition_of_text}
 use Rattle.aff_format.proofs.SameLaws.{same_eq}
 use Rattle.aff_open.specs.Sections.{text_edition, edition_in, section_offset, section_size, ends_past, sum_wrong}
 use Rattle.aff_open.specs.Opening.{header_checks, section_checks}
@@ -28,10 +27,7 @@ pub known_text : (e : Edition) (image : List ℕ) → take 20 image ≡ signatur
 unfolding text_edition same_bytes signature_text
 known_text e image h = rw h (edition_of_text e)
 
--- The sum of a section lies inside an image that has a whole header.
-pub sum_inside : (e : Edition) (s : Section) (image : List ℕ) → header_size e ≤ length image → section_sum_at e s + 16 ≤ length image
-sum_inside e s image h = omega (arith, section_header_most e s, section_sum_last e s)
-
+-- A section that does not end past the image.
 pub ends_inside : (e : Edition) (s : Section) (image : List ℕ) → ends_past e s image ≡ false
     → section_offset e s image + section_size e s image ≤ length image
 unfolding ends_past

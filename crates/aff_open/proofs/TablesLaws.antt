@@ -1,7 +1,7 @@
 -- How the passes of an opening up to its tables join: a refusal of one is the answer, and what one passes the next decides; and what holds of an image
 -- that passes these. Assumes nothing.
-use mathlib.Core.Path.{◌≡◌, refl, sym, ap, subst, ◌∙◌}
-use mathlib.Core.Bool.{true, false, not, true≢false}
+use mathlib.Core.Path.{◌≡◌, sym, ap, ◌∙◌}
+use mathlib.Core.Bool.{true, false, not}
 use mathlib.Core.List.{List, ◌++◌}
 use Prim.Native.Nat.{ℕ, ◌+◌, ◌≤◌, ◌<◌}
 use native.Mathlib.Omega.{arith}
@@ -16,17 +16,17 @@ use Rattle.aff_format.specs.declared.section.Section.{Section}
 use Rattle.aff_format.specs.declared.section.Section.TheVariants.{Symbol, Tree}
 use Rattle.aff_format.specs.declared.edition.Edition.{Edition}
 use Rattle.aff_format.specs.declared.refusal.Refusal.TheVariants.{WrongLength}
-use Rattle.aff_format.proofs.AnswerLaws.{passed, same_refusal, refused_before, passed_value, passed_before, clear_both, clear_accepts}
+use Rattle.aff_format.proofs.AnswerLaws.{not_both, passed, same_refusal, refused_before, passed_value, passed_before, clear_both, clear_accepts}
 use Rattle.aff_format.proofs.TestLaws.{or_false}
 use Rattle.aff_tables.specs.Tables.{entries_in}
 use Rattle.aff_tables.proofs.LinkLaws.{distinct_by_repeats}
 use Rattle.aff_tables.proofs.SymbolLaws.{places_inside, string_recorded, symbols_clear, symbols_reported}
-use Rattle.aff_tables.proofs.TreeTableLaws.{entries_few, entries_are}
+use Rattle.aff_tables.proofs.TreeTableLaws.{TableOfTree, entries_few, entries_are}
 use Rattle.aff_open.specs.Opening.{lengths_wrong, header_checks, section_checks, symbols_checked, tree_checked, table_checks, body_checks, up_to_tables, span_of, sizes_in, tables_answer, area_filled, string_places, node_places, strings_filled, entries_filled}
 use Rattle.aff_open.specs.passes.Opening.{symbols_in, IsReadable, StringsLaid, EntriesLaid}
 use Rattle.aff_open.specs.Sections.{edition_in, section_offset, section_size, section_records, section_bytes, ends_past, strings_in, nodes_in}
 use Rattle.aff_reader.specs.declared.reader.Span.{Span}
-use Rattle.std.specs.Prelude.{Result, Ok, Err, is_ok, IsErrAnd}
+use Rattle.std.specs.Prelude.{Result, Ok, Err, IsErrAnd}
 use Rattle.aff_format.specs.Refusal.{code_of_refusal}
 use Rattle.aff_format.specs.declared.refusal.RefusalCode.{RefusalCode}
 use Rattle.aff_open.specs.declared.tables.TableSizes.{TableSizes}
@@ -81,7 +81,34 @@ strings_laid e image area strings n r h long is =
       distinct = λ i j hi hj e. distinct_by_repeats (strings_of l) distinct i j (omega arith) (omega arith) e;
     }
 
+-- What the tree table reports and lays is what its section says.
+module _ (e : Edition) (image : List ℕ) {t : Span} {records : ℕ} (area₀ area : List ℕ) where
+  pub tree_by_lem : t ≡ span_of e Tree image → records ≡ section_records e Tree image → (r : Result ℕ Refusal)
+      → TableOfTree e records image t.offset t.size area₀ area r
+      → (answer_of r ≡ first_wrong (tree_checked e image) (length (nodes_in e image)))
+      × ((n : ℕ) → answer_of r ≡ accepted n → area ≡ laid_over area₀ (node_places e image))
+  unfolding section_bytes
+  tree_by_lem is ir r h = rw (is, ir) at h
+
+-- What the symbol table reports decides its checks.
+pub symbols_decide : (e : Edition) (image : List ℕ) {s : Result ℕ Refusal} → s ≡ symbols_in e image
+    → first_wrong (symbols_checked e image) (length (strings_in e image)) ≡ answer_of s
+symbols_decide e image is = sym (ap answer_of is ∙ symbols_reported e (section_records e Symbol image) (section_bytes e Symbol image))
+
+-- A refused symbol table refuses the opening with its own refusal, and no area is filled.
+pub symbols_refuse : {X : Type 0} (r : Refusal) (e : Edition) (image : List ℕ) {s : Result ℕ Refusal} → s ≡ symbols_in e image
+    → answer_of s ≡ refused (code_of_refusal r)
+    → (answer_of {A = TableSizes} (Err r) ≡ first_wrong (table_checks e image) (sizes_in e image)) × ((a : TableSizes) → answer_of {A = TableSizes} (Err r) ≡ accepted a → X)
+symbols_refuse r e image is bad = (
+  sym (refused_before (symbols_checked e image) (tree_checked e image) (length (strings_in e image)) (sizes_in e image) (symbols_decide e image is ∙ bad)),
+  λ a q. not_both q,
+)
+
 -- ---- After the header.
+
+-- What a stage reports, where its result is known.
+pub told : {A : Type 0} {r q : Result A Refusal} {a : Answer A} → answer_of r ≡ a → r ≡ q → a ≡ answer_of q
+told h e = sym h ∙ ap answer_of e
 
 -- What `?` hands on.
 pub handed_on : {A : Type 0} (r : Result A Refusal) (q : Refusal) → IsErrAnd r (λ p. p ≡ q) → answer_of r ≡ refused (code_of_refusal q)
@@ -102,9 +129,6 @@ module _ (image form : List ℕ) {e : Edition} (headed : first_wrong (header_che
   pub edition_is : edition_in image ≡ e
   edition_is = passed_value (header_checks image form) (edition_in image) headed
 
-  pub header_whole : header_size e ≤ length image
-  header_whole = subst (λ (d : Edition). header_size d ≤ length image) edition_is (header_clear image (edition_in image) form headed).1
-
   with_header : {a : Answer TableSizes} → a ≡ first_wrong (body_checks e image) (sizes_in e image) → a ≡ whole
   with_header reported =
       reported ∙ ap (λ (d : Edition). first_wrong (body_checks d image) (sizes_in d image)) (sym edition_is)
@@ -114,16 +138,11 @@ module _ (image form : List ℕ) {e : Edition} (headed : first_wrong (header_che
   sections_refused h = with_header (sym (refused_before (section_checks e image) (table_checks e image) (tt {0}) (sizes_in e image) h))
 
   module _ (sound : first_wrong (section_checks e image) (tt {0}) ≡ accepted (tt {0})) where
-    pub readable_after : length image < 2147483648 → IsReadable e image
-    readable_after short =
-        readable_by e image header_whole short sound
-
     with_sections : {a : Answer TableSizes} → a ≡ first_wrong (table_checks e image) (sizes_in e image) → a ≡ whole
     with_sections reported = with_header (reported ∙ sym (passed_before (section_checks e image) (table_checks e image) (tt {0}) (sizes_in e image) sound))
 
-    pub symbols_refused : {t : RefusalCode} → first_wrong (symbols_checked e image) (length (strings_in e image)) ≡ refused t → refused t ≡ whole
-    symbols_refused h =
-        with_sections (sym (refused_before (symbols_checked e image) (tree_checked e image) (length (strings_in e image)) (sizes_in e image) h))
+    pub symbols_refused : {s : Result ℕ Refusal} (r : Refusal) → s ≡ symbols_in e image → s ≡ Err r → refused (code_of_refusal r) ≡ whole
+    symbols_refused r is bad = with_sections (symbols_refuse {X = ⊥} r e image is (ap answer_of bad)).0
 
     module _ {n : ℕ} (counted : first_wrong (symbols_checked e image) (length (strings_in e image)) ≡ accepted n) where
       with_symbols : {a : Answer TableSizes} → a ≡ first_wrong (tree_checked e image) (sizes_in e image) → a ≡ whole
@@ -140,23 +159,7 @@ module _ (image form : List ℕ) {e : Edition} (headed : first_wrong (header_che
           let q : length (nodes_in e image) ≡ m = passed_value (tree_checked e image) (length (nodes_in e image)) h in
           with_symbols (rw (← p, ← q) (sym (clear_accepts (tree_checked e image) (sizes_in e image) (passed (tree_checked e image) (length (nodes_in e image)) h))))
 
--- The symbol table's result is the answer of its checks.
-pub symbols_answer : (e : Edition) (image : List ℕ) (r : Result ℕ Refusal) → r ≡ symbols_in e image
-    → first_wrong (symbols_checked e image) (length (strings_in e image)) ≡ answer_of r
-symbols_answer e image r is = sym (ap answer_of is ∙ symbols_reported e (section_records e Symbol image) (section_bytes e Symbol image))
-
 -- ---- The areas.
-
--- Sound tables fill a cleared area; a refusal leaves it cleared.
-pub filled_is : {A : Type 0} (r : Result A Refusal) (area places laid : List ℕ) → area ≡ replicate (length area) 0
-    → ((a : A) → answer_of r ≡ accepted a → laid ≡ laid_over area places) → is_ok r ≡ true → laid ≡ area_filled (answer_of r) area places
-filled_is (Ok a) area places laid zero is h = is a refl ∙ ap (λ (l : List ℕ). laid_over l places) zero
-filled_is (Err q) area places laid zero is h = absurd (true≢false (sym h))
-
-pub cleared_is : {A : Type 0} (r : Result A Refusal) (area places laid : List ℕ) → length laid ≡ length area → is_ok r ≡ false
-    → replicate (length laid) 0 ≡ area_filled (answer_of r) area places
-cleared_is (Ok a) area places laid e h = absurd (true≢false h)
-cleared_is (Err q) area places laid e h = ap (λ (k : ℕ). replicate k 0) e
 
 -- What is passed has the right lengths.
 pub lengths_right : (image form : List ℕ) (strings entries : ℕ) → lengths_wrong image form strings entries ≡ false

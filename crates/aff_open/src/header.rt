@@ -41,7 +41,8 @@ pub fn form_for(image: &[u8]) -> [u8; 12]
 
 // Whether the 16 bytes at a place are not the sum of the `size` bytes from `from` on.
 pub fn sum_differs(image: &[u8], at: usize, from: usize, size: usize) -> bool
-    requires { (at + 16 ≤ length image.now) × (from + size ≤ length image.now) }
+    requires sum_inside { at + 16 ≤ length image.now }
+    requires inside { from + size ≤ length image.now }
     ensures { result ≡ not (same_bytes (part at 16 image.now) (md5_of (part from size image.now))) }
 {
     let sum = aff_md5::md5(&image[from..from + size]);

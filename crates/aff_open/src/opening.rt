@@ -8,26 +8,25 @@ ghost use Rattle.aff_open.specs.passes.Opening.{StringsLaid, EntriesLaid};
 use crate::sections::{Header, Readable};
 use crate::tables;
 use crate::tables::TableSizes;
+use aff_format::data::Bounds;
 use aff_format::{Refusal, Section};
 use aff_reader::Reader;
 use aff_tables::nodes;
+use aff_tables::placed::Strings;
 
 // The record of an accepted opening, with the numbers of strings and nodes found.
-fn record(readable: &Readable<'_>, strings: usize, nodes: usize) -> Reader
-    ensures { result ≡ reader_with readable.now.header.edition readable.now.header.image.now strings nodes }
+fn record(readable: &Readable<'_>, sizes: TableSizes) -> Reader
+    ensures { result ≡ reader_with readable.now.header.edition readable.now.header.image.now sizes.strings sizes.nodes }
 {
     let header = readable.header;
-    let symbols = readable.span(Section::Symbol);
-    let tree = readable.span(Section::Tree);
-    let data = readable.span(Section::Data);
     Reader {
         length: header.image.len(),
         edition: header.edition.number(),
-        symbols,
-        tree,
-        data,
-        strings,
-        nodes,
+        symbols: readable.span(Section::Symbol),
+        tree: readable.span(Section::Tree),
+        data: readable.span(Section::Data),
+        strings: sizes.strings,
+        nodes: sizes.nodes,
         records: header.records(Section::Data),
     }
 }
@@ -47,18 +46,18 @@ fn with_tables(
     let header = readable.header;
     let symbols = readable.span(Section::Symbol);
     let data = readable.span(Section::Data);
-    nodes::node_checks(
-        header.image,
-        header.edition,
-        symbols.offset + symbols.size,
-        strings,
-        sizes.strings,
-        entries,
-        sizes.nodes,
-        data.offset,
-        data.size,
-    )?;
-    Ok(record(readable, sizes.strings, sizes.nodes))
+    let strings = Strings {
+        image: header.image,
+        end: symbols.offset + symbols.size,
+        places: strings,
+        count: sizes.strings,
+    };
+    let bounds = Bounds {
+        from: data.offset,
+        size: data.size,
+    };
+    nodes::node_checks(&strings, header.edition, entries, sizes.nodes, bounds)?;
+    Ok(record(readable, sizes))
 }
 
 // Validates a complete file image in memory and fills the two work areas. `form` has the 12 bytes expected after the signature text (`form_for` has

@@ -8,7 +8,7 @@ use aff_format::{Edition, Refusal, Section, number};
 use aff_reader::Span;
 
 // An image that has the whole header of an edition.
-#[derive(Clone, Copy)]
+#[derive(Clone, Copy, Debug, PartialEq, Eq)]
 pub struct Header<'a> {
     pub image: &'a [u8],
     pub edition: Edition,
@@ -16,7 +16,7 @@ pub struct Header<'a> {
 }
 
 // One whose sections lie inside it, and that is not too long.
-#[derive(Clone, Copy)]
+#[derive(Clone, Copy, Debug, PartialEq, Eq)]
 pub struct Readable<'a> {
     pub header: Header<'a>,
     pub ghost inside: { AllInside header.edition header.image.now },
@@ -116,7 +116,7 @@ impl Readable<'_> {
         }
     }
 
-    #[tactic(auto, using(crate::proofs::SectionLaws::sum_inside, crate::proofs::SectionLaws::ends_inside), unfolding(crate::specs::Sections::sum_wrong, crate::specs::Sections::section_bytes))]
+    #[tactic(auto, using(crate::proofs::SectionLaws::ends_inside), unfolding(crate::specs::Sections::sum_wrong, crate::specs::Sections::section_bytes))]
     fn sum_wrong(&self, section: Section) -> bool
         ensures { result ≡ sum_wrong self.now.header.edition section self.now.header.image.now }
     {

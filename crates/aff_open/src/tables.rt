@@ -79,7 +79,9 @@ fn read_tables(
     strings: &mut [u32],
     entries: &mut [u32],
 ) -> Result<TableSizes, Refusal>
-    requires { (length image.now < 2147483648) × (length strings.old ≡ 2048) × (length entries.old ≡ 2048) }
+    requires short { length image.now < 2147483648 }
+    requires strings { length strings.old ≡ 2048 }
+    requires entries { length entries.old ≡ 2048 }
     ensures answer { answer_of result ≡ first_wrong (header_checks image.now form.now ++ body_checks (edition_in image.now) image.now) (sizes_in (edition_in image.now) image.now) }
     ensures filled { (s : SizesOf) → answer_of result ≡ accepted s → Filled (edition_in image.now) image.now strings.old strings.new entries.old entries.new }
 {
@@ -103,7 +105,11 @@ fn in_cleared(
     strings: &mut [u32],
     entries: &mut [u32],
 ) -> Result<TableSizes, Refusal>
-    requires { (length image.now < 2147483648) × (length strings.old ≡ 2048) × (length entries.old ≡ 2048) × (strings.old ≡ replicate (length strings.old) 0) × (entries.old ≡ replicate (length entries.old) 0) }
+    requires short { length image.now < 2147483648 }
+    requires strings { length strings.old ≡ 2048 }
+    requires entries { length entries.old ≡ 2048 }
+    requires strings_clear { strings.old ≡ replicate (length strings.old) 0 }
+    requires entries_clear { entries.old ≡ replicate (length entries.old) 0 }
     ensures answer { answer_of result ≡ first_wrong (header_checks image.now form.now ++ body_checks (edition_in image.now) image.now) (sizes_in (edition_in image.now) image.now) }
     ensures strings { strings.new ≡ area_filled (answer_of result) strings.old (string_places (edition_in image.now) image.now) }
     ensures entries { entries.new ≡ area_filled (answer_of result) entries.old (node_places (edition_in image.now) image.now) }

@@ -3,150 +3,104 @@ use mathlib.Core.Path.{◌≡◌, refl, sym, ap, ◌∙◌}
 use mathlib.Core.Bool.{Bool, true, false}
 use mathlib.Core.List.{List, ◌∷◌}
 use mathlib.Core.Logic.{⊎_elim}
-use Prim.Native.Nat.{ℕ, zero, suc, ◌+◌, ◌-◌, ◌*◌, ◌≤◌, ◌<◌}
+use Prim.Native.Nat.{ℕ, zero, suc, ◌+◌, ◌≤◌, ◌<◌}
 use native.Mathlib.Nat.{eq-or-lt_of_le, le_of_suc-le-suc}
 use native.Mathlib.Omega.{arith}
 use lib.Dec.{eqb}
-use lib.ListN.{length, get_or, set, replicate, length-set, length-replicate, length-append}
+use lib.ListN.{length, get_or, set, replicate, length-append}
 use lib.Seq.{get_or-set_same, get_or-set_other}
 use borrow.Author.Tests.{eqb-true, eqb-false}
-use Rattle.aff_format.specs.Bytes.{part}
-use Rattle.aff_format.specs.Limits.{node_limit}
 use Rattle.aff_format.specs.Tree.{front_by}
 use Rattle.aff_format.proofs.TreeLaws.{front_step}
 use Rattle.aff_reader.specs.Belongs.{ReaderBelongs}
 use Rattle.aff_reader.specs.declared.reader.Reader.{Reader}
 use Rattle.aff_reader.proofs.BelongsLaws.{parent_within}
-use Rattle.aff_read.specs.passes.Climb.{above, table_parent, table_from, table_end, table_front, TableInside, Noted, NotedMore, ClimbNoted}
-use Rattle.aff_nodes.specs.Recall.{parent_at, name_at, name_span}
-use Rattle.aff_read.proofs.FrontLaws.{written_name, front_at, name_size, name_bytes}
+use Rattle.aff_read.specs.passes.Climb.{above, noted_at, noted_name, table_front, NotedInside, TableInside, NodeNoted, NotedMore, ClimbNoted}
+use Rattle.aff_read.specs.declared.paths.Noted.{Noted}
+use Rattle.aff_nodes.specs.Recall.{symbols_end, parent_at, name_at}
+use Rattle.aff_read.proofs.FrontLaws.{written_name, front_at, path_other, own_name}
+use Rattle.aff_read.specs.Paths.{spelled_path_at}
 use Rattle.aff_spelling.specs.declared.spelling.Spelling.{Spelling}
 use Rattle.aff_spelling.specs.declared.spelling.Spelling.TheVariants.{Raw}
-use Rattle.aff_nodes.proofs.SpanLaws.{name_within}
+use Rattle.aff_nodes.proofs.SpanLaws.{name_from_lem}
+use Rattle.aff_format.proofs.RecordedLaws.{name_ends, name_part}
+use Rattle.aff_format.specs.Recorded.{recorded_entry, name_from}
+
+abbrev none : Noted
+none = record { parent = 0; from = 0; end = 0 }
 
 -- A table of zeros.
-pub zeros_inside : (image : List ℕ) (n : ℕ) → n ≡ 6147 → TableInside image (replicate n 0)
-zeros_inside image n is =
-    let z : (i : ℕ) → get_or (replicate {A = ℕ} n 0) i 0 ≡ 0 = λ i. zero_at n i in
-    record {
-      long = length-replicate {A = ℕ} n 0 ∙ is;
-      parents = λ k. omega (arith, z (3 * k));
-      begins = λ k. omega (arith, z (3 * k + 1));
-      ends = λ k. omega (arith, z (3 * k + 2));
-    }
+pub zeros_inside : (image : List ℕ) (z : Noted) → (z.parent ≡ 0) × ((z.from ≡ 0) × (z.end ≡ 0)) → (n : ℕ) → TableInside image (replicate n z)
+zeros_inside image z is = go
   where
-    zero_at : (n i : ℕ) → get_or (replicate {A = ℕ} n 0) i 0 ≡ 0
-    zero_at zero i = refl
-    zero_at (suc n) zero = refl
-    zero_at (suc n) (suc i) = zero_at n i
+    go : (n k : ℕ) → NotedInside image (noted_at (replicate n z) k)
+    go zero k = record { parent = omega arith; begins = omega arith; ends = omega arith }
+    go (suc n) zero = record { parent = omega (arith, is.0); begins = omega (arith, is.1.0, is.1.1); ends = omega (arith, is.1.1) }
+    go (suc n) (suc k) = go n k
 
--- The table with node k stored in it.
-abbrev pub stored : List ℕ → ℕ → ℕ → ℕ → ℕ → List ℕ
-stored table k p f e = set (set (set table (3 * k) p) (3 * k + 1) f) (3 * k + 2) e
-
-module _ (table : List ℕ) (k p f e : ℕ) (long : 3 * k + 2 < length table) where
-  stored_parent : table_parent (stored table k p f e) k ≡ p
-  stored_parent =
-      get_or-set_other (set (set table (3 * k) p) (3 * k + 1) f) (3 * k + 2) (3 * k) e 0 (λ q. omega arith)
-      ∙ get_or-set_other (set table (3 * k) p) (3 * k + 1) (3 * k) f 0 (λ q. omega arith)
-      ∙ get_or-set_same table (3 * k) p 0 (omega arith)
-
-  stored_from : table_from (stored table k p f e) k ≡ f
-  stored_from =
-      get_or-set_other (set (set table (3 * k) p) (3 * k + 1) f) (3 * k + 2) (3 * k + 1) e 0 (λ q. omega arith)
-      ∙ get_or-set_same (set table (3 * k) p) (3 * k + 1) f 0 (omega (arith, length-set table (3 * k) p))
-
-  stored_end : table_end (stored table k p f e) k ≡ e
-  stored_end =
-      get_or-set_same (set (set table (3 * k) p) (3 * k + 1) f) (3 * k + 2) e 0
-      (omega (arith, length-set table (3 * k) p, length-set (set table (3 * k) p) (3 * k + 1) f))
-
-  stored_else : (i : ℕ) → (i ≡ 3 * k → ⊥) → (i ≡ 3 * k + 1 → ⊥) → (i ≡ 3 * k + 2 → ⊥) → get_or (stored table k p f e) i 0 ≡ get_or table i 0
-  stored_else i x y z =
-      get_or-set_other (set (set table (3 * k) p) (3 * k + 1) f) (3 * k + 2) i e 0 z
-      ∙ get_or-set_other (set table (3 * k) p) (3 * k + 1) i f 0 y
-      ∙ get_or-set_other table (3 * k) i p 0 x
-
-  -- What holds of the numbers stored for k, and of those of each node before, holds after.
-  stored_by : (Q : ℕ → ℕ → ℕ → ℕ → Type 0) → Q k p f e → (j : ℕ) → Q j (table_parent table j) (table_from table j) (table_end table j) → (b : Bool) → eqb j k ≡ b
-      → Q j (table_parent (stored table k p f e) j) (table_from (stored table k p f e) j) (table_end (stored table k p f e) j)
-  stored_by Q q j h true t = rw (eqb-true j k t) (rw (stored_parent, stored_from, stored_end) q)
-  stored_by Q q j h false t =
-      let n = eqb-false j k t in
-      rw (
-        stored_else (3 * j) (λ z. n (omega arith)) (λ z. omega arith) (λ z. omega arith),
-        stored_else (3 * j + 1) (λ z. omega arith) (λ z. n (omega arith)) (λ z. omega arith),
-        stored_else (3 * j + 2) (λ z. omega arith) (λ z. omega arith) (λ z. n (omega arith)),
-      ) h
-
-  pub stored_all : (Q : ℕ → ℕ → ℕ → ℕ → Type 0) → Q k p f e → (j : ℕ) → Q j (table_parent table j) (table_from table j) (table_end table j)
-      → Q j (table_parent (stored table k p f e) j) (table_from (stored table k p f e) j) (table_end (stored table k p f e) j)
-  stored_all Q q j h = stored_by Q q j h (eqb j k) refl
+-- What holds of all that a table holds, and of what is stored for node k, holds after.
+stored_all : (table : List Noted) (k : ℕ) (n : Noted) → k < length table → (Q : ℕ → Noted → Type 0) → Q k n
+    → (j : ℕ) → Q j (noted_at table j) → Q j (noted_at (set table k n) j)
+stored_all table k n within Q q j h = go (eqb j k) refl
+  where
+    go : (b : Bool) → eqb j k ≡ b → Q j (noted_at (set table k n) j)
+    go true t = rw (eqb-true j k t, get_or-set_same table k n none within) q
+    go false t = rw (get_or-set_other table k j n none (eqb-false j k t)) h
 
 -- A node stored as the record has it.
-module _ {image : List ℕ} {reader : Reader} {strings entries : List ℕ} (b : ReaderBelongs image reader strings entries) {table : List ℕ} (inside : TableInside image table)
-    (node : ℕ) (there : node ≤ reader.nodes) (p f e : ℕ) (up : p ≡ parent_at image entries node)
-    (from : f ≡ (name_span image reader strings entries node).offset) (end : e ≡ f + length (name_at image reader strings entries node)) where
-  wide : 3 * node + 2 < length table
-  wide = omega (arith, b.few_nodes, inside.long)
+module _ {image : List ℕ} {reader : Reader} {strings entries : List ℕ} (b : ReaderBelongs image reader strings entries) (node : ℕ) (there : node ≤ reader.nodes)
+    (other : 0 < node) (n : Noted) (up : n.parent ≡ parent_at image entries node) (from : n.from ≡ get_or strings (recorded_entry image entries node).string 0)
+    (end : n.end ≡ n.from + length (name_from image (symbols_end reader) n.from)) where
+  starts : n.from ≤ symbols_end reader
+  starts = omega (arith, name_from_lem b node there other)
 
-  size : e - f ≡ (name_span image reader strings entries node).size
-  size = omega (arith, name_size image reader strings entries node)
+  text : noted_name image n ≡ name_at image reader strings entries node
+  text =
+      name_part image (symbols_end reader) n.from n.end starts b.symbols_inside end
+      ∙ ap (name_from image (symbols_end reader)) from ∙ sym (own_name image reader strings entries node (λ q. omega arith))
 
-  text : part f (e - f) image ≡ name_at image reader strings entries node
-  text = rw (size, from) (name_bytes image reader strings entries b node there)
-
-  ends_inside : e ≤ length image
-  ends_inside = omega (arith, name_size image reader strings entries node, name_within b node there)
-
-  here : Noted image reader strings entries (stored table node p f e) node
-  here =
+  stored_inside : NotedInside image n
+  stored_inside =
       record {
-        parent = stored_parent table node p f e wide ∙ up;
-        name = rw (stored_from table node p f e wide, stored_end table node p f e wide) text;
+        parent = omega (arith, parent_within b node there, b.few_nodes);
+        begins = omega arith;
+        ends = omega (arith, name_ends image (symbols_end reader) n.from starts b.symbols_inside, b.symbols_inside);
       }
 
-  pub note_more : NotedMore image reader strings entries table (stored table node p f e) node
-  note_more =
-      let few : p ≤ node_limit = omega (arith, parent_within b node there, b.few_nodes) in
-      let starts : f ≤ e = omega arith in
+  pub note_more : {table : List Noted} → TableInside image table → node < length table → NotedMore image reader strings entries table (set table node n) node
+  note_more {table} inside within =
+      let same : noted_at (set table node n) node ≡ n = get_or-set_same table node n none within in
       record {
-        inside =
-            record {
-              long = simp length-set inside.long;
-              parents = λ k. stored_all table node p f e wide (λ j x y z. x ≤ node_limit) few k (inside.parents k);
-              begins = λ k. stored_all table node p f e wide (λ j x y z. y ≤ z) starts k (inside.begins k);
-              ends = λ k. stored_all table node p f e wide (λ j x y z. z ≤ length image) ends_inside k (inside.ends k);
-            };
-        here = here;
-        stays = λ j n.
-            let q =
-            stored_all table node p f e wide
-            (λ j x y z. (x ≡ parent_at image entries j) × (part y (z - y) image ≡ name_at image reader strings entries j)) (up, text) j (n.parent, n.name) in
+        inside = λ k. stored_all table node n within (λ j m. NotedInside image m) stored_inside k (inside k);
+        here = record { parent = ap (λ (m : Noted). m.parent) same ∙ up; name = ap (noted_name image) same ∙ text };
+        stays = λ j m.
+            let q = stored_all table node n within
+            (λ j m. (m.parent ≡ parent_at image entries j) × (noted_name image m ≡ name_at image reader strings entries j)) (up, text) j (m.parent, m.name) in
             record { parent = q.0; name = q.1 };
       }
 
 -- One step of a climb.
-above_next : (parent : ℕ → ℕ) (i n : ℕ) → above parent (suc i) n ≡ parent (above parent i n)
+pub above_next : (parent : ℕ → ℕ) (i n : ℕ) → above parent (suc i) n ≡ parent (above parent i n)
 unfolding above
 above_next parent zero n = refl
 above_next parent (suc i) n = above_next parent i (parent n)
 
 -- From `node` the climb has reached `at`, and the nodes below that are in the table.
-pub record Climbing (image : List ℕ) (reader : Reader) (strings entries : List ℕ) (node : ℕ) (table : List ℕ) (at : ℕ) : Type 0 where
+pub record Climbing (image : List ℕ) (reader : Reader) (strings entries : List ℕ) (node : ℕ) (table : List Noted) (at : ℕ) : Type 0 where
   pub there : at ≤ reader.nodes
   pub inside : TableInside image table
   pub steps : ℕ
   pub is : above (parent_at image entries) steps node ≡ at
-  pub noted : (j : ℕ) → j < steps → Noted image reader strings entries table (above (parent_at image entries) j node)
+  pub noted : (j : ℕ) → j < steps → NodeNoted image reader strings entries table (above (parent_at image entries) j node)
 
-pub climbing_start : {image : List ℕ} {reader : Reader} (strings entries : List ℕ) (node : ℕ) {table : List ℕ} → node ≤ reader.nodes
+pub climbing_start : {image : List ℕ} {reader : Reader} (strings entries : List ℕ) (node : ℕ) {table : List Noted} → node ≤ reader.nodes
     → TableInside image table → Climbing image reader strings entries node table node
 unfolding above
 climbing_start strings entries node there inside =
     record { there = there; inside = inside; steps = 0; is = refl; noted = λ j l. absurd (omega arith) }
 
-module _ {image : List ℕ} {reader : Reader} {strings entries : List ℕ} {node : ℕ} {table : List ℕ} {at : ℕ} (c : Climbing image reader strings entries node table at) where
+module _ {image : List ℕ} {reader : Reader} {strings entries : List ℕ} {node : ℕ} {table : List Noted} {at : ℕ}
+    (c : Climbing image reader strings entries node table at) where
   module _ (b : ReaderBelongs image reader strings entries) (other : at ≡ 0 → ⊥) (p : ℕ) (up : p ≡ parent_at image entries at) where
     pub climbing_less : length (front_at Raw image reader strings entries p) < length (front_at Raw image reader strings entries at)
     climbing_less =
@@ -155,8 +109,8 @@ module _ {image : List ℕ} {reader : Reader} {strings entries : List ℕ} {node
         ∙ length-append (front_at Raw image reader strings entries (parent_at image entries at)) (47 ∷ name_at image reader strings entries at) in
         rw up (omega arith)
 
-    module _ {after : List ℕ} (more : NotedMore image reader strings entries table after at) where
-      step_noted : (j : ℕ) → j < suc c.steps → Noted image reader strings entries after (above (parent_at image entries) j node)
+    module _ {after : List Noted} (more : NotedMore image reader strings entries table after at) where
+      step_noted : (j : ℕ) → j < suc c.steps → NodeNoted image reader strings entries after (above (parent_at image entries) j node)
       step_noted j l =
           ⊎_elim (λ (z : j ≡ c.steps). rw (z, c.is) more.here) (λ (z : j < c.steps). more.stays (above (parent_at image entries) j node) (c.noted j z))
           (eq-or-lt_of_le (le_of_suc-le-suc l))
@@ -172,9 +126,9 @@ module _ {image : List ℕ} {reader : Reader} {strings entries : List ℕ} {node
           }
 
 -- The front by the table of a climb is the front by the record.
-module _ {image : List ℕ} {reader : Reader} {strings entries table : List ℕ} where
+module _ {image : List ℕ} {reader : Reader} {strings entries : List ℕ} {table : List Noted} where
   front_by_lem : (s : Spelling) (left steps n : ℕ) → above (parent_at image entries) steps n ≡ 0
-      → ((j : ℕ) → j < steps → Noted image reader strings entries table (above (parent_at image entries) j n))
+      → ((j : ℕ) → j < steps → NodeNoted image reader strings entries table (above (parent_at image entries) j n))
       → table_front s image table left n ≡ front_by (parent_at image entries) (written_name s image reader strings entries) left n
   unfolding above front_by
   front_by_lem s zero steps n z h = refl
@@ -186,3 +140,8 @@ module _ {image : List ℕ} {reader : Reader} {strings entries table : List ℕ}
   pub table_front_lem : {node : ℕ} → ClimbNoted image reader strings entries table node
       → (s : Spelling) (left : ℕ) → table_front s image table left node ≡ front_by (parent_at image entries) (written_name s image reader strings entries) left node
   table_front_lem {node} c s left = front_by_lem s left c.steps node c.ends c.noted
+
+  -- So the path of a node that is not the root is written.
+  pub noted_path : {node : ℕ} → ClimbNoted image reader strings entries table node → (node ≡ 0 → ⊥)
+      → (s : Spelling) → table_front s image table reader.nodes node ≡ spelled_path_at s image reader strings entries node
+  noted_path c other s = table_front_lem c s reader.nodes ∙ sym (path_other s image reader strings entries _ other)

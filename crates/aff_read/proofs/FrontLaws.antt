@@ -1,16 +1,21 @@
 -- The path of a node whose record belongs is its parent's front, a slash and its name, also for the root; and its name is a part of the
 -- image. Assumes nothing.
 use mathlib.Core.Path.{◌≡◌, refl, sym, ap, ◌∙◌}
+use mathlib.Core.Bool.{Bool, true, false, cond}
 use mathlib.Core.List.{List, [], ◌∷◌, ◌++◌}
-use mathlib.Core.Logic.{⊎_elim}
-use Prim.Native.Nat.{ℕ, zero, suc, ◌+◌, ◌-◌, ◌≤◌, ◌<◌}
+use mathlib.Core.Logic.{◌⊎◌, ⊎_elim}
+use Prim.Native.Nat.{ℕ, min, zero, suc, ◌+◌, ◌-◌, ◌≤◌, ◌<◌}
 use native.Mathlib.Omega.{arith}
+use lib.Dec.{eqb}
 use lib.ListN.{length, get_or, take}
+use Rattle.std.proofs.lemmas.List.{take_min}
 use borrow.Author.Tests.{eq-eqb, ne_eqb}
 use Rattle.aff_format.specs.Tree.{front_by}
+use Rattle.aff_format.specs.Strings.{up_to_zero}
 use Rattle.aff_format.specs.passes.Capped.{capped}
-use Rattle.aff_format.specs.declared.entry.Entry.{Entry}
-use Rattle.aff_format.proofs.ClimbLaws.{at_zero}
+use Rattle.aff_format.proofs.CappedLaws.{capped_by, capped_past, capped_exact, capped_next}
+use Rattle.aff_read.specs.passes.Held.{symbols_from}
+use native.Mathlib.Nat.{eq-zero-or-pos}
 use Rattle.aff_format.proofs.TreeLaws.{front_root, front_up, front_step}
 use Rattle.aff_format.proofs.TreeLaws as tree
 use Rattle.aff_reader.specs.Belongs.{ReaderBelongs}
@@ -25,6 +30,21 @@ use Rattle.aff_spelling.proofs.ShownLaws.{spelled_nil, spelled_front}
 use Rattle.aff_format.proofs.WrittenLaws.{TwoParts}
 use Rattle.aff_nodes.proofs.SpanLaws.{part_between, name_from_lem}
 
+-- The first bytes of a run have the first bytes of its string.
+up_to_zero_take : (n : ℕ) (l : List ℕ) → up_to_zero (take n l) ≡ take n (up_to_zero l)
+unfolding up_to_zero
+up_to_zero_take zero l = refl
+up_to_zero_take (suc n) [] = refl
+up_to_zero_take (suc n) (x ∷ l) = go (eqb x 0) (up_to_zero_take n l)
+  where
+    go : (b : Bool) → up_to_zero (take n l) ≡ take n (up_to_zero l) → cond b [] (x ∷ up_to_zero (take n l)) ≡ take (suc n) (cond b [] (x ∷ up_to_zero l))
+    go true h = refl
+    go false h = ap (λ (m : List ℕ). x ∷ m) h
+
+-- What was counted within a limit fits it.
+pub counted_fits : {limit n r : ℕ} → r ≡ capped limit n → r ≤ limit → n ≤ limit
+counted_fits {limit} {n} is within = omega (arith, capped_exact limit n is within)
+
 module _ (parent : ℕ → ℕ) (name : ℕ → List ℕ) where
   -- In the code's terms.
   front_left : (left n p : ℕ) → p ≡ parent n → (left ≡ 0 → ⊥) → (n ≡ 0 → ⊥) → front_by parent name left n ≡ front_by parent name (left - 1) p ++ (47 ∷ name n)
@@ -35,14 +55,17 @@ module _ (parent : ℕ → ℕ) (name : ℕ → List ℕ) where
       → TwoParts (front_by parent name (left - 1) p) (47 ∷ name n) (front_by parent name left n) o
   front_parted left n p up f g o h = record { is = front_left left n p up f g; fits = h }
 
-  pub front_none : (left n : ℕ) → left ≡ 0 → front_by parent name left n ≡ []
+  front_none : (left n : ℕ) → left ≡ 0 → front_by parent name left n ≡ []
   unfolding front_by
   front_none left n e = rw e
 
   pub front_root_at : (left n : ℕ) → n ≡ 0 → front_by parent name left n ≡ []
   front_root_at left n e = rw e (front_root parent name left)
 
-pub name_of_root : (image : List ℕ) (reader : Reader) (strings entries : List ℕ) → name_at image reader strings entries 0 ≡ []
+  pub front_empty : (left n : ℕ) → (left ≡ 0) ⊎ ((left ≡ 0 → ⊥) × (n ≡ 0)) → front_by parent name left n ≡ []
+  front_empty left n h = ⊎_elim (front_none left n) (λ z. front_root_at left n z.1) h
+
+name_of_root : (image : List ℕ) (reader : Reader) (strings entries : List ℕ) → name_at image reader strings entries 0 ≡ []
 unfolding name_at
 name_of_root image reader strings entries = refl
 
@@ -54,7 +77,7 @@ module _ (s : Spelling) (image : List ℕ) (reader : Reader) (strings entries : 
   abbrev pub front_at : ℕ → List ℕ
   front_at = front_by (parent_at image entries) written_name reader.nodes
 
-  pub root_name : written_name 0 ≡ []
+  root_name : written_name 0 ≡ []
   root_name = ap (spelled s) (name_of_root image reader strings entries) ∙ spelled_nil s
 
   pub path_other : (node : ℕ) → (node ≡ 0 → ⊥) → spelled_path_at s image reader strings entries node ≡ front_at node
@@ -72,22 +95,11 @@ module _ (s : Spelling) (image : List ℕ) (reader : Reader) (strings entries : 
       (λ (h : 0 < node).
       let n : node ≡ 0 → ⊥ = λ q. omega arith in
       path_other node n ∙ front_step (parent_at image entries) written_name reader.nodes node n (b.climb_ends node h there))
-      (at_zero (λ k. k) node))
+      (eq-zero-or-pos node))
 
 module _ (image : List ℕ) (reader : Reader) (strings entries : List ℕ) where
-  pub name_size : (node : ℕ) → (name_span image reader strings entries node).size ≡ length (name_at image reader strings entries node)
-  unfolding name_span name_at
-  name_size node =
-      ⊎_elim (λ (z : node ≡ 0). rw (eq-eqb node 0 z)) (λ (h : 0 < node). rw (ne_eqb node 0 (λ q. omega arith))) (at_zero (λ k. k) node)
-
   module _ (b : ReaderBelongs image reader strings entries) (node : ℕ) (there : node ≤ reader.nodes) where
-    -- Where its name begins, and what is there.
-    pub name_starts : (name_span image reader strings entries node).offset ≤ symbols_end reader
-    unfolding name_span
-    name_starts =
-        ⊎_elim (λ (z : node ≡ 0). rw (eq-eqb node 0 z) (omega arith)) (λ (h : 0 < node). rw (ne_eqb node 0 (λ q. omega arith)) (name_from_lem b node there h))
-        (at_zero (λ k. k) node)
-
+    -- What is where its name is.
     pub name_bytes : span_bytes image (name_span image reader strings entries node) ≡ name_at image reader strings entries node
     unfolding name_span name_at
     name_bytes =
@@ -97,25 +109,37 @@ module _ (image : List ℕ) (reader : Reader) (strings entries : List ℕ) where
         let size : ℕ = length (name_from image (symbols_end reader) from) in
         rw (ne_eqb node 0 (λ q. omega arith))
         (sym (part_between image from size) ∙ name_part image (symbols_end reader) from (from + size) (name_from_lem b node there h) b.symbols_inside refl))
-        (at_zero (λ k. k) node)
+        (eq-zero-or-pos node)
 
-  -- A node that is not the root: where its name begins, and the name from there on.
+  -- The name of a node that is not the root.
   module _ (node : ℕ) (other : node ≡ 0 → ⊥) where
-    pub name_begins : (e : Entry) (from : ℕ) → e ≡ recorded_entry image entries node → from ≡ get_or strings e.string 0
-        → from ≡ (name_span image reader strings entries node).offset
-    unfolding name_span
-    name_begins e from is h = h ∙ rw (ne_eqb node 0 other, is)
+    pub own_name : name_at image reader strings entries node
+        ≡ name_from image (symbols_end reader) (get_or strings (recorded_entry image entries node).string 0)
+    unfolding name_at
+    own_name = rw (ne_eqb node 0 other)
 
-    pub name_there : (from : ℕ) → from ≡ (name_span image reader strings entries node).offset
-        → name_from image (symbols_end reader) from ≡ name_at image reader strings entries node
-    unfolding name_span name_at
-    name_there from h = rw (h, ne_eqb node 0 other)
+    pub own_string : name_at image reader strings entries node
+        ≡ up_to_zero (symbols_from image reader strings entries (recorded_entry image entries node).string)
+    unfolding name_from
+    own_string = own_name
 
-    -- Its length as it is written, counted up to a limit from the bytes up to one past the limit.
-    pub name_counted : (s : Spelling) (limit from : ℕ) {run : List ℕ} {n : ℕ} → from ≡ (name_span image reader strings entries node).offset
-        → run ≡ take (limit + 1) (name_from image (symbols_end reader) from) → n ≡ capped limit (length (spelled s run))
-        → n ≡ capped limit (length (written_name s image reader strings entries node))
-    name_counted s limit from h e c =
-        c ∙ ap (λ (l : List ℕ). capped limit (length (spelled s l))) e
-        ∙ spelled_front s limit (name_from image (symbols_end reader) from)
-        ∙ ap (λ (l : List ℕ). capped limit (length (spelled s l))) (name_there from h)
+    -- The length of a slash and the name as it is written, counted up to a limit from no more bytes of the name.
+    pub name_counted : (s : Spelling) (limit : ℕ) (symbols : List ℕ) {run : List ℕ} {n : ℕ} → (limit ≡ 0 → ⊥)
+        → symbols ≡ symbols_from image reader strings entries (recorded_entry image entries node).string
+        → run ≡ up_to_zero (take (min limit (length symbols)) symbols) → n ≡ capped (limit - 1) (length (spelled s run))
+        → n + 1 ≡ capped limit (length (written_name s image reader strings entries node) + 1)
+    name_counted s limit symbols {run} {n} some from read counted =
+        let name : List ℕ = name_at image reader strings entries node in
+        let few : limit ≡ limit - 1 + 1 = omega arith in
+        let front : run ≡ take (limit - 1 + 1) name =
+        read ∙ ap up_to_zero (take_min limit symbols) ∙ up_to_zero_take limit symbols
+        ∙ ap (λ (l : List ℕ). take limit (up_to_zero l)) from ∙ ap (take limit) (sym own_string) ∙ ap (λ (k : ℕ). take k name) few in
+        capped_next limit (length (spelled s name)) n some
+        (counted ∙ ap (λ (l : List ℕ). capped (limit - 1) (length (spelled s l))) front ∙ spelled_front s (limit - 1) name)
+
+  -- The root has no name, and one byte is past a limit of none.
+  pub own_counted : (s : Spelling) (node limit : ℕ) → (node ≡ 0) ⊎ ((node ≡ 0 → ⊥) × (limit ≡ 0))
+      → 1 ≡ capped limit (length (written_name s image reader strings entries node) + 1)
+  own_counted s node limit h =
+      ⊎_elim (λ (z : node ≡ 0). rw (z, ap length (root_name s image reader strings entries)) (capped_by limit 1 (λ l e. sym e) (λ l e. omega arith)))
+      (λ (z : (node ≡ 0 → ⊥) × (limit ≡ 0)). rw z.1 (sym (capped_past 0 (length (written_name s image reader strings entries node) + 1) (omega arith)))) h

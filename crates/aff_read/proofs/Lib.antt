@@ -1,5 +1,4 @@
 -- Laws of the definitions in specs/, which proofs of this crate and of those above cite.
-pub mod NameStopLaws
 pub mod FrontLaws
 pub mod ClimbLaws
 pub mod FitLaws

@@ -32,11 +32,7 @@ module _ (image : List ℕ) (reader : Reader) (strings entries path : List ℕ) 
   abbrev answer_of : Answer ℕ
   answer_of = lookup_of_answer image reader strings entries path
 
-  -- Each check in its turn: 24, and then those of a record that belongs.
-  pub lookup_wrong : reader_belongs image reader strings entries ≡ false → refused (refusal 24) ≡ answer
-  unfolding lookup_answer
-  lookup_wrong h = rw h
-
+  -- Each check in its turn.
   pub lookup_belongs : reader_belongs image reader strings entries ≡ true → answer_of ≡ answer
   unfolding lookup_answer lookup_of_answer
   lookup_belongs h = rw h

@@ -3,20 +3,17 @@
 use mathlib.Core.Path.{◌≡◌, refl, sym, ◌∙◌}
 use mathlib.Core.Bool.{true, false, not, ◌&&◌, false≢true, and_assoc, and-false}
 use mathlib.Core.List.{List}
-use Prim.Native.Nat.{ℕ, zero, suc, ◌+◌, ◌-◌, ◌≤◌, ◌<◌}
+use Prim.Native.Nat.{ℕ, zero, suc, ◌+◌, ◌≤◌, ◌<◌}
 use native.Mathlib.Omega.{arith}
 use lib.Dec.{eqb, leb}
-use lib.ListN.{length, get_or, drop, length-drop}
+use lib.ListN.{length, get_or}
 use borrow.Author.Tests.{eqb-true, leb-true, eq-eqb, le-leb, not-true, not-false}
 use Rattle.aff_format.specs.Edition.{edition_of, is_known}
-use Rattle.aff_format.specs.Kind.{entry_size}
 use Rattle.aff_format.specs.Limits.{image_limit, string_limit, node_limit}
 use Rattle.aff_format.specs.Lowest.{lowest_from, is_at, none_from}
 use Rattle.aff_format.specs.Tree.{reaches_by}
 use Rattle.aff_format.specs.declared.edition.Edition.{Edition}
 use Rattle.std.specs.Prelude.{Option, Some, None}
-use Rattle.aff_format.proofs.EntryLaws.{entry_inside}
-use Rattle.aff_format.proofs.KindLaws.{entry_size_bounds}
 use Rattle.aff_format.proofs.LowestLaws.{none_holds, holds_none, none_at}
 use Rattle.aff_format.proofs.TestLaws.{both, all_seven}
 use Rattle.aff_reader.specs.Belongs.{reader_belongs, ReaderBelongs, sizes_belong, span_inside, string_lost, strings_belong, node_lost, climbs_belong}
@@ -205,14 +202,19 @@ module _ {image : List ℕ} {reader : Reader} {strings entries : List ℕ} (b : 
   string_within i l =
       name_ends image (reader.symbols.offset + reader.symbols.size) (get_or strings i 0) (omega (arith, b.string_before_end i l)) b.symbols_inside
 
-  -- An entry lies inside the image.
-  pub entry_within : (k : ℕ) → 0 < k → k ≤ reader.nodes → get_or entries (k - 1) 0 + entry_size (recorded_entry image entries k).kind ≤ length image
-  entry_within k l h =
-      let e = recorded_entry image entries k in
-      omega (arith, entry_inside (drop (get_or entries (k - 1) 0) image) e (b.entry_whole k l h), length-drop (get_or entries (k - 1) 0) image, entry_size_bounds e.kind)
-
   -- A climb stays among the nodes.
   pub parent_within : (k : ℕ) → k ≤ reader.nodes → (recorded_entry image entries k).parent ≤ reader.nodes
   unfolding recorded_entry
   parent_within zero h = omega arith
   parent_within (suc k) h = b.parent_exists (suc k) (omega arith) h
+
+-- Bounds by the test itself, for an attribute to name.
+module _ (image : List ℕ) (reader : Reader) (strings entries : List ℕ) (belongs : reader_belongs image reader strings entries ≡ true) where
+  pub nodes_few : reader.nodes ≤ node_limit
+  nodes_few = (belongs_record belongs).few_nodes
+
+  pub symbols_within : reader.symbols.offset + reader.symbols.size ≤ length image
+  symbols_within = (belongs_record belongs).symbols_inside
+
+  pub image_short : length image ≤ image_limit
+  image_short = let b = belongs_record belongs in omega (arith, b.length_recorded, b.length_allowed)

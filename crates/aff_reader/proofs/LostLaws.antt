@@ -1,20 +1,27 @@
 -- What 24 asks of one string and of one node, in the terms of the passes that look for the lowest one lost: the places of strings and the entries
 -- found. Assumes nothing.
-use mathlib.Core.Path.{◌≡◌, refl, sym, ◌∙◌}
-use mathlib.Core.Bool.{Bool, true, false, true≢false}
-use mathlib.Core.List.{List}
+use mathlib.Core.Path.{◌≡◌, refl, sym, ap, ◌∙◌}
+use mathlib.Core.Bool.{Bool, true, false, not, ◌||◌, true≢false}
+use mathlib.Core.List.{List, [], ◌∷◌}
 use mathlib.Core.Logic.{◌↔◌, ⊎_elim}
-use Prim.Native.Nat.{ℕ, ◌+◌, ◌*◌, ◌≤◌, ◌<◌}
-use native.Mathlib.Nat.{eq-or-lt_of_le}
+use Prim.Native.Nat.{ℕ, suc, ◌+◌, ◌*◌, ◌≤◌, ◌<◌}
+use native.Mathlib.Nat.{eq-or-lt_of_le, zero-add}
 use native.Mathlib.Omega.{arith}
-use lib.ListN.{length, get_or, set}
+use lib.Dec.{leb, ltb}
+use lib.ListN.{length, get_or, set, take}
 use lib.Seq.{get_or-set_same, get_or-set_other}
 use borrow.Author.Tests.{le-ltb, lt-leb, ltb-false, leb-false}
 use Rattle.aff_format.specs.Kind.{element_size, is_void}
 use Rattle.aff_format.specs.declared.entry.Entry.{Entry}
+use Rattle.aff_format.specs.Lowest.{is_at, lowest_from, none_from}
+use Rattle.std.specs.List.{position, position_from}
+use Rattle.std.specs.Option.{is_some}
 use Rattle.std.specs.Prelude.{Option, Some, None}
+use Rattle.std.proofs.lemmas.Iterator.Adapters.{position_from-zero}
+use Rattle.std.proofs.lemmas.List.{get_or-take, length-take-le}
 use Rattle.aff_format.proofs.TestLaws.{or_false}
 use Rattle.aff_reader.specs.Belongs.{string_lost, entry_lost, node_lost}
+use Rattle.aff_reader.specs.declared.reader.Reader.{Reader}
 use Rattle.aff_reader.specs.passes.Belongs.{ParentsCopied}
 use Rattle.aff_format.specs.Entry.{or_none}
 use Rattle.aff_format.specs.Recorded.{found_entry, recorded_entry}
@@ -31,6 +38,36 @@ module _ (from end : ℕ) (strings : List ℕ) (i : ℕ) where
     λ h. let (b, e) = or_false _ _ h in (ltb-false _ _ b, leb-false _ _ e),
     λ (b, e). rw (le-ltb (get_or strings i 0) from b, lt-leb end (get_or strings i 0) e),
   )
+
+-- The first of a list of places that a test passes is the lowest number of which a test of the same answers holds.
+position_lowest : (p test : ℕ → Bool) (k : ℕ) (l : List ℕ) → ((i : ℕ) → i < length l → test (k + i) ≡ p (get_or l i 0)) → position_from p k l ≡ lowest_from test (length l) k
+unfolding lowest_from
+position_lowest p test k [] h = refl
+position_lowest p test k (x ∷ l) h =
+    let e : test k ≡ p x = ap test (let z : k ≡ k + 0 = omega arith in z) ∙ h 0 (omega arith) in
+    rw (e, position_lowest p test (k + 1) l (λ i m. ap test (let z : k + 1 + i ≡ k + suc i = omega arith in z) ∙ h (suc i) (omega arith))) refl
+
+-- The pass over the recorded strings decides.
+pub strings_decide : (reader : Reader) (strings : List ℕ) (from end : ℕ) (found : Option ℕ) (b : Bool)
+    → found ≡ position (λ place. ltb place from || leb end place) (take reader.strings strings) → reader.strings ≤ length strings → is_some found ≡ not b
+    → none_from (string_lost from end strings) reader.strings 0 ≡ b
+unfolding string_lost
+strings_decide reader strings from end found b e few is =
+    let p : ℕ → Bool = λ place. ltb place from || leb end place in
+    let test = string_lost from end strings in
+    let l = take reader.strings strings in
+    let n : length l ≡ reader.strings = length-take-le reader.strings strings few in
+    let f : found ≡ lowest_from test reader.strings 0 =
+    e ∙ position_from-zero p l
+    ∙ position_lowest p test 0 l (λ i m. ap test (zero-add i) ∙ ap p (sym (get_or-take reader.strings strings i 0 (omega arith))))
+    ∙ ap (λ j. lowest_from test j 0) n in
+    ap (λ o. not (is_at o)) (sym f) ∙ decides found b is
+  where
+    decides : (f : Option ℕ) (b : Bool) → is_some f ≡ not b → not (is_at f) ≡ b
+    decides None true h = refl
+    decides None false h = sym h
+    decides (Some k) true h = sym h
+    decides (Some k) false h = refl
 
 -- ---- Nodes.
 

@@ -4,10 +4,11 @@ ghost use Rattle.aff_reader.specs.Belongs.{reader_belongs};
 ghost use Rattle.aff_reader.specs.Opened.{of};
 
 use crate::opened::Opened;
-use aff_format::{Entry, recorded};
+use aff_format::Entry;
+use aff_format::recorded::Entries;
 
 // What a call has that has judged the record (24).
-#[derive(Clone, Copy)]
+#[derive(Clone, Copy, Debug, PartialEq, Eq)]
 pub struct Belonging<'a> {
     pub opened: Opened<'a>,
     pub ghost belongs: { of opened reader_belongs ≡ true },
@@ -21,7 +22,11 @@ impl Belonging<'_> {
     pub fn entry(&self, node: usize) -> Entry
         ensures { result ≡ opened_entry self.now.opened node }
     {
-        recorded::recorded_entry(self.opened.image, self.opened.entries, node)
+        let entries = Entries {
+            image: self.opened.image,
+            places: self.opened.entries,
+        };
+        entries.entry(node)
     }
 
     // The parent of a node; the root is its own.
@@ -32,6 +37,7 @@ impl Belonging<'_> {
     }
 
     // Where the symbol section ends.
+    #[tactic(auto, using(crate::proofs::BelongsLaws::symbols_within, crate::proofs::BelongsLaws::image_short))]
     pub fn symbols_end(&self) -> usize
         ensures { result ≡ self.now.opened.reader.symbols.offset + self.now.opened.reader.symbols.size }
     {

@@ -5,7 +5,7 @@ use crate::reader::Reader;
 use aff_format::Refusal;
 
 // What a reading call is passed: the record of an opening, and the image and the two areas that it was opened with. Nothing is known of them.
-#[derive(Clone, Copy)]
+#[derive(Clone, Copy, Debug, PartialEq, Eq)]
 pub struct Opened<'a> {
     pub image: &'a [u8],
     pub reader: Reader,

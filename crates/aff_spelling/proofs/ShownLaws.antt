@@ -38,9 +38,6 @@ pub record Counted (run : List ℕ) (limit left k : ℕ) : Type 0 where
   pub few : left ≤ limit
   pub counted : limit - left + length (shown (drop k run)) ≡ length (shown run)
 
-pub counted_none : (run : List ℕ) (limit : ℕ) → Counted run limit limit 0
-counted_none run limit = record { few = omega arith; counted = omega arith }
-
 module _ {run : List ℕ} {limit left k : ℕ} (c : Counted run limit left k) where
   pub counted_all : length run ≤ k → limit - left ≡ capped limit (length (shown run))
   counted_all h =
@@ -71,9 +68,6 @@ module _ {at : ℕ} {run o p : List ℕ} {end k : ℕ} (size : at + length (show
 
   pub put_length : length p ≡ length o
   put_length = written_length c.written (omega (arith, taken_fits))
-
-  pub put_all : length run ≤ k → Written at (shown run) o p end
-  put_all h = written_same (ap shown (take_all k run h)) c.written
 
   module _ (more : k < length run) where
     pub byte_fits : end + length (shown_byte (get_or run k 0)) ≤ length p

@@ -7,6 +7,7 @@ ghost use Rattle.aff_spelling.specs.Spelling.{hex_digit, is_plain, shown_byte, s
 use aff_format::bytes;
 
 // The bytes of a name themselves; or as the listers print them: a byte below 33, above 126 or equal to 92 as `\x` and two small hex digits (request C-15).
+// A value and no closure: the definitions `spelled` and `spelled_path_at`, which contracts name, are functions of it.
 #[derive(Clone, Copy, Debug, PartialEq, Eq)]
 pub enum Spelling {
     Raw,
@@ -52,7 +53,7 @@ fn put_shown_byte(x: u8, at: usize, out: &mut [u8]) -> usize
 }
 
 // The length of what is printed for some bytes, counted no further than one past a limit. One pass, over no more bytes than the limit and one.
-#[tactic(auto, using(crate::proofs::ShownLaws::counted_none, crate::proofs::ShownLaws::counted_past, crate::proofs::ShownLaws::counted_next, crate::proofs::ShownLaws::counted_all))]
+#[tactic(auto, using(crate::proofs::ShownLaws::counted_past, crate::proofs::ShownLaws::counted_next, crate::proofs::ShownLaws::counted_all))]
 fn shown_length(run: &[u8], limit: usize) -> usize
     requires { limit < 2 ^ 63 }
     ensures { result ≡ capped limit (length (shown run.now)) }
@@ -69,7 +70,7 @@ fn shown_length(run: &[u8], limit: usize) -> usize
 }
 
 // Stores what is printed for some bytes, and returns where it ends. One pass over the bytes.
-#[tactic(auto, using(crate::proofs::ShownLaws::byte_fits, crate::proofs::ShownLaws::put_all))]
+#[tactic(auto, using(crate::proofs::ShownLaws::byte_fits))]
 fn put_shown(run: &[u8], at: usize, out: &mut [u8]) -> usize
     requires { at + length (shown run.now) ≤ length out.old }
     ensures { Written at (shown run.now) out.old out.new result }

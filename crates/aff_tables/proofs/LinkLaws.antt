@@ -1,7 +1,7 @@
 -- Parents, string numbers and names of the nodes: what the pass over them keeps, and the tests 27 and 10 to 13 by what they go by. Tests that
 -- agree node by node have the same lowest node. Assumes nothing.
 use mathlib.Core.Path.{◌≡◌, refl, sym, ap, ◌∙◌}
-use mathlib.Core.Bool.{Bool, true, false, cond, not, ◌&&◌, ◌||◌, true≢false}
+use mathlib.Core.Bool.{Bool, true, false, cond, not, ◌&&◌, ◌||◌}
 use mathlib.Core.List.{List, []}
 use mathlib.Core.Logic.{⊎_elim, ◌↔◌}
 use Prim.Native.Nat.{ℕ, ◌+◌, ◌-◌, ◌≤◌, ◌<◌}
@@ -10,57 +10,33 @@ use native.Mathlib.Omega.{arith}
 use lib.Dec.{eqb, ltb, leb}
 use lib.ListN.{length, get_or, set, take}
 use lib.Seq.{get_or-set_same, get_or-set_other, get_or-take, length-take-le}
-use borrow.Author.Count.{below_more}
 use borrow.Author.Tests.{eqb-true, eqb-false, ltb-true, ltb-false, leb-false, le-ltb, le-leb, lt-leb, not-false}
 use Rattle.aff_format.specs.Bytes.{part, same_bytes}
 use Rattle.aff_format.specs.Lowest.{lowest_from, is_at}
 use Rattle.aff_format.specs.Strings.{is_in, index_in}
-use Rattle.aff_format.specs.Subkey.{subkey_from, is_sound, break_place, is_subkey, shifted}
+use Rattle.aff_format.specs.Subkey.{subkey_from, is_sound, break_place, is_subkey}
+use Rattle.aff_format.specs.Recorded.{name_from}
+use Rattle.aff_format.proofs.RecordedLaws.{name_part}
+use Rattle.aff_format.proofs.SubkeyLaws.{sound_shift}
 use Rattle.aff_format.specs.declared.edition.Edition.{Edition}
 use Rattle.aff_format.specs.declared.entry.Entry.{Entry}
-use Rattle.std.specs.Prelude.{Option, Some, None}
-use Rattle.aff_format.proofs.LowestLaws.{lowest_same, none_holds, holds_none}
+use Rattle.std.specs.Prelude.{Option, None}
+use Rattle.aff_format.proofs.LowestLaws.{lowest_same, none_holds}
 use Rattle.aff_format.proofs.SameLaws.{same_refl, ne_same}
 use Rattle.aff_format.proofs.StringsLaws.{is_in_none, none_is_in, is_in_index_in, index_in_found}
-use Rattle.aff_format.proofs.SubkeyLaws.{subkey_shift, sound_shift}
 use Rattle.aff_format.proofs.TestLaws.{or_false}
 use Rattle.aff_tables.specs.passes.Distinct.{sibling_taken}
 use Rattle.aff_format.specs.Entry.{no_parent, outside}
 use Rattle.aff_tables.specs.Nodes.{Contents, link_wrong, name_break, climb_endless, name_taken, data_outside}
-use Rattle.aff_tables.specs.passes.Results.{Judged, link_bad, Copied, AllDistinct}
-use Rattle.aff_format.specs.Recorded.{name_from}
+use Rattle.aff_tables.specs.passes.Results.{link_bad, Copied, AllDistinct}
 use Rattle.aff_tables.specs.Tables.{repeats}
 use Rattle.aff_tables.proofs.ParentLaws.{reaches_same}
-use Rattle.aff_format.proofs.RecordedLaws.{name_part}
 
--- Strings judged one by one.
+-- A string judged where it lies in the image.
 pub judged_name : (e : Edition) (image : List ℕ) (from end to : ℕ) (finding g : Option ℕ) → (from ≤ end) × (end ≤ length image)
     → to ≡ from + length (name_from image end from) → finding ≡ subkey_from e from (part from (to - from) image) → finding ≡ g
     → is_sound g ≡ is_subkey e (name_from image end from)
 judged_name e image from end to finding g h t r q = rw (← q, r, name_part image end from to h.0 h.1 t, sound_shift e from (name_from image end from))
-
--- The place at which a string breaks, by the place in the image that the rule finds.
-module _ (e : Edition) (image : List ℕ) (from end to : ℕ) (g : Option ℕ) (within : (from ≤ end) × (end ≤ length image))
-    (ends : to ≡ from + length (name_from image end from)) (finds : g ≡ subkey_from e from (part from (to - from) image)) where
-  abbrev alone : Option ℕ
-  alone = subkey_from e 0 (name_from image end from)
-
-  finds_shifted : g ≡ shifted from alone
-  finds_shifted = finds ∙ rw (name_part image end from to within.0 within.1 ends) (subkey_shift e from (name_from image end from))
-
-  pub break_sound : g ≡ None → 0 ≡ break_place alone
-  break_sound q = go alone (sym finds_shifted ∙ q)
-    where
-      go : (r : Option ℕ) → shifted from r ≡ None → 0 ≡ break_place r
-      go None h = refl
-      go (Some o) h = absurd (true≢false (sym (ap is_sound h)))
-
-  pub break_at : (p : ℕ) → g ≡ Some p → (from ≤ p) × (p - from ≡ break_place alone)
-  break_at p q = go alone (sym finds_shifted ∙ q)
-    where
-      go : (r : Option ℕ) → shifted from r ≡ Some p → (from ≤ p) × (p - from ≡ break_place r)
-      go None h = absurd (true≢false (ap is_sound h))
-      go (Some o) h = let n : from + o ≡ p = ap break_place h in (omega arith, omega arith)
 
 -- The second number of 10, by whether the string exists.
 module _ (e : Edition) (strings : ℕ) (string : ℕ → List ℕ) (entry : Entry) where
@@ -71,12 +47,6 @@ module _ (e : Edition) (strings : ℕ) (string : ℕ → List ℕ) (entry : Entr
   pub break_some : entry.string < strings → break_place (subkey_from e 0 (string entry.string)) ≡ name_break e strings string entry
   unfolding name_break
   break_some h = rw (lt-leb strings entry.string h)
-
-pub judged_more : (e : Edition) (image : List ℕ) (end : ℕ) (places : List ℕ) (i : ℕ) (sound : List Bool) (p : ℕ) (v : Bool) → i < length sound
-    → Judged e image end places i sound → p ≡ get_or places i 0 → v ≡ is_subkey e (name_from image end p)
-    → Judged e image end places (i + 1) (set sound i v)
-judged_more e image end places i sound p v h j q r =
-    below_more _ i (λ k l. get_or-set_other sound i k v false (λ y. omega arith) ∙ j k l) (get_or-set_same sound i v false h ∙ r ∙ rw q)
 
 -- Where they are judged, an entry is bad by the judgements where it is by the strings.
 pub links_judged : (e : Edition) (c : Contents) (sound : List Bool) (r : Option ℕ)
@@ -92,10 +62,6 @@ links_judged e c sound r j q =
     go s true h = refl
     go s false h = rw (j s (leb-false c.strings s h))
 
--- An entry that is not bad has a parent that exists.
-pub parent_good : (nodes strings : ℕ) (sound : List Bool) (e : Entry) → link_bad nodes strings sound e ≡ false → e.parent ≤ nodes
-parent_good nodes strings sound e h = ltb-false nodes e.parent (or_false _ _ h).0
-
 -- Parents and string numbers copied node by node.
 set_copied : (l : List ℕ) (f : ℕ → ℕ) (k v : ℕ) → k < length l → ((j : ℕ) → 0 < j → j ≤ k - 1 → get_or l j 0 ≡ f j) → v ≡ f k
     → (j : ℕ) → 0 < j → j ≤ k → get_or (set l k v) j 0 ≡ f j
@@ -105,9 +71,6 @@ set_copied l f k v h c e j lo hi =
     (eq-or-lt_of_le hi)
 
 module _ (entry : ℕ → Entry) (parents names : List ℕ) where
-  pub copied_none : Copied entry 0 parents names
-  copied_none = record { parent = λ j lo hi. absurd (omega arith); name = λ j lo hi. absurd (omega arith) }
-
   pub copied_more : (k : ℕ) → k < length parents → k < length names → Copied entry (k - 1) parents names
       → (e : Entry) → e ≡ entry k → Copied entry k (set parents k e.parent) (set names k e.string)
   copied_more k p n c e q =
@@ -136,9 +99,6 @@ module _ (e : Edition) (c : Contents) where
 
   pub links_clear : lowest_from (link_wrong e c) c.nodes 1 ≡ None → (k : ℕ) → 0 < k → k ≤ c.nodes → Linkable k
   links_clear h k lo hi = (link_asks k).0 (none_holds (link_wrong e c) c.nodes 1 h k (omega arith) (omega arith))
-
-  pub clear_links : ((k : ℕ) → 0 < k → k ≤ c.nodes → Linkable k) → lowest_from (link_wrong e c) c.nodes 1 ≡ None
-  clear_links h = holds_none (link_wrong e c) c.nodes 1 (λ k lo hi. (link_asks k).1 (h k (omega arith) (omega arith)))
 
 -- 12 by the copied numbers. (11: `copied_climbs`.)
 pub copied_siblings : (c : Contents) (parents names : List ℕ) → Copied c.entry c.nodes parents names

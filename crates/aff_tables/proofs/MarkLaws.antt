@@ -8,28 +8,17 @@ use Prim.Native.Nat.{ℕ, zero, suc, ◌+◌, ◌-◌, ◌≤◌, ◌<◌}
 use native.Mathlib.Nat.{not-suc-le-zero, eq-or-lt_of_le, le_of_suc-le-suc, sub-zero, suc-sub-suc}
 use native.Mathlib.Omega.{arith}
 use mathlib.Core.List.{List, [], ◌∷◌}
-use lib.Dec.{eqb}
 use lib.ListN.{length, get_or, set, length-set, replicate, length-replicate}
 use lib.Seq.{get_or-set_same, get_or-set_other}
-use borrow.Author.Tests.{ne_eqb, eqb-true, eqb-false}
+use borrow.Author.Tests.{ne_eqb}
 use Rattle.aff_format.specs.Lowest.{lowest_from}
 use Rattle.aff_format.specs.Tree.{reaches_by}
 use Rattle.std.specs.Prelude.{Some, None}
 use Rattle.aff_format.proofs.ClimbLaws.{reaches_root, reaches_up, longer, settled, absurd_bool}
 use Rattle.aff_format.proofs.StdLaws.{lowest_met, lowest_past, lowest_none}
+use Rattle.std.proofs.lemmas.Bool.{cases_eq}
+use Rattle.std.specs.Cmp.{both_ways}
 use Rattle.aff_tables.specs.passes.Climb.{Marked, Climbed}
-
-same_bool : (a b : Bool) → (a ≡ true → b ≡ true) → (b ≡ true → a ≡ true) → a ≡ b
-same_bool true b f g = sym (f refl)
-same_bool false true f g = absurd_bool (g refl)
-same_bool false false f g = refl
-
-same_by : (x y : ℕ) (b : Bool) → eqb x y ≡ b → (x ≡ y) ⊎ (x ≡ y → ⊥)
-same_by x y true e = inl (eqb-true x y e)
-same_by x y false e = inr (eqb-false x y e)
-
-same : (x y : ℕ) → (x ≡ y) ⊎ (x ≡ y → ⊥)
-same x y = same_by x y (eqb x y) refl
 
 -- How many marks are free: each step sets one.
 unfoldable pub free : List ℕ → ℕ
@@ -82,29 +71,12 @@ pub record On (parent : ℕ → ℕ) (nodes k x : ℕ) (marks₀ marks : List �
   pub mine : (y : ℕ) → get_or marks y 0 ≡ k → reaches_by parent nodes y ≡ reaches_by parent nodes k
   pub back : (y : ℕ) → get_or marks y 0 ≡ k → (j : ℕ) × Steps parent (suc j) y x
 
-pub on_start : {parent : ℕ → ℕ} {nodes k : ℕ} {marks : List ℕ} → ((y : ℕ) → 0 < y → y ≤ nodes → parent y ≤ nodes) → 0 < k → k ≤ nodes
-    → Marked parent nodes k marks
-    → On parent nodes k k marks marks
-on_start links p l m =
-    record {
-      linked = links;
-      start = p;
-      node = l;
-      wide = m.wide;
-      long = refl;
-      as_k = refl;
-      earlier = λ y n. let h = m.earlier y n in omega arith;
-      good = λ y n h. m.good y n;
-      mine = λ y e. absurd (let h = m.earlier y (λ q. omega arith) in omega arith);
-      back = λ y e. absurd (let h = m.earlier y (λ q. omega arith) in omega arith);
-    }
-
 module _ {parent : ℕ → ℕ} {nodes k x : ℕ} {marks₀ marks : List ℕ} (o : On parent nodes k x marks₀ marks) where
   good_up : (x ≡ 0 → ⊥) → reaches_by parent nodes (parent x) ≡ reaches_by parent nodes x
   good_up n =
       let u = reaches_up parent nodes x n in
       let l = o.node in
-      same_bool _ _ (λ e. settled parent nodes o.linked x (omega arith) (u ∙ e)) (λ e. sym u ∙ longer parent nodes x e)
+      both_ways _ _ (λ e. settled parent nodes o.linked x (omega arith) (u ∙ e)) (λ e. sym u ∙ longer parent nodes x e)
 
   at_mark : (y : ℕ) → ((y ≡ x) × (get_or (set marks x k) y 0 ≡ k)) ⊎ (get_or (set marks x k) y 0 ≡ get_or marks y 0)
   at_mark y =
@@ -112,7 +84,7 @@ module _ {parent : ℕ → ℕ} {nodes k x : ℕ} {marks₀ marks : List ℕ} (o
       let w = o.wide in
       ⊎_elim (λ (e : y ≡ x). inl (e, rw e (get_or-set_same marks x k 0 (omega arith))))
       (λ (f : y ≡ x → ⊥). inr (get_or-set_other marks x y k 0 f))
-      (same y x)
+      (cases_eq y x)
 
   pub on_step : (p : ℕ) → (x ≡ 0 → ⊥) → get_or marks x 0 ≡ 0 → p ≡ parent x → On parent nodes k p marks₀ (set marks x k)
   unfolding Steps
@@ -164,7 +136,7 @@ module _ {parent : ℕ → ℕ} {nodes k x : ℕ} {marks₀ marks : List ℕ} (o
   at_mine e =
       let s = o.back x e in
       record {
-        answer = same_bool false _ absurd_bool (λ t. absurd (cycle parent nodes s.0 nodes x (omega arith) s.1 (o.as_k ∙ t)));
+        answer = both_ways false _ absurd_bool (λ t. absurd (cycle parent nodes s.0 nodes x (omega arith) s.1 (o.as_k ∙ t)));
         marked = absurd_bool;
       }
 

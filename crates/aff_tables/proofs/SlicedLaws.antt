@@ -1,11 +1,9 @@
 -- The `size` bytes from `from` on, as the code cuts them out of an image: from one place to another. Assumes nothing.
 use mathlib.Core.Path.{◌≡◌}
 use mathlib.Core.List.{List}
-use Prim.Native.Nat.{ℕ, ◌+◌, ◌-◌, ◌≤◌, ◌<◌}
+use Prim.Native.Nat.{ℕ, ◌+◌, ◌-◌}
 use native.Mathlib.Omega.{arith}
-use lib.ListN.{length}
 use Rattle.aff_format.specs.Bytes.{part}
-use Rattle.aff_format.proofs.BytesLaws.{length_part}
 
 module _ (image : List ℕ) (from size : ℕ) where
   abbrev pub sliced : List ℕ
@@ -13,6 +11,3 @@ module _ (image : List ℕ) (from size : ℕ) where
 
   pub sliced_part : sliced ≡ part from size image
   sliced_part = let n : from + size - from ≡ size = omega arith in rw n
-
-  pub sliced_short : from + size ≤ length image → length image < 2147483648 → from + length sliced < 2147483648
-  sliced_short inside short = rw (sliced_part, length_part from size image inside) (omega arith)

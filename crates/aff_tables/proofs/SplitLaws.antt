@@ -15,7 +15,7 @@ use Rattle.aff_format.proofs.BytesLaws.{length_part}
 use Rattle.aff_format.proofs.StringsLaws.{strings_of_one, length_places_of}
 use Rattle.aff_tables.specs.passes.Results.{split_of}
 use Rattle.std.specs.Prelude.{Option, Some, None}
-use Rattle.aff_format.proofs.LaidLaws.{Laid, laid_start, laid_store, laid_all, laid_full}
+use Rattle.aff_format.proofs.LaidLaws.{Laid, laid_store, laid_all, laid_full}
 
 -- One byte more.
 
@@ -51,11 +51,6 @@ pub record Splitting (section : List ℕ) (first : ℕ) (area₀ area : List ℕ
 abbrev pub Split : List ℕ → ℕ → List ℕ → List ℕ → Option ℕ → Type 0
 Split section first area₀ area r =
     (r ≡ split_of (length area₀) (length (strings_of section))) × (area ≡ laid_over area₀ (places_of first (strings_of section)))
-
-pub split_start : (section : List ℕ) (first : ℕ) (area : List ℕ) → Splitting section first area area 0 0 0
-split_start section first area =
-    let z : first + 0 ≡ first = omega arith in
-    record { at_end = omega arith; start_at = omega arith; no_zero = tt; laid = rw z (laid_start area (places_of first (strings_of section))) }
 
 module _ {section : List ℕ} {first : ℕ} {area₀ area : List ℕ} {n start at : ℕ} (s : Splitting section first area₀ area n start at) where
   from_start : drop start section ≡ part start (at - start) section ++ drop at section

@@ -1,20 +1,21 @@
 -- The strings that begin at the places of a section's strings are its strings; and what the symbol table answers. Assumes nothing.
 use mathlib.Core.Path.{◌≡◌, refl, sym, ap, ◌∙◌}
 use mathlib.Core.Bool.{Bool, true, false, cond}
-use mathlib.Core.List.{List, [], ◌∷◌, map}
-use Prim.Native.Nat.{ℕ, suc, ◌+◌, ◌≤◌, ◌<◌}
+use mathlib.Core.List.{List, [], ◌∷◌}
+use Prim.Native.Nat.{ℕ, ◌+◌, ◌≤◌, ◌<◌}
 use native.Mathlib.Omega.{arith}
 use lib.Dec.{leb, ltb}
-use lib.ListN.{length, get_or, take}
-use borrow.Author.Tests.{leb-true, leb-false, lt-ltb, le-ltb, ltb-false}
+use lib.ListN.{length, get_or, take, length-map}
+use Rattle.std.proofs.lemmas.List.{ext_get_or, get_or-map}
+use borrow.Author.Tests.{leb-true, le-ltb, ltb-false}
 use Rattle.aff_format.specs.Answer.{accepted, refusal_at, first_wrong, Clear}
 use Rattle.aff_format.specs.Bytes.{part, laid_over}
 use Rattle.aff_format.specs.Limits.{string_limit}
 use Rattle.aff_format.specs.Lowest.{lowest_from}
 use Rattle.aff_format.specs.Strings.{strings_of, places_of}
 use Rattle.aff_format.specs.declared.edition.Edition.{Edition}
-use Rattle.std.specs.Prelude.{Option, Some, None, Result, Err}
-use Rattle.aff_format.proofs.AnswerLaws.{not_both, numbers_reported}
+use Rattle.std.specs.Prelude.{Option, Some, None, Result}
+use Rattle.aff_format.proofs.AnswerLaws.{numbers_reported}
 use Rattle.aff_format.proofs.BytesLaws.{length_part}
 use Rattle.aff_format.proofs.LowestLaws.{clear_lowest, numbers_lowest}
 use Rattle.aff_format.proofs.StringsLaws.{length_places_of, places_of_from, string_begins, string_in_section}
@@ -24,17 +25,10 @@ use Rattle.aff_tables.specs.passes.Results.{split_of, counted_of, symbols_of}
 use Rattle.aff_format.specs.Recorded.{recorded_string, name_from}
 use Rattle.aff_tables.proofs.SlicedLaws.{sliced, sliced_part}
 use Rattle.aff_format.specs.declared.refusal.Refusal.{Refusal}
-use Rattle.aff_format.specs.declared.refusal.Refusal.TheVariants.{TooManyStrings}
 use Rattle.aff_format.specs.Verdict.{answer_of}
 use Rattle.aff_format.proofs.LaidLaws.{length_laid, laid_at, laid_front}
 
 -- Strings by their places.
-
-map_is : (f : ℕ → List ℕ) (ps : List ℕ) (ss : List (List ℕ)) → length ps ≡ length ss → ((i : ℕ) → i < length ss → f (get_or ps i 0) ≡ get_or ss i []) → map f ps ≡ ss
-map_is f [] [] l h = refl
-map_is f [] (s ∷ ss) l h = absurd (omega arith)
-map_is f (p ∷ ps) [] l h = absurd (omega arith)
-map_is f (p ∷ ps) (s ∷ ss) l h = rw (h 0 (omega arith), map_is f ps ss (omega arith) (λ i k. h (suc i) (omega arith)))
 
 module _ (image : List ℕ) (from size : ℕ) where
   abbrev strings : List (List ℕ)
@@ -45,7 +39,11 @@ module _ (image : List ℕ) (from size : ℕ) where
   name_is i h = string_in_section image from size i h
 
   pub names_are : names_at image (from + size) (places_of from strings) ≡ strings
-  names_are = map_is (name_from image (from + size)) (places_of from strings) strings (length_places_of from strings) name_is
+  names_are =
+      let l = length_places_of from strings in
+      let m = length-map (places_of from strings) (name_from image (from + size)) in
+      ext_get_or [] (names_at image (from + size) (places_of from strings)) strings (m ∙ l)
+      (λ i h. get_or-map (name_from image (from + size)) (places_of from strings) i 0 [] (omega arith) ∙ name_is i (omega arith))
 
   module _ (area : List ℕ) (fits : length strings ≤ length area) where
     pub string_recorded : (i : ℕ) → i < length strings → recorded_string image (from + size) (laid_over area (places_of from strings)) i ≡ get_or strings i []
@@ -75,13 +73,6 @@ module _ (image : List ℕ) (from size : ℕ) where
         (rw p (omega arith), rw p (omega arith))
 
 -- The answers of the symbol table.
-
-split_many : (limit n : ℕ) → split_of limit n ≡ None → limit < n
-split_many limit n = go (leb n limit) refl
-  where
-    go : (b : Bool) → leb n limit ≡ b → cond b (Some n) None ≡ None → limit < n
-    go true h q = absurd (let z : ◌≡◌ {A = ℕ} 0 1 = cc in omega arith)
-    go false h q = leb-false n limit h
 
 split_few : (limit n m : ℕ) → split_of limit n ≡ Some m → (m ≡ n) × (n ≤ limit)
 split_few limit n m = go (leb n limit) refl
@@ -133,9 +124,6 @@ module _ (e : Edition) (records : ℕ) (image : List ℕ) (from size : ℕ) (are
 
     area_is : area ≡ laid_over area₀ (places_of from names)
     area_is = laid ∙ rw (sliced_part image from size)
-
-    pub table_many : p ≡ None → SymbolTable e records image from size area₀ area (Err TooManyStrings)
-    table_many q = (rw (lt-ltb 2048 (length names) (split_many 2048 (length names) (parts_are ∙ q))), λ n q. not_both q)
 
     module _ {n : ℕ} (few : p ≡ Some n) where
       number : (n ≡ length names) × (length names ≤ 2048)

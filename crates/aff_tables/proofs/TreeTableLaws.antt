@@ -15,17 +15,13 @@ use Rattle.aff_format.specs.Kind.{entry_size, kind_code, kind_of, is_void}
 use Rattle.aff_format.specs.Number.{be_of}
 use Rattle.aff_format.specs.declared.edition.Edition.{Edition}
 use Rattle.aff_format.specs.declared.entry.Entry.{Entry}
-use Rattle.std.specs.Prelude.{Option, Some, None, Result, Ok, Err}
-use Rattle.aff_format.proofs.AnswerLaws.{not_both}
+use Rattle.std.specs.Prelude.{Option, Some, None, Result}
 use Rattle.aff_format.proofs.BytesLaws.{drop_take, octets_drop}
 use Rattle.aff_format.proofs.EntryLaws.{entry_inside, fields_are, entry_past, entry_whole, whole_kind, whole_parent, whole_string, whole_count, whole_offset, whole_void_count, whole_void_offset, length_entry_bytes, entry_round_trip, entry_back, entry_storable}
 use Rattle.aff_format.proofs.KindLaws.{entry_size_bounds, kind_of_code}
-use Rattle.aff_tables.specs.Tables.{node_entry, is_empty, tree_checks, entries_of, after_entries, count_differs, entries_in, bytes_after_entries, entry_places, and_then, or_after, tree_bytes}
-use Rattle.aff_tables.specs.passes.Results.{walk_of}
+use Rattle.aff_tables.specs.Tables.{node_entry, is_empty, tree_checks, entries_of, entries_in, bytes_after_entries, entry_places, and_then, or_after, tree_bytes}
 use Rattle.aff_format.specs.Recorded.{found_entry, recorded_entry}
-use Rattle.aff_tables.proofs.SlicedLaws.{sliced, sliced_part}
 use Rattle.aff_format.specs.declared.refusal.Refusal.{Refusal}
-use Rattle.aff_format.specs.declared.refusal.Refusal.TheVariants.{BadTreeTable}
 use Rattle.aff_format.specs.Verdict.{answer_of}
 use Rattle.aff_format.proofs.LaidLaws.{laid_at}
 use Rattle.aff_tables.proofs.WalkLaws.{length_entry_places, entries_more, after_more, over_broken}
@@ -163,48 +159,9 @@ pub empty_is : (l : List ℕ) → is_empty l ≡ true → l ≡ []
 empty_is [] h = refl
 empty_is (x ∷ l) h = absurd (true≢false (sym h))
 
-walk_nodes : (m n : ℕ) (l : List ℕ) → walk_of m l ≡ Ok n → (is_empty l ≡ true) × (n ≡ m)
-walk_nodes m n [] q = (refl, cc)
-walk_nodes m n (x ∷ l) q = absurd (let z : ◌≡◌ {A = ℕ} 0 1 = cc in omega arith)
-
-walk_bad : (m : ℕ) (refusal : Refusal) (l : List ℕ) → walk_of m l ≡ Err refusal → (is_empty l ≡ false) × (refusal ≡ BadTreeTable (m + 1))
-walk_bad m refusal [] q = absurd (let z : ◌≡◌ {A = ℕ} 0 1 = cc in omega arith)
-walk_bad m refusal (x ∷ l) q = (refl, cc)
-
 -- What the table of a section reports, and its area where it accepts.
 module _ (e : Edition) (records : ℕ) (image : List ℕ) (from size : ℕ) (area₀ area : List ℕ) where
   abbrev pub TableOfTree : Result ℕ Refusal → Type 0
   TableOfTree r =
       (answer_of r ≡ first_wrong (tree_checks e records (part from size image)) (length (entries_of (part from size image))))
       × ((n : ℕ) → answer_of r ≡ accepted n → area ≡ laid_over area₀ (entry_places from (entries_of (part from size image))))
-
-module _ (e : Edition) (records : ℕ) (image : List ℕ) (from size : ℕ) (area₀ area : List ℕ) {p : Result ℕ Refusal} (long : length area₀ ≡ 2048)
-    (parts : p ≡ walk_of (length (entries_in (length area₀) (sliced image from size))) (bytes_after_entries (length area₀) (sliced image from size)))
-    (laid : area ≡ laid_over area₀ (entry_places from (entries_in (length area₀) (sliced image from size)))) where
-  abbrev nodes : List Entry
-  nodes = entries_of (part from size image)
-
-  abbrev rest : List ℕ
-  rest = after_entries (part from size image)
-
-  parts_are : walk_of (length nodes) rest ≡ p
-  parts_are = sym (parts ∙ rw (long, sliced_part image from size))
-
-  area_is : area ≡ laid_over area₀ (entry_places from nodes)
-  area_is = laid ∙ rw (long, sliced_part image from size)
-
-  pub tree_broken : {refusal : Refusal} → p ≡ Err refusal → TableOfTree e records image from size area₀ area (Err refusal)
-  tree_broken {refusal} q = let f = walk_bad (length nodes) refusal rest (parts_are ∙ q) in (rw (f.0, f.1), λ n a. not_both a)
-
-  module _ {n : ℕ} {b : Bool} (q : p ≡ Ok n) (differs : b ≡ count_differs e records n) where
-    number : (is_empty rest ≡ true) × (n ≡ length nodes)
-    number = walk_nodes (length nodes) n rest (parts_are ∙ q)
-
-    count_is : count_differs e records (length nodes) ≡ b
-    count_is = rw (← number.1) (sym differs)
-
-    pub tree_differs : b ≡ true → TableOfTree e records image from size area₀ area (Err (BadTreeTable 0))
-    tree_differs h = (rw (number.0, count_is, h), λ n a. not_both a)
-
-    pub tree_whole : b ≡ false → TableOfTree e records image from size area₀ area (Ok n)
-    tree_whole h = (rw (number.0, count_is, h, number.1), λ k a. area_is)

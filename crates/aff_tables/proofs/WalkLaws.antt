@@ -2,7 +2,6 @@
 use mathlib.Core.Path.{◌≡◌, refl, sym, ap, ◌∙◌}
 use mathlib.Core.List.{List, [], ◌∷◌}
 use Prim.Native.Nat.{ℕ, zero, suc, ◌+◌, ◌-◌, ◌≤◌, ◌<◌}
-use native.Mathlib.Nat.{sub-zero, add-zero}
 use native.Mathlib.Omega.{arith}
 use lib.ListN.{length, set, drop, length-drop}
 use lib.Seq.{drop-drop}
@@ -16,7 +15,7 @@ use Rattle.aff_tables.specs.passes.Results.{size_found, walk_of}
 use Rattle.aff_tables.specs.Tables.{entries_in, bytes_after_entries, entry_places}
 use Rattle.aff_format.specs.Bytes.{laid_over}
 use Rattle.aff_format.specs.declared.refusal.Refusal.{Refusal}
-use Rattle.aff_format.proofs.LaidLaws.{Laid, laid_start, laid_store, laid_all}
+use Rattle.aff_format.proofs.LaidLaws.{Laid, laid_store, laid_all}
 
 pub length_entry_places : (at : ℕ) (es : List Entry) → length (entry_places at es) ≡ length es
 unfolding entry_places
@@ -24,13 +23,6 @@ length_entry_places at [] = refl
 length_entry_places at (e ∷ es) = ap suc (length_entry_places (at + entry_size e.kind) es)
 
 -- An entry is found, or none.
-
-pub found_inside : (l : List ℕ) → size_found (entry_of l) ≤ length l
-found_inside l = go (entry_of l) refl
-  where
-    go : (f : Option Entry) → entry_of l ≡ f → size_found f ≤ length l
-    go (Some e) h = entry_inside l e h
-    go None h = omega arith
 
 found_broken : (f : Option Entry) → size_found f ≡ 0 → f ≡ None
 found_broken (Some e) h = absurd (omega (arith, entry_size_bounds e.kind))
@@ -64,10 +56,6 @@ abbrev pub Walk : List ℕ → ℕ → List ℕ → List ℕ → Result ℕ Refu
 Walk section first area₀ area r =
     (r ≡ walk_of (length (entries_in (length area₀) section)) (bytes_after_entries (length area₀) section))
     × (area ≡ laid_over area₀ (entry_places first (entries_in (length area₀) section)))
-
-pub walk_start : (section : List ℕ) (first : ℕ) (area : List ℕ) → Walking section first area area 0 0
-walk_start section first area =
-    record { at_end = omega arith; laid = rw (sub-zero, add-zero) (laid_start area _); rest = rw sub-zero }
 
 module _ {section : List ℕ} {first : ℕ} {area₀ area : List ℕ} {n at : ℕ} (w : Walking section first area₀ area n at) where
   -- One entry more.

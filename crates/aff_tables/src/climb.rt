@@ -5,7 +5,7 @@ ghost use Rattle.aff_format.specs.Tree.{reaches_by};
 ghost use Rattle.aff_tables.specs.passes.Climb.{ParentsExist, copied_parent, ClimbReady, Climbed};
 
 // Climbs from k and marks each node it meets with k, up to the root or a marked node. It came to the root unless it met its own mark: an
-// earlier climb, which came there, has made any other. One step for each mark it sets, and one more. It follows parents, so no index is counted.
+// earlier climb, which came there, has made any other. One step for each mark it sets, and one more. A `while`, since it follows parents.
 #[tactic(auto, using(crate::proofs::MarkLaws::at_mine, crate::proofs::MarkLaws::at_good, crate::proofs::MarkLaws::at_root))]
 fn trail(parents: &[u32], nodes: usize, k: usize, marks: &mut [u32]) -> bool
     requires { ClimbReady parents.now nodes k marks.old }

@@ -4,7 +4,7 @@
 
 mod counts; // record counts
 pub mod symbols; // the symbol table
-mod placed; // strings by their places
+pub mod placed; // strings by their places
 mod distinct; // equal strings, and equal siblings
 pub mod tree; // the tree table
 mod links; // parents, strings and names of the nodes

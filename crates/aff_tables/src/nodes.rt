@@ -1,29 +1,29 @@
 // What is asked of the nodes, after the two tables.
-ghost use Rattle.std.specs.Prelude.{◌≡◌, ◌+◌, ◌≤◌, ◌<◌, length};
+ghost use Rattle.std.specs.Prelude.{◌≡◌, ◌≤◌, ◌<◌, length};
 ghost use Rattle.aff_format.specs.Answer.{first_wrong};
-ghost use Rattle.aff_format.specs.Verdict.{answer_of};
-ghost use Rattle.aff_tables.specs.passes.Climb.{ParentsExist};
-ghost use Rattle.aff_tables.specs.passes.Distinct.{Places};
-ghost use Rattle.aff_tables.specs.Nodes.{node_checks, recorded_contents};
-ghost use Rattle.aff_tables.specs.passes.Results.{copied_checks, AllDistinct};
 ghost use Rattle.aff_format.specs.Recorded.{recorded_entry, recorded_string};
+ghost use Rattle.aff_format.specs.Verdict.{answer_of};
+ghost use Rattle.aff_tables.specs.Nodes.{node_checks, recorded_contents};
+ghost use Rattle.aff_tables.specs.passes.Climb.{ParentsExist};
+ghost use Rattle.aff_tables.specs.passes.Results.{copied_checks, AllDistinct};
 
 use crate::placed::Strings;
 use crate::{climb, data, distinct, links};
+use aff_format::data::Bounds;
+use aff_format::recorded::Entries;
 use aff_format::{Edition, Refusal};
 
-// 11 to 13, with parents and string numbers copied. The data section is `size` bytes from `from` on.
+// 11 to 13, with parents and string numbers copied; data may be within the bounds.
 fn copied_checks(
-    image: &[u8],
-    entries: &[u32],
+    entries: &Entries<'_>,
     nodes: usize,
-    from: usize,
-    size: usize,
+    bounds: Bounds,
     parents: &[u32],
     names: &[u32],
 ) -> Result<(), Refusal>
-    requires { ParentsExist parents.now nodes × (nodes < length names.now) × (from + size < 2147483648) }
-    ensures { answer_of result ≡ first_wrong (copied_checks from size parents.now names.now nodes (recorded_entry image.now entries.now)) tt }
+    requires linked { ParentsExist parents.now nodes }
+    requires named { nodes < length names.now }
+    ensures { answer_of result ≡ first_wrong (copied_checks bounds.from bounds.size parents.now names.now nodes (recorded_entry entries.now.image.now entries.now.places.now)) tt }
 {
     if let Some(k) = climb::climbs(parents, nodes) {
         return Err(Refusal::EndlessClimb(k));
@@ -31,38 +31,34 @@ fn copied_checks(
     if let Some(k) = distinct::repeated_sibling(parents, names, nodes) {
         return Err(Refusal::RepeatedName(k));
     }
-    if let Some(k) = data::data_outside(image, entries, nodes, from, size) {
+    if let Some(k) = data::data_outside(entries, nodes, bounds) {
         return Err(Refusal::DataOutside(k));
     }
     Ok(())
 }
 
-// 10 to 13. The symbol section ends at `end`; the data section is `size` bytes from `from` on.
+// 10 to 13, of the nodes whose entries are at some places of the image of the strings; their data may be within the bounds.
+// Parents and string numbers are copied into two arrays, not into one of pairs: `climbs`, which 24 uses too, takes parents alone.
 pub fn node_checks(
-    image: &[u8],
+    strings: &Strings<'_>,
     edition: Edition,
-    end: usize,
-    places: &[u32],
-    strings: usize,
     entries: &[u32],
     nodes: usize,
-    from: usize,
-    size: usize,
+    bounds: Bounds,
 ) -> Result<(), Refusal>
-    requires { Places image.now end places.now strings × AllDistinct strings (recorded_string image.now end places.now) × (nodes ≤ 2048) × (from + size < 2147483648) }
-    ensures { answer_of result ≡ first_wrong (node_checks edition from size (recorded_contents image.now end places.now strings entries.now nodes)) tt }
+    requires distinct { AllDistinct strings.now.count (recorded_string strings.now.image.now strings.now.end strings.now.places.now) }
+    requires few { nodes ≤ 2048 }
+    ensures { answer_of result ≡ first_wrong (node_checks edition bounds.from bounds.size (recorded_contents strings.now.image.now strings.now.end strings.now.places.now strings.now.count entries.now nodes)) tt }
 {
     let mut parents = [0u32; 2049];
     let mut names = [0u32; 2049];
-    let strings = Strings {
-        image,
-        end,
-        places,
-        count: strings,
+    let recorded = Entries {
+        image: strings.image,
+        places: entries,
     };
-    if let Some(k) = links::linked(&strings, edition, entries, nodes, &mut parents, &mut names) {
-        let place = links::name_break(&strings, edition, entries, k);
+    if let Some(k) = links::linked(strings, edition, entries, nodes, &mut parents, &mut names) {
+        let place = links::name_break(strings, edition, recorded.entry(k));
         return Err(Refusal::BadLink(k, place));
     }
-    copied_checks(image, entries, nodes, from, size, &parents, &names)
+    copied_checks(&recorded, nodes, bounds, &parents, &names)
 }

@@ -4,7 +4,6 @@ ghost use Rattle.aff_format.specs.Answer.{accepted};
 ghost use Rattle.aff_format.specs.Bytes.{part, laid_over};
 ghost use Rattle.aff_format.specs.Strings.{strings_of, places_of};
 ghost use Rattle.aff_tables.specs.Tables.{names_at};
-ghost use Rattle.aff_tables.specs.passes.Distinct.{Places};
 ghost use Rattle.aff_tables.specs.passes.Results.{split_of, counted_of, symbols_of};
 ghost use Rattle.aff_format.specs.Verdict.{answer_of};
 
@@ -14,7 +13,6 @@ use aff_format::{Edition, Refusal};
 
 // Stores where each string of a section begins; the section begins at place `first` of the image. Bytes after the last zero are one more string.
 // How many there are, or none where the area has too few places. One pass over the section.
-#[tactic(auto, using(crate::proofs::SplitLaws::split_skip))]
 fn split(section: &[u8], first: usize, places: &mut [u32]) -> Option<usize>
     requires { first + length section.now < 2147483648 }
     ensures value { result ≡ split_of (length places.old) (length (strings_of section.now)) }
@@ -43,35 +41,21 @@ fn split(section: &[u8], first: usize, places: &mut [u32]) -> Option<usize>
 }
 
 // After the split: the count, then equal strings.
-fn counted(
-    image: &[u8],
-    edition: Edition,
-    records: u64,
-    end: usize,
-    places: &[u32],
-    n: usize,
-) -> Result<usize, Refusal>
-    requires { Places image.now end places.now n }
-    ensures { result ≡ counted_of edition records (names_at image.now end (take n places.now)) n }
+fn counted(strings: &Strings<'_>, edition: Edition, records: u64) -> Result<usize, Refusal>
+    ensures { result ≡ counted_of edition records (names_at strings.now.image.now strings.now.end (take strings.now.count strings.now.places.now)) strings.now.count }
 {
-    if counts::count_differs(edition, records, n) {
+    if counts::count_differs(edition, records, strings.count) {
         return Err(Refusal::WrongStringCount);
     }
-    let strings = Strings {
-        image,
-        end,
-        places,
-        count: n,
-    };
-    match distinct::repeated_string(&strings) {
+    match distinct::repeated_string(strings) {
         Some(string) => Err(Refusal::RepeatedString(string)),
-        None => Ok(n),
+        None => Ok(strings.count),
     }
 }
 
 // 25 to 27, of the symbol section, `size` bytes from `from` on, with the record count of its header: the table's first fault, or how many strings it
 // has, with where each begins stored. The last string ends at its zero or, where it has none, at the section's end.
-#[tactic(auto, using(crate::proofs::SymbolLaws::table_places, crate::proofs::SymbolLaws::table_counted))]
+#[tactic(auto, using(crate::proofs::SymbolLaws::table_places))]
 pub fn symbol_table(
     image: &[u8],
     edition: Edition,
@@ -80,11 +64,19 @@ pub fn symbol_table(
     records: u64,
     places: &mut [u32],
 ) -> Result<usize, Refusal>
-    requires { (from + size ≤ length image.now) × (length image.now < 2147483648) × (length places.old ≡ 2048) }
+    requires inside { from + size ≤ length image.now }
+    requires short { length image.now < 2147483648 }
+    requires room { length places.old ≡ 2048 }
     ensures value { result ≡ symbols_of edition records (part from size image.now) }
     ensures stored { (n : ℕ) → answer_of result ≡ accepted n → places.new ≡ laid_over places.old (places_of from (strings_of (part from size image.now))) }
 {
     let end = from + size;
-    let strings = split(&image[from..end], from, places).ok_or(Refusal::TooManyStrings)?;
-    counted(image, edition, records, end, places, strings)
+    let count = split(&image[from..end], from, places).ok_or(Refusal::TooManyStrings)?;
+    let strings = Strings {
+        image,
+        end,
+        places,
+        count,
+    };
+    counted(&strings, edition, records)
 }

@@ -19,7 +19,8 @@ fn entry_size(section: &[u8], at: usize) -> usize
 
 // After n whole entries, which end at a place: how many they are, where they are the whole section; else the next one is broken.
 fn ended(section: &[u8], at: usize, n: usize) -> Result<usize, Refusal>
-    requires { (at ≤ length section.now) × (n + 1 < 2 ^ 64) }
+    requires within { at ≤ length section.now }
+    requires fits { n + 1 < 2 ^ 64 }
     ensures { result ≡ walk_of n (drop at section.now) }
 {
     if at == section.len() {
@@ -58,7 +59,9 @@ pub fn tree_table(
     records: u64,
     places: &mut [u32],
 ) -> Result<usize, Refusal>
-    requires { (from + size ≤ length image.now) × (length image.now < 2147483648) × (length places.old ≡ 2048) }
+    requires inside { from + size ≤ length image.now }
+    requires short { length image.now < 2147483648 }
+    requires room { length places.old ≡ 2048 }
     ensures value { answer_of result ≡ first_wrong (tree_checks edition records (part from size image.now)) (length (entries_of (part from size image.now))) }
     ensures stored { (n : ℕ) → answer_of result ≡ accepted n → places.new ≡ laid_over places.old (entry_places from (entries_of (part from size image.now))) }
 {

@@ -15,7 +15,10 @@ use Rattle.aff_format.specs.declared.section.Section.TheVariants.{Symbol, Tree, 
 use Rattle.aff_format.proofs.BytesLaws.{spliced_next}
 use Rattle.aff_format.proofs.EditionLaws.{length_signature_text, section_header_sizes}
 use Rattle.aff_areas.specs.Areas.{used_text, entries_out, data_nodes, finished_size}
-use Rattle.aff_areas.specs.Belongs.{WriterBelongs}
+use Rattle.aff_format.specs.Answer.{accepted, refused, first_wrong}
+use Rattle.aff_format.specs.declared.refusal.RefusalCode.{RefusalCode}
+use Rattle.aff_areas.specs.Belongs.{WriterBelongs, writer_checks}
+use Rattle.aff_areas.proofs.BelongsLaws.{judge_refuses, judge_leaves}
 use Rattle.aff_header.specs.Header.{header_front, with_sum}
 use Rattle.aff_areas.specs.Stores.{Store, apply_stores, stores_from}
 use Rattle.aff_areas.specs.Writer.{writer_edition, data_place}
@@ -23,7 +26,7 @@ use Rattle.aff_areas.specs.declared.writer.Writer.{Writer}
 use Rattle.aff_areas.proofs.AreaLaws.{entry_sizes_most, length_entries_out}
 use Rattle.aff_header.proofs.HeaderLaws.{length_section_header, three_headers, length_header_front, take_front}
 use Rattle.aff_areas.proofs.StoreLaws.{length_stores_from}
-use Rattle.aff_write.specs.Close.{symbols_place, tree_place, data_bytes, section_of, close_section, close_header, close_stores}
+use Rattle.aff_write.specs.Close.{symbols_place, tree_place, data_bytes, section_of, close_section, close_header, close_stores, store_checks, close_answer}
 use Rattle.aff_write.proofs.SpentLaws.{two_made, two_buffer}
 
 -- Each section header has the size of its edition.
@@ -159,3 +162,14 @@ module _ (at : ℕ) (symbols entries header : List ℕ) (allowance first second 
     two_made (body_stores at symbols entries) (head_stores header) allowance first second buffer₀ buffer₁ buffer₂ m₁ r₁ second_made second_buffer,
     two_buffer (body_stores at symbols entries) (head_stores header) allowance first second buffer₀ buffer₁ buffer₂ m₁ r₁ second_made second_buffer,
   )
+
+-- What `judge` refuses (24, 22) is the call's refusal; else 23 decides.
+module _ (buffer : List ℕ) (writer : Writer) (text tree : List ℕ) (allowance : ℕ) {A : Type 0} (a : A) where
+  pub judge_stops : {t : RefusalCode} → refused t ≡ first_wrong (writer_checks (length buffer) writer text tree) a → refused t ≡ close_answer buffer writer text tree allowance
+  unfolding close_answer
+  judge_stops h = judge_refuses (length buffer) writer text tree a h (store_checks buffer writer text tree allowance) (length (close_stores buffer writer text tree))
+
+  pub judge_passes : {b : A} → accepted b ≡ first_wrong (writer_checks (length buffer) writer text tree) a
+      → first_wrong (store_checks buffer writer text tree allowance) (length (close_stores buffer writer text tree)) ≡ close_answer buffer writer text tree allowance
+  unfolding close_answer
+  judge_passes h = judge_leaves (length buffer) writer text tree a h (store_checks buffer writer text tree allowance) (length (close_stores buffer writer text tree))

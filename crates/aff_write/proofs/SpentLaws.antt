@@ -8,8 +8,11 @@ use lib.Dec.{ltb}
 use lib.ListN.{length, take, length-append}
 use lib.Seq.{take_all}
 use borrow.Author.Tests.{lt-ltb, le-ltb}
-use Rattle.aff_format.specs.Answer.{Answer, accepted, refused, Check, check, refusal_at, first_wrong}
-use Rattle.aff_areas.specs.Stores.{Store, apply_stores}
+use Rattle.aff_format.specs.Answer.{Answer, accepted, refused, Check, check, refusal_at, unless, first_wrong}
+use mathlib.Core.Bool.{Bool, true, false}
+use Rattle.aff_areas.specs.Stores.{Store, apply_stores, buffer_after}
+use Rattle.aff_areas.specs.Writer.{stopped, writer_after}
+use Rattle.aff_areas.specs.declared.writer.Writer.{Writer}
 use Rattle.aff_areas.proofs.StoreLaws.{apply_append, take_both}
 
 -- The front of a list is shorter than it, or is all of it.
@@ -23,6 +26,12 @@ take_long zero [] h = (omega arith, refl)
 take_long zero (x ∷ l) h = absurd (omega arith)
 take_long (suc k) [] h = (omega arith, refl)
 take_long {A} (suc k) (x ∷ l) h = let (a, b) = take_long k l (omega arith) in (omega arith, ap (λ (r : List A). x ∷ r) b)
+
+-- What a call promises of its answer, its record and the buffer.
+pub record WritingPromise (checks : List Check) (stores : List Store) (next given : Writer) (buffer₀ buffer₁ : List ℕ) (answer : Answer ℕ) (writer : Writer) : Type 0 where
+  pub answer_is : answer ≡ first_wrong checks (length stores)
+  pub writer_is : writer ≡ writer_after answer next given
+  pub buffer_is : buffer₁ ≡ buffer_after answer stores buffer₀
 
 -- 23.
 abbrev pub spent_check : List Store → ℕ → List Check
@@ -42,6 +51,10 @@ module _ (stores : List Store) (allowance made : ℕ) (buffer₀ buffer₁ : Lis
       let (a, b) = take_short allowance stores (omega arith) in
       r ∙ ap (λ (k : ℕ). apply_stores buffer₀ (take k stores)) (sym (m ∙ b))
 
+  pub reported_spent : (next given : Writer) → made < length stores
+      → WritingPromise (spent_check stores allowance) stores next given buffer₀ buffer₁ (refused (refusal_at 23 made)) (stopped given)
+  reported_spent next given h = record { answer_is = spent_answer h; writer_is = refl; buffer_is = spent_buffer h }
+
   -- All were made.
   pub made_answer : length stores ≤ made → ◌≡◌ {A = Answer ℕ} (accepted made) (first_wrong (spent_check stores allowance) (length stores))
   made_answer h =
@@ -53,6 +66,20 @@ module _ (stores : List Store) (allowance made : ℕ) (buffer₀ buffer₁ : Lis
   made_buffer h =
       let (a, b) = take_long allowance stores (omega arith) in
       r ∙ ap (apply_stores buffer₀) (b ∙ sym (take_all made stores h))
+
+  pub reported_made : (next given : Writer) → length stores ≤ made
+      → WritingPromise (spent_check stores allowance) stores next given buffer₀ buffer₁ (accepted made) next
+  reported_made next given h = record { answer_is = made_answer h; writer_is = refl; buffer_is = made_buffer h }
+
+-- Where only 23 can refuse, the record is stopped in any case.
+stopped_either : (given : Writer) (allowance n : ℕ) (b : Bool)
+    → writer_after (unless b (refusal_at 23 allowance) (accepted n)) (stopped given) given ≡ stopped given
+stopped_either given allowance n true = refl
+stopped_either given allowance n false = refl
+
+pub stopped_after_lem : (stores : List Store) (allowance : ℕ) (given : Writer) (answer : Answer ℕ) → answer ≡ first_wrong (spent_check stores allowance) (length stores)
+    → writer_after answer (stopped given) given ≡ stopped given
+stopped_after_lem stores allowance given answer e = rw e (stopped_either given allowance (length stores) (ltb allowance (length stores)))
 
 -- Some stores and others after them under one allowance.
 module _ (a b : List Store) (allowance first second : ℕ) (buffer₀ buffer₁ buffer₂ : List ℕ)

@@ -55,10 +55,22 @@ put_writer writer bytes =
     }
 
 module _ (writer : Writer) (tree : List ℕ) where
-  -- 21, 23: the entry grows from 13 bytes to 25; the padding counts.
+  -- 21: the entry grows from 13 bytes to 25; the padding counts.
+  abbrev pub buffer_short : List ℕ → Bool
+  buffer_short bytes = ltb writer.length (finished_size writer tree + 12 + padding writer.end + length bytes)
+
+  -- 21, 23.
   abbrev pub buffer_checks : List ℕ → ℕ → List Check
-  buffer_checks bytes allowance =
-      check (ltb writer.length (finished_size writer tree + 12 + padding writer.end + length bytes)) (refusal 21) ∷ store_check writer bytes allowance
+  buffer_checks bytes allowance = check (buffer_short bytes) (refusal 21) ∷ store_check writer bytes allowance
+
+  -- 15, 18, 19, 21: all that is checked of the node and its data before the first store.
+  abbrev pub entry_checks : ℕ → ℕ → List ℕ → List Check
+  entry_checks node type bytes =
+      check (ltb writer.nodes node) (refusal 15)
+      ∷ check (takes_none tree node) (refusal 18)
+      ∷ check (wrong_data (kind_of type) (length bytes)) (refusal 19)
+      ∷ check (buffer_short bytes) (refusal 21)
+      ∷ []
 
   -- 15, 18, 19, 21, 23.
   abbrev pub data_checks : ℕ → ℕ → List ℕ → ℕ → List Check

@@ -11,16 +11,10 @@ use aff_format::{Edition, Refusal, limits};
 fn lengths_wrong(buffer: &[u8], form: &[u8], text: &[u8], tree: &[u8]) -> bool
     ensures { result ≡ begin_lengths_wrong buffer.now form.now text.now tree.now }
 {
-    if form.len() != 12 {
-        return true;
-    }
-    if text.len() != limits::TEXT_AREA {
-        return true;
-    }
-    if tree.len() != limits::TREE_AREA {
-        return true;
-    }
-    limits::IMAGE_LIMIT < buffer.len()
+    form.len() != 12
+        || text.len() != limits::TEXT_AREA
+        || tree.len() != limits::TREE_AREA
+        || limits::IMAGE_LIMIT < buffer.len()
 }
 
 // Begins a file of a written edition in a buffer: 1, 3, 21, 23. `edition` is its number, 2 or 3; `form` has the 12 bytes that come after the signature text. An

@@ -8,12 +8,11 @@ ghost use Rattle.aff_format.specs.Kind.{is_void, kind_of};
 ghost use Rattle.aff_format.specs.Limits.{image_limit, node_limit, tree_area};
 ghost use Rattle.aff_format.specs.Verdict.{answer_of};
 ghost use Rattle.aff_areas.specs.Areas.{slot_at};
-ghost use Rattle.aff_areas.specs.Belongs.{WriterBelongs};
 ghost use Rattle.aff_areas.specs.Stores.{buffer_after};
 ghost use Rattle.aff_areas.specs.Writer.{writer_after, area_after};
-ghost use Rattle.aff_write.specs.Put.{takes_none, wrong_data, data_kind, put_place, put_stores, store_check, buffer_checks, data_checks, put_writer, put_entry, put_tree, put_answer};
+ghost use Rattle.aff_write.specs.Put.{takes_none, wrong_data, data_kind, put_place, put_stores, store_check, entry_checks, put_writer, put_entry, put_tree, put_answer};
 
-use aff_areas::{Writer, areas, belongs, store};
+use aff_areas::{Given, Held, Writer, areas, store};
 use aff_format::{Entry, Kind, Refusal, align};
 
 // 18.
@@ -22,10 +21,7 @@ fn takes_none(tree: &[u8], node: usize) -> bool
     requires { node ≤ node_limit }
     ensures { result ≡ takes_none tree.now node }
 {
-    if node == 0 {
-        return true;
-    }
-    !areas::slot_entry(tree, node).kind.is_void()
+    node == 0 || !areas::slot_entry(tree, node).kind.is_void()
 }
 
 // 19: the kind of a type that holds data, where so many bytes are whole elements of it.
@@ -33,10 +29,7 @@ fn data_kind(code: u64, size: usize) -> Result<Kind, Refusal>
     ensures { answer_of result ≡ first_wrong (check (wrong_data (kind_of code) size) (refusal 19) ∷ []) (data_kind (kind_of code)) }
 {
     let kind = Kind::from_code(code).ok_or(Refusal::WrongData)?;
-    if kind.is_void() {
-        return Err(Refusal::WrongData);
-    }
-    if size % kind.element_size() != 0 {
+    if kind.is_void() || size % kind.element_size() != 0 {
         return Err(Refusal::WrongData);
     }
     Ok(kind)
@@ -113,56 +106,11 @@ fn put_bytes(
     Ok(made)
 }
 
-// 21, 23, for a node that takes data of the kind.
-#[tactic(auto, unfolding(aff_areas::specs::Stores::apply_stores))]
-fn put_sized(
-    buffer: &mut [u8],
-    writer: &mut Writer,
-    text: &[u8],
-    tree: &mut [u8],
-    node: usize,
-    kind: Kind,
-    bytes: &[u8],
-    allowance: usize,
-) -> Result<usize, Refusal>
-    requires belongs { WriterBelongs (length buffer.old) writer.old text.now tree.old }
-    requires above_root { 0 < node }
-    requires node_exists { node ≤ writer.old.nodes }
-    requires holds_data { is_void kind ≡ false }
-    ensures answer { answer_of result ≡ first_wrong (buffer_checks writer.old tree.old bytes.now allowance) (length (put_stores writer.old bytes.now)) }
-    ensures record { writer.new ≡ writer_after (answer_of result) (put_writer writer.old bytes.now) writer.old }
-    ensures buffer { buffer.new ≡ buffer_after (answer_of result) (put_stores writer.old bytes.now) buffer.old }
-    ensures tree { tree.new ≡ area_after (answer_of result) (spliced (slot_at node) (slot_bytes (put_entry writer.old tree.old node kind bytes.now)) tree.old) tree.old }
+// 15, 18, 19, 21, of a record that belongs: the kind of the data.
+fn kind_put(held: &Held<'_>, node: usize, kind: u64, bytes: &[u8]) -> Result<Kind, Refusal>
+    ensures { answer_of result ≡ first_wrong (entry_checks held.now.given.writer held.now.given.tree.now node kind bytes.now) (data_kind (kind_of kind)) }
 {
-    let size = areas::finished_size(writer, tree);
-    let free = writer.length - size;
-    if free < bytes.len() {
-        return Err(Refusal::BufferTooSmall);
-    }
-    if free - bytes.len() < 12 + align::padding(writer.end) {
-        return Err(Refusal::BufferTooSmall);
-    }
-    put_bytes(buffer, writer, tree, node, kind, bytes, allowance)
-}
-
-// 15, 18, 19, 21, 23, for a record that belongs and is open.
-#[tactic(auto, unfolding(crate::specs::Put::put_tree, aff_areas::specs::Stores::apply_stores))]
-fn put_data(
-    buffer: &mut [u8],
-    writer: &mut Writer,
-    text: &[u8],
-    tree: &mut [u8],
-    node: usize,
-    kind: u64,
-    bytes: &[u8],
-    allowance: usize,
-) -> Result<usize, Refusal>
-    requires { WriterBelongs (length buffer.old) writer.old text.now tree.old }
-    ensures answer { answer_of result ≡ first_wrong (data_checks writer.old tree.old node kind bytes.now allowance) (length (put_stores writer.old bytes.now)) }
-    ensures record { writer.new ≡ writer_after (answer_of result) (put_writer writer.old bytes.now) writer.old }
-    ensures buffer { buffer.new ≡ buffer_after (answer_of result) (put_stores writer.old bytes.now) buffer.old }
-    ensures tree { tree.new ≡ area_after (answer_of result) (put_tree writer.old tree.old node kind bytes.now) tree.old }
-{
+    let Given { writer, tree, .. } = held.given;
     if writer.nodes < node {
         return Err(Refusal::Absent);
     }
@@ -170,11 +118,15 @@ fn put_data(
         return Err(Refusal::DataTaken);
     }
     let kind = data_kind(kind, bytes.len())?;
-    put_sized(buffer, writer, text, tree, node, kind, bytes, allowance)
+    if writer.length < held.finished_size() + 12 + align::padding(writer.end) + bytes.len() {
+        return Err(Refusal::BufferTooSmall);
+    }
+    Ok(kind)
 }
 
 // Puts data into a node, once: 24, 22, 15, 18, 19, 21, 23. `kind` is the code of the type, 2 to 5; the data's bytes are those that the file
 // is to have. It answers the stores made. `kind` stays a number, since C passes any: 19 judges it (`wrong_data`).
+// Buffer and areas stay three parameters: `aff_make`, `aff_put` and `aff_close` of include/aff.h lend each with a constness of its own.
 #[tactic(auto, unfolding(crate::specs::Put::put_answer, aff_areas::specs::Stores::apply_stores))]
 pub fn put(
     buffer: &mut [u8],
@@ -191,6 +143,13 @@ pub fn put(
     ensures buffer { buffer.new ≡ buffer_after (answer_of result) (put_stores writer.old bytes.now) buffer.old }
     ensures tree { tree.new ≡ area_after (answer_of result) (put_tree writer.old tree.old node kind bytes.now) tree.old }
 {
-    belongs::judge(buffer, writer, text, tree)?;
-    put_data(buffer, writer, text, tree, node, kind, bytes, allowance)
+    let given = Given {
+        size: buffer.len(),
+        writer: *writer,
+        text,
+        tree,
+    };
+    let held = given.judge()?;
+    let kind = kind_put(&held, node, kind, bytes)?;
+    put_bytes(buffer, writer, tree, node, kind, bytes, allowance)
 }

@@ -1,15 +1,11 @@
 -- What a reader's known bytes lose by one read after others.
-use Rattle.std.proofs.Common.{Option, ◌≡◌, ℕ, ◌+◌, ◌≤◌, List, ◌++◌, None, Some, sym, ap, ◌∙◌, subst, append_assoc, length, take, length-append, length-take-le, arith}
+use Rattle.std.proofs.Common.{Option, ◌≡◌, ℕ, ◌+◌, ◌≤◌, List, ◌++◌, sym, ap, ◌∙◌, subst, length, take, length-append, length-take-le, arith}
 use Rattle.std.proofs.lemmas.List.{take-append-le}
 use Rattle.std.proofs.Math.Seq.{take-append-add}
+use Rattle.std.proofs.KnownBytes.{Consumes-trans}
 use Rattle.std.specs.Io.KnownBytes.{Consumes}
+use Rattle.console.specs.Part.{ConsumesPart, ConsumesAtMost}
 use borrow.Rule.Slice.PartMut.{put_mid, post_of}
-
-joined : (a b c : Option (List ℕ)) (bs cs : List ℕ) → Consumes a b bs → Consumes b c cs → Consumes a c (bs ++ cs)
-joined None b c bs cs p q = tt
-joined (Some x) None c bs cs p q = absurd p
-joined (Some x) (Some y) None bs cs p q = absurd q
-joined (Some x) (Some y) (Some z) bs cs p q = p ∙ ap (λ l. bs ++ l) q ∙ sym (append_assoc bs cs z)
 
 filled : (at k n : ℕ) (area part : List ℕ) → at ≤ length area → n ≤ length part → take at area ++ take n part ≡ take (at + n) (put_mid at k area part)
 filled at k n area part inside fits =
@@ -21,11 +17,11 @@ filled at k n area part inside fits =
 -- After bytes in the first `at` places, n more that a read puts into the part behind them.
 pub read_on : (a b c : Option (List ℕ)) (at k n : ℕ) (area part : List ℕ) → at ≤ length area → n ≤ length part → Consumes a b (take at area)
     → Consumes b c (take n part) → Consumes a c (take (at + n) (put_mid at k area part))
-read_on a b c at k n area part inside fits p q = subst (Consumes a c) (filled at k n area part inside fits) (joined a b c _ _ p q)
+read_on a b c at k n area part inside fits p q = subst (Consumes a c) (filled at k n area part inside fits) (Consumes-trans a b c _ _ p q)
 
 -- What a reader lost by a read that failed after one that did not.
 pub lost_on : (a b c : Option (List ℕ)) (room : ℕ) (front part : List ℕ) → length front ≤ 4 → length part ≤ room → Consumes a b front
-    → (n : ℕ) × (n ≤ length part) × Consumes b c (take n part) → (bs : List ℕ) × (length bs ≤ 4 + room) × Consumes a c bs
+    → ConsumesPart b c part → ConsumesAtMost a c (4 + room)
 lost_on a b c room front part short fits p lost =
     let more = take lost.0 part in
-    (front ++ more, omega (arith, length-append front more, length-take-le lost.0 part lost.1), joined a b c front more p lost.2)
+    (front ++ more, omega (arith, length-append front more, length-take-le lost.0 part lost.1), Consumes-trans a b c front more p lost.2)

@@ -7,7 +7,7 @@
 ghost use Rattle.std.specs.Prelude.{◌≡◌, List, ℕ, ◌∷◌, ◌++◌, ◌+◌, ◌<◌, ◌≤◌, length, take, IfOk, IfSome, OnOk, OnErr};
 ghost use Rattle.std.specs.Fmt.{decimal};
 ghost use Rattle.std.specs.Io.KnownBytes.{Appends, Consumes, IsAtEnd};
-ghost use Rattle.console.specs.Part.{AppendsPart};
+ghost use Rattle.console.specs.Part.{AppendsPart, ConsumesPart, ConsumesAtMost};
 ghost use Rattle.aff_format.specs.Number.{be_of};
 ghost use Rattle.aff_format.specs.Refusal.{refused_text, second_of};
 
@@ -20,7 +20,8 @@ pub fn text<W: Write>(out: &mut W, bytes: &[u8]) -> io::Result<()>
     ensures all { OnOk result (Appends (W.contents out.old) (W.contents out.new) bytes.now) }
     ensures cut { OnErr result (AppendsPart (W.contents out.old) (W.contents out.new) bytes.now) }
 {
-    let mut done: usize = 0;
+    // A loop: std's `write_all` promises nothing of the bytes written before an error, and clause `cut` does.
+    let mut done = 0;
     while done < bytes.len() {
         match out.write(&bytes[done..])? {
             0 => return Err(io::Error::from(io::ErrorKind::WriteZero)),
@@ -80,10 +81,10 @@ pub fn read_full<R: Read>(input: &mut R, area: &mut [u8]) -> io::Result<usize>
     ensures inside { IfOk result (λ n. n ≤ length area.new) }
     ensures bytes { IfOk result (λ n. Consumes (R.remaining input.old) (R.remaining input.new) (take n area.new)) }
     ensures end { IfOk result (λ n. n < length area.new → IsAtEnd (R.remaining input.new)) }
-    ensures cut { OnErr result ((n : ℕ) × (n ≤ length area.new)
-        × Consumes (R.remaining input.old) (R.remaining input.new) (take n area.new)) }
+    ensures cut { OnErr result (ConsumesPart (R.remaining input.old) (R.remaining input.new) area.new) }
 {
-    let mut done: usize = 0;
+    // A loop: std has no reader into lent memory whose contract says what an error leaves.
+    let mut done = 0;
     while done < area.len() {
         let n = input.read(&mut area[done..])?;
         if n == 0 {
@@ -100,7 +101,7 @@ pub fn next_size<R: Read>(input: &mut R, limit: usize) -> io::Result<Option<usiz
     ensures inside { IfOk result (λ next. IfSome next (λ size. size ≤ limit)) }
     ensures bytes { IfOk result (λ next. IfSome next (λ size. (head : List ℕ) × (length head ≡ 4) × (be_of head ≡ size)
         × Consumes (R.remaining input.old) (R.remaining input.new) head)) }
-    ensures cut { OnErr result ((bs : List ℕ) × (length bs ≤ 4) × Consumes (R.remaining input.old) (R.remaining input.new) bs) }
+    ensures cut { OnErr result (ConsumesAtMost (R.remaining input.old) (R.remaining input.new) 4) }
 {
     let mut head = [0u8; 4];
     if read_full(input, &mut head)? < 4 {
@@ -119,8 +120,7 @@ pub fn next_image<R: Read>(input: &mut R, area: &mut [u8]) -> io::Result<Option<
     ensures inside { IfOk result (λ next. IfSome next (λ size. size ≤ length area.new)) }
     ensures bytes { IfOk result (λ next. IfSome next (λ size. (head : List ℕ) × (length head ≡ 4) × (be_of head ≡ size)
         × Consumes (R.remaining input.old) (R.remaining input.new) (head ++ take size area.new))) }
-    ensures cut { OnErr result ((bs : List ℕ) × (length bs ≤ 4 + length area.new)
-        × Consumes (R.remaining input.old) (R.remaining input.new) bs) }
+    ensures cut { OnErr result (ConsumesAtMost (R.remaining input.old) (R.remaining input.new) (4 + length area.new)) }
 {
     let Some(size) = next_size(input, area.len())? else {
         return Ok(None);

@@ -4,20 +4,8 @@
 // The caller sees to it that the pointers are valid for the lengths and that the output overlaps no byte of the message.
 #![tactic(auto)]
 
-ghost use Rattle.std.specs.Prelude.{◌≡◌, ◌++◌, ◌≤◌, leb, length, drop};
+ghost use Rattle.std.specs.Prelude.{◌≡◌, leb, length};
 ghost use Rattle.md5_c.specs.Output.{with_digest};
-
-// Writes a digest into the first 16 bytes of the output, and leaves the others.
-fn put_digest(output: &mut [u8], digest: [u8; 16])
-    requires { 16 ≤ length output.old }
-    ensures { output.new ≡ digest ++ drop 16 output.old }
-{
-    let mut i: usize = 0;
-    while i < 16 {
-        output[i] = digest[i];
-        i += 1;
-    }
-}
 
 // Writes the MD5 digest of a message into the first 16 bytes of the output, and returns true. Where the output has fewer bytes, it
 // writes nothing and returns false.
@@ -30,6 +18,6 @@ pub extern "C" fn md5_c_digest(message: &[u8], output: &mut [u8]) -> bool
     if output.len() < 16 {
         return false;
     }
-    put_digest(output, aff_md5::md5(message));
+    output[..16].copy_from_slice(&aff_md5::md5(message));
     true
 }

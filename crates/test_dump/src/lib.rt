@@ -18,10 +18,9 @@ fn print_elements(
     count: usize,
 ) -> io::Result<()> {
     write!(out, "  elements")?;
-    for k in 0..count {
+    for k in 0..=count {
         console::element(out, node::element(opened, node, k))?;
     }
-    console::element(out, node::element(opened, node, count))?;
     writeln!(out)
 }
 

@@ -65,23 +65,17 @@ fn both(out: &mut impl Write, k: usize, image: &[u8]) -> io::Result<()> {
     open_and_print(out, image, Choice::AllNodes)
 }
 
-// Image k; false where there is none.
-fn one(input: &mut impl Read, out: &mut impl Write, k: usize) -> io::Result<bool> {
+fn images(input: &mut impl Read, out: &mut impl Write) -> io::Result<()> {
     let mut image = [0u8; 65537];
-    let Some(size) = console::next_image(input, &mut image)? else {
-        return Ok(false);
-    };
-    both(out, k, &image[..size])?;
-    Ok(true)
+    for k in 0..1000 {
+        let Some(size) = console::next_image(input, &mut image)? else {
+            break;
+        };
+        both(out, k, &image[..size])?;
+    }
+    Ok(())
 }
 
 fn main(rt: HostRuntime) -> io::Result<()> {
-    let mut input = rt.reader();
-    let mut out = io::writer(&rt);
-    for k in 0..1000 {
-        if !one(&mut input, &mut out, k)? {
-            break;
-        }
-    }
-    Ok(())
+    images(&mut rt.reader(), &mut io::writer(&rt))
 }

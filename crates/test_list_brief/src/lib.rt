@@ -1,7 +1,6 @@
 // For tests: what `list` or `listall` prints of an image, by the same functions, with a block above 1,024 bytes shown by its length and its MD5 sum.
 #![tactic(auto)]
 
-use aff_format::number;
 use aff_list::output;
 use aff_listing::Choice;
 use std::io;
@@ -20,10 +19,8 @@ impl<W: Write> Write for Brief<'_, W> {
             console::text(self.out, block)?;
             return Ok(size);
         }
-        let sum = aff_md5::md5(block);
-        let high = number::be::<8>(&sum, 0);
-        let low = number::be::<8>(&sum, 8);
-        writeln!(self.out, "{size} bytes, MD5 {high:016x}{low:016x}")?;
+        let sum = u128::from_be_bytes(aff_md5::md5(block));
+        writeln!(self.out, "{size} bytes, MD5 {sum:032x}")?;
         Ok(size)
     }
 

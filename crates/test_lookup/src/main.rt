@@ -16,25 +16,18 @@ fn show(out: &mut impl Write, answer: Result<usize, Refusal>) -> io::Result<()> 
     }
 }
 
-// The next path, looked up; false where there is none. A path that the input cuts off is looked up with zeros after it.
-fn next_path(input: &mut impl Read, out: &mut impl Write, opened: &Opened<'_>) -> io::Result<bool> {
-    let mut part = [0u8; 65537];
-    let Some(size) = console::next_size(input, part.len())? else {
-        return Ok(false);
-    };
-    if size == 0 {
-        return Ok(false);
-    }
-    console::read_full(input, &mut part[..size])?;
-    show(out, paths::lookup(opened, &part[1..size]))?;
-    Ok(true)
-}
-
+// The paths of an image. A path that the input cuts off is looked up with zeros after it.
 fn lookups(input: &mut impl Read, out: &mut impl Write, opened: &Opened<'_>) -> io::Result<()> {
     for _ in 0..2000 {
-        if !next_path(input, out, opened)? {
+        let mut part = [0u8; 65537];
+        let Some(size) = console::next_size(input, part.len())? else {
+            break;
+        };
+        if size == 0 {
             break;
         }
+        console::read_full(input, &mut part[..size])?;
+        show(out, paths::lookup(opened, &part[1..size]))?;
     }
     Ok(())
 }
@@ -58,23 +51,17 @@ fn open_and_look(input: &mut impl Read, out: &mut impl Write, image: &[u8]) -> i
     }
 }
 
-// The next image; false where there is none.
-fn next(input: &mut impl Read, out: &mut impl Write) -> io::Result<bool> {
+fn images(input: &mut impl Read, out: &mut impl Write) -> io::Result<()> {
     let mut image = [0u8; 1024];
-    let Some(size) = console::next_image(input, &mut image)? else {
-        return Ok(false);
-    };
-    open_and_look(input, out, &image[..size])?;
-    Ok(true)
+    for _ in 0..100 {
+        let Some(size) = console::next_image(input, &mut image)? else {
+            break;
+        };
+        open_and_look(input, out, &image[..size])?;
+    }
+    Ok(())
 }
 
 fn main(rt: HostRuntime) -> io::Result<()> {
-    let mut input = rt.reader();
-    let mut out = io::writer(&rt);
-    for _ in 0..100 {
-        if !next(&mut input, &mut out)? {
-            break;
-        }
-    }
-    Ok(())
+    images(&mut rt.reader(), &mut io::writer(&rt))
 }

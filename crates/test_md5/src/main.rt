@@ -6,21 +6,10 @@
 use std::io;
 use std::io::Write;
 
-const DIGITS: [u8; 16] = *b"0123456789abcdef";
-
-// The hexadecimal digit of the low four bits of x.
-fn digit(x: u8) -> u8 {
-    DIGITS[(x % 16) as usize]
-}
-
 // Writes a digest, as 32 hexadecimal digits and the end of the line.
-fn show(out: &mut impl Write, d: [u8; 16]) -> io::Result<()> {
-    let mut line = [b'\n'; 33];
-    for i in 0..16 {
-        line[2 * i] = digit(d[i] / 16);
-        line[2 * i + 1] = digit(d[i]);
-    }
-    out.write_all(&line)
+fn show(out: &mut impl Write, digest: [u8; 16]) -> io::Result<()> {
+    let sum = u128::from_be_bytes(digest);
+    writeln!(out, "{sum:032x}")
 }
 
 // The messages of RFC 1321, section A.5.
@@ -44,11 +33,8 @@ fn examples(out: &mut impl Write) -> io::Result<()> {
 
 // The messages of every length from 0 to 200 bytes.
 fn lengths(out: &mut impl Write) -> io::Result<()> {
-    let mut message = [0u8; 200];
-    for i in 0..200 {
-        message[i] = (i % 251) as u8;
-    }
-    for n in 0..201 {
+    let message: [u8; 200] = std::array::from_fn(|i| (i % 251) as u8);
+    for n in 0..=200 {
         show(out, aff_md5::md5(&message[..n]))?;
     }
     Ok(())

@@ -12,11 +12,8 @@ use std::io::{Read, Write};
 
 // The sum of an area.
 fn total(area: &[u32]) -> u64 {
-    let mut sum: u64 = 0;
-    for &x in area {
-        sum = sum.wrapping_add(u64::from(x));
-    }
-    sum
+    area.iter()
+        .fold(0, |sum: u64, &x| sum.wrapping_add(u64::from(x)))
 }
 
 fn show(out: &mut impl Write, opened: Result<Reader, Refusal>) -> io::Result<()> {
@@ -41,21 +38,13 @@ fn one(out: &mut impl Write, k: usize, image: &[u8]) -> io::Result<()> {
     writeln!(out, " areas {} {}", total(&strings), total(&entries))
 }
 
-// The next image of the input, number k; false where there is none.
-fn next(input: &mut impl Read, out: &mut impl Write, k: usize) -> io::Result<bool> {
-    let mut image = [0u8; 65537];
-    let Some(size) = console::next_image(input, &mut image)? else {
-        return Ok(false);
-    };
-    one(out, k, &image[..size])?;
-    Ok(true)
-}
-
 fn images(input: &mut impl Read, out: &mut impl Write) -> io::Result<()> {
+    let mut image = [0u8; 65537];
     for k in 0..1000 {
-        if !next(input, out, k)? {
+        let Some(size) = console::next_image(input, &mut image)? else {
             break;
-        }
+        };
+        one(out, k, &image[..size])?;
     }
     Ok(())
 }
@@ -80,7 +69,9 @@ fn pass_areas(
 
 // Areas and a form of some lengths.
 fn lengths(out: &mut impl Write, strings: usize, entries: usize, form: usize) -> io::Result<()>
-    requires { (strings ≤ 2049) × (entries ≤ 2049) × (form ≤ 13) }
+    requires strings_fit { strings ≤ 2049 }
+    requires entries_fit { entries ≤ 2049 }
+    requires form_fits { form ≤ 13 }
 {
     let mut places = [7u32; 2049];
     let mut nodes = [9u32; 2049];

@@ -8,7 +8,7 @@ use aff_list::line;
 use std::io;
 use std::io::{Read, Write};
 
-// The elements of a node, at most eight.
+// The elements of a node, at most eight. Not the loop of test_dump, which goes past the count and ends its line.
 fn print_elements(out: &mut impl Write, opened: &Opened<'_>, node: usize) -> io::Result<()> {
     let count = aff::count(opened, node).unwrap_or(0);
     for k in 0..count.min(8) {
@@ -34,11 +34,8 @@ fn print_node(out: &mut impl Write, opened: &Opened<'_>, node: usize) -> io::Res
 
 fn print_nodes(out: &mut impl Write, opened: &Opened<'_>) -> io::Result<()> {
     let mut order = [0u32; 2049];
-    let _ = aff::listing(opened, Choice::AllNodes, &mut order);
-    for (i, &node) in order.iter().enumerate() {
-        if opened.reader.nodes < i {
-            break;
-        }
+    let listed = aff::listing(opened, Choice::AllNodes, &mut order).unwrap_or(0);
+    for &node in order.iter().take(listed) {
         print_node(out, opened, node as usize)?;
     }
     Ok(())
@@ -65,24 +62,18 @@ fn open_and_print(out: &mut impl Write, image: &[u8]) -> io::Result<()> {
     }
 }
 
-// Image k; false where there is none.
-fn one(input: &mut impl Read, out: &mut impl Write, k: usize) -> io::Result<bool> {
+fn images(input: &mut impl Read, out: &mut impl Write) -> io::Result<()> {
     let mut image = [0u8; 262144];
-    let Some(size) = console::next_image(input, &mut image)? else {
-        return Ok(false);
-    };
-    writeln!(out, "{k}")?;
-    open_and_print(out, &image[..size])?;
-    Ok(true)
+    for k in 0..100000 {
+        let Some(size) = console::next_image(input, &mut image)? else {
+            break;
+        };
+        writeln!(out, "{k}")?;
+        open_and_print(out, &image[..size])?;
+    }
+    Ok(())
 }
 
 fn main(rt: HostRuntime) -> io::Result<()> {
-    let mut input = rt.reader();
-    let mut out = io::writer(&rt);
-    for k in 0..100000 {
-        if !one(&mut input, &mut out, k)? {
-            break;
-        }
-    }
-    Ok(())
+    images(&mut rt.reader(), &mut io::writer(&rt))
 }

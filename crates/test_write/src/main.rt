@@ -10,23 +10,6 @@ use std::io;
 use std::io::{Read, Write};
 use steps::State;
 
-// A step from the input; false where there is none.
-fn next_step(
-    input: &mut impl Read,
-    out: &mut impl Write,
-    state: &mut State,
-    buffer: &mut [u8],
-    text: &mut [u8],
-    tree: &mut [u8],
-) -> io::Result<bool> {
-    let mut block = [0u8; 65536];
-    let Some(size) = console::next_image(input, &mut block)? else {
-        return Ok(false);
-    };
-    steps::run(out, state, &block[..size], buffer, text, tree)?;
-    Ok(true)
-}
-
 // The steps of the input, one after another.
 fn script(
     input: &mut impl Read,
@@ -41,10 +24,12 @@ fn script(
         text: 0,
         tree: 0,
     };
+    let mut block = [0u8; 65536];
     for _ in 0..100000 {
-        if !next_step(input, out, &mut state, buffer, text, tree)? {
+        let Some(size) = console::next_image(input, &mut block)? else {
             break;
-        }
+        };
+        steps::run(out, &mut state, &block[..size], buffer, text, tree)?;
     }
     Ok(())
 }

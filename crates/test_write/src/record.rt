@@ -1,5 +1,4 @@
 // Sums of what is passed, and the writer's record, to an output.
-use aff_format::number;
 use aff_write::Writer;
 use std::io;
 use std::io::Write;
@@ -7,10 +6,8 @@ use test_dump::show;
 
 // A space and the MD5 sum of the bytes.
 pub fn sum(out: &mut impl Write, bytes: &[u8]) -> io::Result<()> {
-    let sum = aff_md5::md5(bytes);
-    let high = number::be::<8>(&sum, 0);
-    let low = number::be::<8>(&sum, 8);
-    write!(out, " {high:016x}{low:016x}")
+    let sum = u128::from_be_bytes(aff_md5::md5(bytes));
+    write!(out, " {sum:032x}")
 }
 
 // The record: length, edition, strings, bytes of text, nodes, end of data, whether it is open; and its form.

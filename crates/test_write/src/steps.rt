@@ -142,7 +142,7 @@ fn sums(out: &mut impl Write, buffer: &[u8], text: &[u8], tree: &[u8]) -> io::Re
     writeln!(out)
 }
 
-// One step, with as much passed as the state says.
+// One step, with as much passed as the state says. Buffer, text and tree stay three parameters, as they are in the library's calls.
 fn act(
     out: &mut impl Write,
     state: &mut State,

@@ -23,8 +23,8 @@ zero_over_zero : div binary64 (of_bits binary64 0) (of_bits binary64 0) ≡ nan
 unfolding div of_bits
 zero_over_zero = refl
 
-pub returns-then-n-gt9218868437227405312 : goal.returns-then-n-gt9218868437227405312
-returns-then-n-gt9218868437227405312 c = zero_over_zero ∙ sym (nan_pattern c.args.n c.if-n-gt9218868437227405312.true)
+pub returns-then-n-gt-INFINITY : goal.returns-then-n-gt-INFINITY
+returns-then-n-gt-INFINITY c = zero_over_zero ∙ sym (nan_pattern c.args.n c.if-n-gt-INFINITY.true)
 
 pub float_from_bits-result : goal.float_from_bits-result
-float_from_bits-result c = not_nan_pattern c.args.n c.if-n-gt9218868437227405312.false
+float_from_bits-result c = not_nan_pattern c.args.n c.if-n-gt-INFINITY.false

@@ -1,8 +1,8 @@
-use Rattle.std.proofs.Common.{◌+◌, ◌∙◌, ap, arith}
+use Rattle.std.proofs.Common.{◌+◌, ◌∙◌, ap}
 use Rattle.aff_format.specs.Recorded.{name_from}
 use Rattle.aff_format.proofs.StdLaws.{up_to_zero_is}
 use Rattle.aff_format.proofs.recorded.name_end.Goals as goal
 
-pub returns : goal.returns
+pub returns-clause-value : goal.returns-clause-value
 unfolding name_from
-returns c = (ap (λ n. c.args.from + n) (c.bytes_before.ensures.value ∙ up_to_zero_is _), omega arith, omega (arith, c.bytes_before.ensures.inside))
+returns-clause-value c = ap (λ n. c.args.from + n) (c.bytes_before.ensures.value ∙ up_to_zero_is _)

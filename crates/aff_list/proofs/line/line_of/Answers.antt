@@ -8,14 +8,10 @@ slice_bounds-tail-end c = let e = c.entry-entry.result in omega (arith, tail_len
 pub slice_bounds-with_path-end : goal.slice_bounds-with_path-end
 slice_bounds-with_path-end c = let e = c.entry-entry.result in sym (length-take-le _ _ (omega (arith, tail_length e.kind e.count)))
 
-pub returns-clause-answer : goal.returns-clause-answer
-returns-clause-answer c =
-    let a = c.args in
+pub returns : goal.returns
+returns c =
     let e = c.entry-entry in
-    rw (line_is a.belonging.now.opened.image.now a.belonging.now.opened.reader a.belonging.now.opened.strings.now a.belonging.now.opened.entries.now a.node e.result e.ensures c.put_tail-size.ensures) at c.with_path.ensures.answer
-
-pub returns-clause-output : goal.returns-clause-output
-returns-clause-output c =
-    let a = c.args in
-    let e = c.entry-entry in
-    rw (line_is a.belonging.now.opened.image.now a.belonging.now.opened.reader a.belonging.now.opened.strings.now a.belonging.now.opened.entries.now a.node e.result e.ensures c.put_tail-size.ensures) at c.with_path.ensures.output
+    let w = c.with_path.ensures in
+    let a = c.args.belonging.now.opened in
+    let is = line_is a.image.now a.reader a.strings.now a.entries.now c.args.node e.result e.ensures c.put_tail-size.ensures in
+    record { answer = rw is at w.answer; output = rw is at w.output }

@@ -2,8 +2,7 @@
 -- children below k are written, and k is the next child.
 use Rattle.std.proofs.Common.{◌≡◌, ◌<◌, ◌≤◌, ◌+◌, ◌-◌, ◌*◌}
 use Rattle.aff_format.specs.passes.Written.{Written}
-use Rattle.aff_tables.specs.passes.Climb.{copied_parent as parent_in}
-use Rattle.aff_listing.specs.ListingOrder.{every, children_to, preorder}
+use Rattle.aff_listing.specs.passes.Children.{parent_of, subtrees}
 use Rattle.aff_listing.proofs.listing.+list_children_list_node.Given as goal
 
 abbrev pub decreases-list_children : goal.decreases-list_children
@@ -16,8 +15,8 @@ abbrev pub invariant-list_children-loop-k : goal.invariant-list_children-loop-k
 invariant-list_children-loop-k l =
     (0 < l.k)
     × (l.k ≤ l.nodes + 1)
-    × (l.k ≤ l.nodes → parent_in l.parents l.k ≡ l.node)
-    × Written l.at (children_to (preorder every (parent_in l.parents) (l.nodes + 1) l.depth) (parent_in l.parents) l.node l.k) l.fn.order l.order l.end
+    × (l.k ≤ l.nodes → parent_of l.children.belonging.opened l.k ≡ l.node)
+    × Written l.at (subtrees l.children.belonging.opened l.depth l.node l.k) l.fn.order l.order l.end
 
 abbrev pub decreases-list_children-loop-k : goal.decreases-list_children-loop-k
 decreases-list_children-loop-k l = l.nodes + 1 - l.k

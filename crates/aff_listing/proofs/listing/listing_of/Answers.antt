@@ -8,18 +8,18 @@ use Rattle.aff_listing.proofs.listing.listing_of.Goals as goal
 pub slice_bounds-order-end : goal.slice_bounds-order-end
 slice_bounds-order-end c =
     let f = c.full_order-count.ensures in
-    all_few (belongs_record c.args.belonging.now.belongs) c.args.choice f.0 f.1
+    all_few (belongs_record c.args.belonging.now.belongs) c.args.choice f c.full_order-count.array_long
 
 pub slice_bounds-put_all_listed-end : goal.slice_bounds-put_all_listed-end
 slice_bounds-put_all_listed-end c =
     let f = c.full_order-count.ensures in
-    sym (length-take-le _ _ (all_few (belongs_record c.args.belonging.now.belongs) c.args.choice f.0 f.1))
+    sym (length-take-le _ _ (all_few (belongs_record c.args.belonging.now.belongs) c.args.choice f c.full_order-count.array_long))
 
 pub put_all_listed-requires : goal.put_all_listed-requires
 put_all_listed-requires c =
-    listed_fits (belongs_record c.args.belonging.now.belongs) c.args.choice c.full_order-count.ensures.0 c.args.out.now c.requires
+    listed_fits (belongs_record c.args.belonging.now.belongs) c.args.choice c.full_order-count.ensures c.args.out.now c.requires
 
 pub returns : goal.returns
 returns c =
-    let w = listed_written (belongs_record c.args.belonging.now.belongs) c.args.choice c.full_order-count.ensures.0 c.put_all_listed.ensures in
+    let w = listed_written (belongs_record c.args.belonging.now.belongs) c.args.choice c.full_order-count.ensures c.put_all_listed.ensures in
     record { answer = w.0; output = w.1 }

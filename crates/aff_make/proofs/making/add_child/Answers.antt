@@ -17,12 +17,12 @@ pub put_name-requires : goal.put_name-requires
 put_name-requires c =
     let r = c.requires in
     let n = not_many _ _ _ r.has_room in
-    let new = added_new c.args.writer.now c.args.text.now c.args.child.now.name.now _ r.numbered r.belongs.text_strings c.if-child-writer.false in
+    let new = added_new c.args.writer.now c.args.text.now c.args.name.now _ r.numbered r.belongs.text_strings c.if-string-writer.false in
     omega (arith, n.2, new, r.belongs.text_area_is)
 
 pub with_child-requires-2 : goal.with_child-requires-2
 with_child-requires-2 c =
     let r = c.requires in
     let n = not_many _ _ _ r.has_room in
-    let new = added_new c.args.writer.now c.args.text.now c.args.child.now.name.now _ r.numbered r.belongs.text_strings c.if-child-writer.false in
+    let new = added_new c.args.writer.now c.args.text.now c.args.name.now _ r.numbered r.belongs.text_strings c.if-string-writer.false in
     record { few_nodes = omega (arith, n.0); strings_fit = omega (arith, r.belongs.few_strings); text_fits = omega (arith, n.2, new) }

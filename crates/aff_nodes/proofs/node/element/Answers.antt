@@ -11,4 +11,4 @@ returns c =
     let o = c.args.opened.now in
     let b = c.in_ok-belonging.belonging in
     let j : accepted b.opened ≡ first_wrong (of o exists_checks c.args.node) o = rw c.in_ok-belonging.was at c.judge.ensures in
-    c.element_of.ensures ∙ element_judged o b.opened c.args.node c.args.index j b.belongs
+    c.element_of.ensures ∙ element_judged o b.opened c.args.node c.args.index j

@@ -36,6 +36,3 @@ returns-else-has_path c =
     let k = c.loop-k.k in
     let no : same_bytes (of o path_at k) c.args.path.now ≡ false = cc in
     sym (lowest_none _ 0 (k + 1) (omega arith)) ∙ sym (lowest_past _ (o.reader.nodes + 1 - k) 0 k (omega arith) no) ∙ c.loop-k.invariant.1
-
-pub returns : goal.returns
-returns c = sym (lowest_none _ _ c.loop-k.k (omega arith)) ∙ c.loop-k.invariant.1

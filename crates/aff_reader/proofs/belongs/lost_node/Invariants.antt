@@ -8,5 +8,6 @@ use Rattle.aff_reader.proofs.belongs.lost_node.Given as goal
 
 abbrev pub invariant-loop-k : goal.invariant-loop-k
 invariant-loop-k l =
-    (lowest_from (node_lost l.image l.strings l.nodes l.entries) (l.nodes + 1 - l.k) l.k ≡ lowest_from (node_lost l.image l.strings l.nodes l.entries) l.nodes 1)
-    × ParentsCopied (recorded_entry l.image l.entries) (l.k - 1) l.parents
+    (lowest_from (node_lost l.entries.image.now l.strings l.nodes l.entries.places.now) (l.nodes + 1 - l.k) l.k
+    ≡ lowest_from (node_lost l.entries.image.now l.strings l.nodes l.entries.places.now) l.nodes 1)
+    × ParentsCopied (recorded_entry l.entries.image.now l.entries.places.now) (l.k - 1) l.parents

@@ -7,14 +7,14 @@ use Rattle.aff_tables.proofs.data.data_outside.Goals as goal
 
 pub loop-k-preserved : goal.loop-k-preserved
 loop-k-preserved c =
-    let test = data_outside c.args.from c.args.size (recorded_entry c.args.image.now c.args.entries.now) in
+    let test = data_outside c.args.bounds.from c.args.bounds.size (recorded_entry c.args.entries.now.image.now c.args.entries.now.places.now) in
     let k = c.loop-k.k in
     let no : test k ≡ false = cc in
     sym (lowest_past test (c.args.nodes + 1 - k) (c.args.nodes + 1 - (k + 1)) k (omega arith) no) ∙ c.loop-k.invariant
 
-pub returns-else-is_outside : goal.returns-else-is_outside
-returns-else-is_outside c =
-    let test = data_outside c.args.from c.args.size (recorded_entry c.args.image.now c.args.entries.now) in
+pub returns-else-misses : goal.returns-else-misses
+returns-else-misses c =
+    let test = data_outside c.args.bounds.from c.args.bounds.size (recorded_entry c.args.entries.now.image.now c.args.entries.now.places.now) in
     let k = c.loop-k.k in
     let no : test k ≡ false = cc in
     sym (lowest_past test (c.args.nodes + 1 - k) 0 k (omega arith) no ∙ lowest_none test 0 (k + 1) refl) ∙ c.loop-k.invariant

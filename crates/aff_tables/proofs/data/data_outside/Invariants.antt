@@ -7,5 +7,5 @@ use Rattle.aff_tables.proofs.data.data_outside.Given as goal
 
 abbrev pub invariant-loop-k : goal.invariant-loop-k
 invariant-loop-k l =
-    let test = data_outside l.from l.size (recorded_entry l.image l.entries) in
+    let test = data_outside l.bounds.from l.bounds.size (recorded_entry l.entries.image.now l.entries.places.now) in
     lowest_from test (l.nodes + 1 - l.k) l.k ≡ lowest_from test l.nodes 1

@@ -9,17 +9,14 @@ pub loop-k-preserved : goal.loop-k-preserved
 loop-k-preserved c =
     let lp = c.loop-k in
     let k = lp.k in
-    let good = sym (c.if-link_bad.ensures ∙ ap (link_bad c.args.nodes c.args.strings c.args.sound.now) c.recorded_entry-entry.ensures) in (
-      copied_less _ _ _ (k + 1 - 1) k (omega arith) (copied_more _ lp.parents lp.names k (omega arith) (omega arith) lp.invariant.0 _ c.recorded_entry-entry.ensures),
+    let good = sym (c.if-link_bad.ensures ∙ ap (link_bad c.args.nodes c.args.strings c.args.sound.now) c.entry-entry.ensures) in (
+      copied_less _ _ _ (k + 1 - 1) k (omega arith) (copied_more _ lp.parents lp.names k (omega arith) (omega arith) lp.invariant.0 _ c.entry-entry.ensures),
       sym (lowest_past _ (c.args.nodes + 1 - k) (c.args.nodes + 1 - (k + 1)) k (omega arith) good) ∙ lp.invariant.1,
     )
 
-pub returns-else-link_bad : goal.returns-else-link_bad
-returns-else-link_bad c =
+pub returns-else-link_bad-clause-value : goal.returns-else-link_bad-clause-value
+returns-else-link_bad-clause-value c =
     let lp = c.loop-k in
     let k = lp.k in
-    let good = sym (c.if-link_bad.ensures ∙ ap (link_bad c.args.nodes c.args.strings c.args.sound.now) c.recorded_entry-entry.ensures) in
-    record {
-      value = sym (lowest_past _ (c.args.nodes + 1 - k) 0 k (omega arith) good ∙ lowest_none _ 0 (k + 1) refl) ∙ lp.invariant.1;
-      copied = λ _. copied_less _ _ _ c.args.nodes k (omega arith) (copied_more _ lp.parents lp.names k (omega arith) (omega arith) lp.invariant.0 _ c.recorded_entry-entry.ensures);
-    }
+    let good = sym (c.if-link_bad.ensures ∙ ap (link_bad c.args.nodes c.args.strings c.args.sound.now) c.entry-entry.ensures) in
+    sym (lowest_past _ (c.args.nodes + 1 - k) 0 k (omega arith) good ∙ lowest_none _ 0 (k + 1) refl) ∙ lp.invariant.1

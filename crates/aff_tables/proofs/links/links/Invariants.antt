@@ -7,6 +7,6 @@ use Rattle.aff_tables.proofs.links.links.Given as goal
 
 abbrev pub invariant-loop-k : goal.invariant-loop-k
 invariant-loop-k l =
-    let test = λ (j : ℕ). link_bad l.nodes l.strings l.sound (recorded_entry l.image l.entries j) in
-    Copied (recorded_entry l.image l.entries) (l.k - 1) l.parents l.names
-    × (lowest_from test (l.nodes + 1 - l.k) l.k ≡ lowest_from test l.nodes 1)
+    let entry = recorded_entry l.entries.image.now l.entries.places.now in
+    let test = λ (j : ℕ). link_bad l.nodes l.strings l.sound (entry j) in
+    Copied entry (l.k - 1) l.parents l.names × (lowest_from test (l.nodes + 1 - l.k) l.k ≡ lowest_from test l.nodes 1)

@@ -6,5 +6,5 @@ use Rattle.aff_tables.proofs.symbols.symbol_table.Goals as goal
 pub returns-clause-value : goal.returns-clause-value
 returns-clause-value c =
     let a = c.args in
-    let few : c.split.result ≡ Some c.in_ok-strings.strings = cc (c.in_ok-strings.was) in
-    (table_counted a.edition a.records a.image.now a.from a.size a.places.now c.split.new.places c.requires.2 c.split.ensures.value c.split.ensures.places_after few c.counted.ensures).0
+    let few : c.split.result ≡ Some c.in_ok-count.count = cc (c.in_ok-count.was) in
+    (table_counted a.edition a.records a.image.now a.from a.size a.places.now c.split.new.places c.requires.room c.split.ensures.value c.split.ensures.places_after few c.counted.ensures).0

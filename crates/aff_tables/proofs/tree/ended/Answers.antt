@@ -1,10 +1,7 @@
--- Nothing follows, or a byte does.
+-- A byte follows.
 use Rattle.std.proofs.Common.{◌<◌, length, arith}
-use lib.Seq.{drop-cons, drop-length}
+use lib.Seq.{drop-cons}
 use Rattle.aff_tables.proofs.tree.ended.Goals as goal
-
-pub returns-then-at-section : goal.returns-then-at-section
-returns-then-at-section c = rw (c.if-at-section.true, drop-length)
 
 pub returns-else-at-section : goal.returns-else-at-section
 returns-else-at-section c =

@@ -12,19 +12,19 @@ slice_bounds-store_both-end c = sym (length_zeros c.args.writer.now _ c.put_plac
 pub returns-then-made-pad-clause-answer : goal.returns-then-made-pad-clause-answer
 returns-then-made-pad-clause-answer c =
     let s = c.store_both-made.ensures in
-    (put_spent c.args.writer.now _ c.put_place-place.ensures c.args.bytes.now c.args.allowance _ _ _ s.made s.buffer c.if-made-pad.true).0
+    (put_spent c.args.writer.now _ c.put_place-place.ensures c.args.bytes.now c.args.allowance _ _ _ s.made s.buffer c.if-made-pad.true).answer_is
 
 pub returns-then-made-pad-clause-buffer : goal.returns-then-made-pad-clause-buffer
 returns-then-made-pad-clause-buffer c =
     let s = c.store_both-made.ensures in
-    (put_spent c.args.writer.now _ c.put_place-place.ensures c.args.bytes.now c.args.allowance _ _ _ s.made s.buffer c.if-made-pad.true).1
+    (put_spent c.args.writer.now _ c.put_place-place.ensures c.args.bytes.now c.args.allowance _ _ _ s.made s.buffer c.if-made-pad.true).buffer_is
 
 pub returns-clause-answer : goal.returns-clause-answer
 returns-clause-answer c =
     let s = c.store_both-made.ensures in
-    (put_made c.args.writer.now _ c.put_place-place.ensures c.args.bytes.now c.args.allowance _ _ _ s.made s.buffer c.if-made-pad.false).0
+    (put_made c.args.writer.now _ c.put_place-place.ensures c.args.bytes.now c.args.allowance _ _ _ s.made s.buffer c.if-made-pad.false).answer_is
 
 pub returns-clause-buffer : goal.returns-clause-buffer
 returns-clause-buffer c =
     let s = c.store_both-made.ensures in
-    (put_made c.args.writer.now _ c.put_place-place.ensures c.args.bytes.now c.args.allowance _ _ _ s.made s.buffer c.if-made-pad.false).1
+    (put_made c.args.writer.now _ c.put_place-place.ensures c.args.bytes.now c.args.allowance _ _ _ s.made s.buffer c.if-made-pad.false).buffer_is
