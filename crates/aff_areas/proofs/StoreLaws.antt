@@ -7,10 +7,8 @@ use native.Mathlib.Nat.{add-zero, sub-zero}
 use native.Mathlib.Numerals.{add-one}
 use native.Mathlib.Omega.{arith}
 use lib.ListN.{length, set, take, drop, length-set, length-append}
-use borrow.Rule.Slice.PartMut.{put_mid}
 use Rattle.std.specs.Prelude.{min}
 use Rattle.std.proofs.lemmas.List.{take_min}
-use Rattle.aff_format.proofs.StdLaws.{put_mid_spliced}
 use lib.Seq.{sets, sets-eq, length-take-le}
 use Rattle.aff_format.specs.Bytes.{spliced}
 use Rattle.aff_areas.specs.Stores.{Store, apply_stores, stores_from}
@@ -83,14 +81,13 @@ abbrev pub Stored : List ℕ → ℕ → List ℕ → ℕ → List ℕ → ℕ �
 Stored buffer₀ at bytes allowance buffer i =
     (i ≡ length (take allowance bytes)) × (buffer ≡ apply_stores buffer₀ (take allowance (stores_from at bytes)))
 
--- The front of a run that the allowance admits, by one copy.
+-- The front of a run that the allowance admits, by one put.
 pub copied_stores : (at made allowance : ℕ) (bytes buffer : List ℕ) → at + length bytes ≤ length buffer → made ≡ min allowance (length bytes)
-    → put_mid at (at + made - at) buffer (take made bytes) ≡ apply_stores buffer (take allowance (stores_from at bytes))
+    → spliced at (take made bytes) buffer ≡ apply_stores buffer (take allowance (stores_from at bytes))
 copied_stores at made allowance bytes buffer h m =
     let e : take made bytes ≡ take allowance bytes = rw m (take_min allowance bytes) in
     let n : length (take made bytes) ≡ made = length-take-le made bytes (omega arith) in
-    put_mid_spliced at (at + made - at) (take made bytes) buffer (omega arith)
-    ∙ ap (λ (r : List ℕ). spliced at r buffer) e
+    ap (λ (r : List ℕ). spliced at r buffer) e
     ∙ sym (apply_spliced at (take allowance bytes) buffer (omega (arith, ap length e)))
     ∙ ap (apply_stores buffer) (sym (take_stores_from allowance at bytes))
 

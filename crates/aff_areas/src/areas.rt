@@ -1,5 +1,7 @@
 // Strings and nodes so far, by what the record and the two areas say.
 // `node ≤ node_limit`, `nodes ≤ node_limit` and `0 < node` stay clauses: they are facts of plain numbers, and a type for them would be no plainer.
+// So is `length tree ≡ tree_area`: the area is lent, and 24 judges its length (`writer_sizes_belong`).
+// The area is lent & here and &mut there, so it has no struct.
 ghost use Rattle.std.specs.Prelude.{◌≡◌, cond, [], ◌∷◌, ◌++◌, ◌+◌, ◌*◌, ◌≤◌, ◌<◌, length, take, drop};
 ghost use Rattle.aff_format.specs.Bytes.{spliced};
 ghost use Rattle.aff_format.specs.Entry.{slot_bytes};
@@ -10,7 +12,7 @@ ghost use Rattle.aff_areas.specs.Areas.{slot_at, found_slot, slot_entry, entry_s
 use crate::writer::Writer;
 use aff_format::{Edition, Entry, bytes, entry, recorded};
 
-// The content of the slot of a node that is not the root.
+// The content of the slot of a node that is not the root. Not `Entries`: the place of a slot is computed, not recorded.
 pub fn found_slot(tree: &[u8], node: usize) -> Option<Entry>
     requires above_root { 0 < node }
     requires in_limit { node ≤ node_limit }

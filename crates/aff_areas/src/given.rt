@@ -5,6 +5,7 @@ use crate::writer::Writer;
 use aff_format::Refusal;
 
 // What a call of make, put or close is given: the buffer's length, the record, and the two areas. Nothing is known of them.
+// Beside `Opened` of aff_reader: two records with facts of their own; one generic type would have both as parameters.
 #[derive(Clone, Copy, Debug, PartialEq, Eq)]
 pub struct Given<'a> {
     pub size: usize,

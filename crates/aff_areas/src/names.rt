@@ -34,7 +34,7 @@ pub fn mark_strings(text: &[u8], name: &[u8], marks: &mut [u8])
 {
     let mut rest = text;
     let mut i = 0;
-    // From string to string, so that no place is counted.
+    // From string to string, by slices. A `for` over the marks would stop by hand where no string is left, and is no plainer.
     while !rest.is_empty() {
         let string = recorded::until_zero(rest);
         marks[i] = mark(string, name);

@@ -2,14 +2,16 @@
 ghost use Rattle.std.specs.Prelude.{◌≡◌, ◌++◌, ◌+◌, ◌≤◌, length, take};
 ghost use Rattle.aff_areas.specs.Stores.{apply_stores, stores_from};
 
-// Stores bytes ascending from a place on, at most as many as allowed. It answers how many it stored.
+use aff_format::bytes;
+
+// Stores bytes from a place on, at most as many as allowed. It answers how many it stored.
 fn store(buffer: &mut [u8], at: usize, bytes: &[u8], allowance: usize) -> usize
     requires { at + length bytes.now ≤ length buffer.old }
     ensures made { result ≡ length (take allowance bytes.now) }
     ensures buffer { buffer.new ≡ apply_stores buffer.old (take allowance (stores_from at bytes.now)) }
 {
     let made = allowance.min(bytes.len());
-    buffer[at..at + made].copy_from_slice(&bytes[..made]);
+    bytes::put(buffer, at, &bytes[..made]);
     made
 }
 

@@ -95,7 +95,7 @@ impl Writer {
     }
 }
 
-// The 12 bytes of a form.
+// The 12 bytes of a form. A copy: 1 has judged the length.
 fn form_of(form: &[u8]) -> [u8; 12]
     requires { length form.now ≡ 12 }
     ensures { result ≡ form.now }

@@ -2,6 +2,7 @@
 // passed as two arguments, a pointer and a length. The caller sees to it that the pointers are valid for the lengths and that what is written
 // overlaps nothing else that is passed. The C interface wants numbers for kinds, editions and refusals (255 where no refusal says it), arrays of numbers for
 // records, and a flag for the choice of a listing.
+// A C function each, with no generic form: the shared part of two is four lines. Conversions are functions and no From, since neither type is of this crate.
 #![tactic(auto)]
 
 pub mod opening; // opening an image

@@ -54,7 +54,7 @@ fn opened_of<'a>(
     numbers: &[u64; 12],
     strings: &'a [u32],
     entries: &'a [u32],
-) -> Opened<'a>
+) -> Opened<'a, 'a>
     ensures image { result.image.now ≡ image.now }
     ensures reader { result.reader ≡ reader_in numbers.now }
     ensures strings { result.strings.now ≡ strings.now }

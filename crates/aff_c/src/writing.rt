@@ -57,11 +57,9 @@ fn reported_number(answer: Result<usize, Refusal>) -> usize
 fn leave_refused(refusal: Refusal, writer: Writer, numbers: &mut [u64; 8])
     ensures { numbers.new ≡ numbers_refused numbers.old (code_of_refusal refusal) writer }
 {
-    let place = refusal.place();
-    if refusal.number() == 23 {
-        *numbers = numbers_by(place, writer);
-    } else {
-        numbers[0] = place as u64;
+    match refusal {
+        Refusal::AllowanceSpent(made) => *numbers = numbers_by(made, writer),
+        _ => numbers[0] = refusal.place() as u64,
     }
 }
 

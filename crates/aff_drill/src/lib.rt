@@ -1,10 +1,9 @@
 // The cut drill's work: the worked file of document 01 made with one total allowance, handed down from call to call, and then opened.
+// Buffer, writer, text and tree stay parameters, as in the calls that it makes.
 #![tactic(auto)]
 
 ghost use Rattle.std.specs.Prelude.{◌≡◌, ◌-◌, replicate};
-ghost use Rattle.aff_format.specs.Answer.{refused};
 ghost use Rattle.aff_format.specs.Limits.{string_limit, node_limit};
-ghost use Rattle.aff_format.specs.Refusal.{code_of_refusal};
 ghost use Rattle.aff_format.specs.Verdict.{answer_of};
 ghost use Rattle.aff_open.specs.Opening.{open_answer};
 ghost use Rattle.aff_areas.specs.Stores.{apply_stores, stores_reported};
@@ -14,21 +13,13 @@ ghost use Rattle.aff_drill.specs.Drill.{state_of, named, last_calls, CutFrom, Cu
 
 use aff::{Edition, Reader, Refusal, Writer};
 
-// The stores that a refusal reports.
-fn reported_by(refusal: Refusal) -> usize
-    ensures { result ≡ stores_reported (refused (code_of_refusal refusal)) }
-{
-    let code = refusal.code();
-    if code.number == 23 { code.place } else { 0 }
-}
-
 // The stores that an answer reports.
 fn reported(answer: Result<usize, Refusal>) -> usize
     ensures { result ≡ stores_reported (answer_of answer) }
 {
     match answer {
-        Ok(made) => made,
-        Err(refusal) => reported_by(refusal),
+        Ok(made) | Err(Refusal::AllowanceSpent(made)) => made,
+        Err(_) => 0,
     }
 }
 

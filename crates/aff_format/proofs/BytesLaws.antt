@@ -1,11 +1,11 @@
 -- Parts of a run of bytes, and a run written over another. Assumes nothing.
 use mathlib.Core.Path.{◌≡◌, refl, sym, ap, ◌∙◌}
-use mathlib.Core.List.{List, [], ◌∷◌, ◌++◌, append_assoc, append-nil}
+use mathlib.Core.List.{List, [], ◌∷◌, ◌++◌, append_assoc}
 use Prim.Native.Nat.{ℕ, zero, suc, ◌+◌, ◌-◌, ◌≤◌, ◌<◌}
 use native.Mathlib.Nat.{add-zero, add_assoc}
 use native.Mathlib.Numerals.{add-one}
 use native.Mathlib.Omega.{arith}
-use lib.ListN.{length, get_or, set, take, drop, length-append, length-drop, take-append-drop, drop_of_length-le}
+use lib.ListN.{length, get_or, set, take, drop, length-append, length-drop, take-append-drop}
 use lib.Seq.{length-take-le, take-nil, take_at, drop_at, drop-drop, drop-cons, take-add, take-take, take-set-le, drop-set-add, set_split, get_or-drop, take-append-le, drop-append-le, drop-append-add}
 use Rattle.aff_format.specs.Bytes.{Octets, part, spliced}
 
@@ -88,11 +88,6 @@ spliced_more at x y l h =
 pub spliced_next : (at next : ℕ) (x y l₀ l₁ l₂ : List ℕ)
     → at + length x ≡ next → next ≤ length l₀ → l₁ ≡ spliced at x l₀ → l₂ ≡ spliced next y l₁ → l₂ ≡ spliced at (x ++ y) l₀
 spliced_next at next x y l₀ l₁ l₂ n f h₁ h₂ = h₂ ∙ rw (h₁, ← n) (spliced_more at x y l₀ (omega arith))
-
--- A run as long as the list replaces it.
-pub spliced_whole : (x l : List ℕ) → length x ≡ length l → spliced 0 x l ≡ x
-unfolding spliced
-spliced_whole x l h = let d : drop (0 + length x) l ≡ [] = drop_of_length-le l {i = 0 + length x} (omega arith) in rw (d, append-nil)
 
 -- A store is a run of one; a store after a run makes the run longer.
 pub set_spliced : (at v : ℕ) (l : List ℕ) → at < length l → set l at v ≡ spliced at (v ∷ []) l

@@ -3,7 +3,6 @@
 use mathlib.Core.Path.{◌≡◌, refl, sym, ap, ◌∙◌}
 use mathlib.Core.List.{List, [], ◌∷◌, ◌++◌}
 use Prim.Native.Nat.{ℕ, zero, suc, ◌+◌, ◌≤◌, ◌<◌}
-use native.Mathlib.Nat.{zero-add}
 use native.Mathlib.Numerals.{add-one}
 use native.Mathlib.Omega.{arith}
 use lib.ListN.{length, get_or, set, take, drop, length-set, take-append-drop, drop_of_length-le}
@@ -28,13 +27,6 @@ laid_at (x ∷ area) [] k h f = absurd (omega arith)
 laid_at (x ∷ area) (p ∷ places) zero h f = refl
 laid_at (x ∷ area) (p ∷ places) (suc k) h f = laid_at area places k (omega arith) (omega arith)
 
-pub laid_after : (area places : List ℕ) (k : ℕ) → length places ≤ k → get_or (laid_over area places) k 0 ≡ get_or area k 0
-unfolding laid_over
-laid_after [] places k h = refl
-laid_after (x ∷ area) [] k h = refl
-laid_after (x ∷ area) (p ∷ places) zero h = absurd (omega arith)
-laid_after (x ∷ area) (p ∷ places) (suc k) h = laid_after area places k (omega arith)
-
 pub laid_front : (area places : List ℕ) → length places ≤ length area → take (length places) (laid_over area places) ≡ places
 unfolding laid_over
 laid_front area [] h = refl
@@ -47,9 +39,6 @@ pub record Laid (area₀ all area : List ℕ) (n : ℕ) (rest : List ℕ) : Type
   pub within : n ≤ length area
   pub count : n + length rest ≡ length all
   pub laid : take n area ++ laid_over (drop n area) rest ≡ laid_over area₀ all
-
-pub laid_start : (area all : List ℕ) → Laid area all area 0 all
-laid_start area all = record { long = refl; within = omega arith; count = rw zero-add; laid = refl }
 
 module _ {area₀ all area : List ℕ} {n : ℕ} where
   pub laid_store : {p : ℕ} {rest : List ℕ} → Laid area₀ all area n (p ∷ rest) → n < length area → Laid area₀ all (set area n p) (n + 1) rest

@@ -9,7 +9,7 @@ use lib.ListN.{length, get_or, set, take, length-append}
 use lib.Seq.{take-suc, take-length}
 use Rattle.aff_format.specs.Bytes.{Octets, part, spliced}
 use Rattle.aff_format.specs.Number.{be_from, be_of, be_bytes}
-use Rattle.aff_format.proofs.BytesLaws.{length_part, octets_nil, octets_cons, octets_append, octets_part, spliced_nil, spliced_set}
+use Rattle.aff_format.proofs.BytesLaws.{length_part, octets_part, spliced_nil, spliced_set}
 
 be_from_snoc : (acc : ℕ) (l : List ℕ) (x : ℕ) → be_from acc (l ++ (x ∷ [])) ≡ be_from acc l * 256 + x
 be_from_snoc acc [] x = refl
@@ -38,12 +38,6 @@ pub length_be_bytes : (w n : ℕ) → length (be_bytes w n) ≡ w
 unfolding be_bytes
 length_be_bytes zero n = refl
 length_be_bytes (suc w) n = length-append (be_bytes w (n / 256)) (n % 256 ∷ []) ∙ omega (arith, length_be_bytes w (n / 256))
-
-pub be_bytes_octets : (w n : ℕ) → Octets (be_bytes w n)
-unfolding be_bytes
-be_bytes_octets zero n = octets_nil
-be_bytes_octets (suc w) n =
-    octets_append (be_bytes w (n / 256)) (n % 256 ∷ []) (be_bytes_octets w (n / 256)) (octets_cons (n % 256) [] (omega arith) octets_nil)
 
 -- What is written is read.
 pub be_of_be_bytes : (w n : ℕ) → n < 256 ^ w → be_of (be_bytes w n) ≡ n

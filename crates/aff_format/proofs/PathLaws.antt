@@ -18,16 +18,6 @@ use Rattle.aff_format.proofs.SubkeyLaws.{subkey_no_zero, subkey_no_slash, subkey
 use Rattle.aff_format.specs.declared.edition.Edition.{Edition}
 use Rattle.std.specs.Prelude.{Option, Some, None}
 
--- The first part ends at the first slash.
-pub until_within : (l : List ℕ) → until_slash l ≤ length l
-unfolding until_slash
-until_within [] = omega arith
-until_within (x ∷ l) = go (eqb x 47) (until_within l)
-  where
-    go : (b : Bool) → until_slash l ≤ length l → cond b 0 (until_slash l + 1) ≤ suc (length l)
-    go true h = omega arith
-    go false h = omega arith
-
 -- The parts after the first.
 unfoldable pub later_parts : List ℕ → List (List ℕ)
 later_parts [] = []
@@ -106,16 +96,7 @@ grammar_parts e [] q h = absurd (omega arith)
 grammar_parts e (x ∷ []) q h = absurd (omega arith)
 grammar_parts e (x ∷ y ∷ l) q h = rw (eq-eqb x 47)
 
--- The first slash of a run: before it no slash, at it one.
-pub until_without : (l : List ℕ) → Without 47 (take (until_slash l) l)
-unfolding until_slash
-until_without [] = tt
-until_without (x ∷ l) = go (eqb x 47) refl (until_without l)
-  where
-    go : (b : Bool) → eqb x 47 ≡ b → Without 47 (take (until_slash l) l) → Without 47 (take (cond b 0 (until_slash l + 1)) (x ∷ l))
-    go true q w = tt
-    go false q w = rw add-one (q, w)
-
+-- At the first slash of a run there is one.
 pub until_slash_lem : (l : List ℕ) → until_slash l < length l → get_or l (until_slash l) 0 ≡ 47
 unfolding until_slash
 until_slash_lem [] h = absurd (omega arith)
@@ -125,16 +106,6 @@ until_slash_lem (x ∷ l) h = go (eqb x 47) refl h (until_slash_lem l)
         → get_or (x ∷ l) (cond b 0 (until_slash l + 1)) 0 ≡ 47
     go true q k ih = eqb-true x 47 q
     go false q k ih = rw add-one (ih (omega arith))
-
-pub until_all : (k : List ℕ) → Without 47 k → until_slash k ≡ length k
-unfolding until_slash
-until_all [] w = refl
-until_all (x ∷ k) w = rw (w.0, until_all k w.1, add-one)
-
-pub until_append : (k r : List ℕ) → Without 47 k → until_slash (k ++ (47 ∷ r)) ≡ length k
-unfolding until_slash
-until_append [] r w = refl
-until_append (x ∷ k) r w = rw (w.0, until_append k r w.1, add-one)
 
 -- Paths joined.
 pub joined_append : (ks js : List (List ℕ)) → joined_path (ks ++ js) ≡ joined_path ks ++ joined_path js

@@ -4,7 +4,6 @@ use mathlib.Core.Path.{◌≡◌, refl, sym, ap, ◌∙◌}
 use mathlib.Core.Bool.{Bool, true, false, cond, ◌||◌, true≢false}
 use mathlib.Core.List.{List, [], ◌∷◌, ◌++◌, append_assoc, append-nil}
 use Prim.Native.Nat.{ℕ, zero, suc, ◌+◌, ◌-◌, ◌<◌, ◌≤◌}
-use native.Mathlib.Nat.{add-zero}
 use native.Mathlib.Numerals.{add-one}
 use native.Mathlib.Omega.{arith}
 use lib.Dec.{eqb, ltb, leb-suc-suc}
@@ -145,11 +144,6 @@ unfolding up_to_zero
 up_to_zero_one [] r w = refl
 up_to_zero_one (x ∷ s) r w = rw (w.0, up_to_zero_one s r w.1)
 
-pub up_to_zero_all : (s : List ℕ) → Without 0 s → up_to_zero s ≡ s
-unfolding up_to_zero
-up_to_zero_all [] w = refl
-up_to_zero_all (x ∷ s) w = rw (w.0, up_to_zero_all s w.1)
-
 -- What comes after a zero does not matter, nor whether the last zero is there.
 pub up_to_zero_append : (s r : List ℕ) → up_to_zero (s ++ (0 ∷ r)) ≡ up_to_zero s
 unfolding up_to_zero
@@ -204,13 +198,6 @@ places_of_shift a b ss k h = places_of_at (a + b) ss k h ∙ omega (arith, place
 
 pub places_of_from : (at : ℕ) (ss : List (List ℕ)) (k : ℕ) → k < length ss → get_or (places_of at ss) k 0 ≡ at + get_or (places_of 0 ss) k 0
 places_of_from at ss k h = places_of_at at ss k h ∙ omega (arith, places_of_at 0 ss k h)
-
-pub places_of_append : (at : ℕ) (ss ts : List (List ℕ)) → places_of at (ss ++ ts) ≡ places_of at ss ++ places_of (at + length (text_of ss)) ts
-unfolding places_of text_of
-places_of_append at [] ts = rw add-zero
-places_of_append at (s ∷ ss) ts =
-    let e : at + length s + 1 + length (text_of ss) ≡ at + length (text_of (s ∷ ss)) = omega (arith, length_text_of s ss) in
-    ap (λ (r : List ℕ). at ∷ r) (places_of_append (at + length s + 1) ss ts ∙ rw e)
 
 -- A string in a text.
 

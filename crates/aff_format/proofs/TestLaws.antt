@@ -1,10 +1,6 @@
--- Tests joined by 'and' and 'or', and a comparison with what is left. By cases. Assumes nothing.
-use mathlib.Core.Path.{◌≡◌, refl, sym}
+-- Tests joined by 'and' and 'or'. By cases. Assumes nothing.
+use mathlib.Core.Path.{◌≡◌, refl}
 use mathlib.Core.Bool.{Bool, true, false, ◌&&◌, ◌||◌, true≢false, and-eq-true_iff}
-use Prim.Native.Nat.{ℕ, ◌+◌, ◌-◌, ◌≤◌}
-use native.Mathlib.Omega.{arith}
-use lib.Dec.{ltb}
-use borrow.Author.Tests.{ltb-true, ltb-false, lt-ltb, le-ltb}
 
 pub both : (a b : Bool) → (a && b) ≡ true → (a ≡ true) × (b ≡ true)
 both a b = (and-eq-true_iff a b).0
@@ -23,11 +19,3 @@ all_seven a b c d e f g h =
 pub or_false : (a b : Bool) → (a || b) ≡ false → (a ≡ false) × (b ≡ false)
 or_false true b h = absurd (true≢false h)
 or_false false b h = (refl, h)
-
--- What is left of n after `from` is too short exactly where n is: the code compares so, since a sum may not fit its type.
-pub left_short : (n from size : ℕ) → from ≤ n → ltb (n - from) size ≡ ltb n (from + size)
-left_short n from size h = go (ltb (n - from) size) refl
-  where
-    go : (t : Bool) → ltb (n - from) size ≡ t → t ≡ ltb n (from + size)
-    go true e = sym (lt-ltb n (from + size) (omega (arith, ltb-true (n - from) size e)))
-    go false e = sym (le-ltb n (from + size) (omega (arith, ltb-false (n - from) size e)))

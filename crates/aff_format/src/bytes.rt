@@ -4,7 +4,7 @@ ghost use Rattle.std.specs.List.{position_or_len};
 ghost use Rattle.aff_format.specs.Bytes.{same_bytes, spliced};
 ghost use Rattle.aff_format.specs.passes.Written.{Written};
 
-// Whether two runs are the same bytes.
+// Whether two runs are the same bytes. A function, so that one contract says `same_bytes`.
 #[tactic(auto, using(crate::proofs::StdLaws::same_bytes_is))]
 pub fn same(a: &[u8], b: &[u8]) -> bool
     ensures { result ≡ same_bytes a.now b.now }
@@ -37,6 +37,7 @@ pub fn put(out: &mut [u8], at: usize, run: &[u8])
 }
 
 // Stores a run from a place on, and returns where it ends. One pass over the run.
+// No heap: an area is lent and the end returned; a struct of both would be a Vec of our own.
 pub fn put_run(run: &[u8], at: usize, out: &mut [u8]) -> usize
     requires { at + length run.now ≤ length out.old }
     ensures { Written at run.now out.old out.new result }

@@ -5,6 +5,7 @@ ghost use Rattle.aff_format.specs.Entry.{outside};
 use crate::entry::Entry;
 
 // Where data may be: `size` bytes from `from` on, below the longest image's end.
+// No `Span` of aff_reader: that of a record may have no bound (24).
 #[derive(Clone, Copy, Debug, PartialEq, Eq)]
 pub struct Bounds {
     pub from: usize,

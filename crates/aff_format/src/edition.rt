@@ -115,6 +115,7 @@ impl Edition {
     }
 
     // Whose section header is at a rank, 0 to 2.
+    // Total, as `section_at` of specs/Edition.antt is.
     pub fn section_at(self, rank: usize) -> Section
         ensures { result ≡ section_at self rank }
     {
@@ -129,6 +130,7 @@ impl Edition {
     }
 
     // Which of the three section headers is a section's, counted from 0.
+    // Total, as `section_rank` of specs/Edition.antt is.
     pub fn rank(self, section: Section) -> usize
         ensures { result ≡ section_rank self section }
     {
@@ -173,6 +175,7 @@ impl Edition {
         form
     }
 
+    // The edition of a number, if there is one. One line over TryFrom, for the callers that want an Option.
     pub fn from_number(n: u32) -> Option<Edition>
         ensures { result ≡ edition_of n }
     {
@@ -180,6 +183,7 @@ impl Edition {
     }
 
     // The edition that a record names by its number; edition 2 for a number of no edition.
+    // Total, as `edition_by` is: a record may hold any number, and 24 judges it.
     pub fn by_number(n: u32) -> Edition
         ensures { result ≡ edition_by n }
     {

@@ -15,7 +15,7 @@ pub enum Kind {
     Complex = 5,
 }
 
-// A code that no kind has.
+// A code that no kind has. Not one type with `UnknownEdition`: its text says what was asked for.
 #[derive(Clone, Copy, Debug, PartialEq, Eq)]
 pub struct UnknownKind(pub u64);
 
@@ -58,7 +58,7 @@ impl Kind {
         self as u8
     }
 
-    // The kind of a code, if there is one.
+    // The kind of a code, if there is one. One line over TryFrom, for the callers that want an Option.
     pub fn from_code(code: u64) -> Option<Kind>
         ensures { result ≡ kind_of code }
     {

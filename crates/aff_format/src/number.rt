@@ -18,7 +18,7 @@ pub fn be<const N: usize>(bytes: &[u8], at: usize) -> u64
 }
 
 // Writes the width low bytes of n at a place, the high one first.
-// By hand, since the contract has no bound on the width: `to_be_bytes` has eight bytes, and be_bytes (specs/Number.antt) any number.
+// The width has no bound here (a public function asks for no more than it did), so the bytes are taken by hand.
 #[tactic(auto, using(crate::proofs::NumberLaws::put_done))]
 pub fn put_be(out: &mut [u8], at: usize, width: usize, n: u64)
     requires { at + width ≤ length out.old }

@@ -8,7 +8,7 @@ use crate::entry::Entry;
 use crate::kind::Kind;
 use crate::{bytes, entry};
 
-// Number i of an area; 0 after its end.
+// Number i of an area; 0 after its end. Total, as `recorded_entry` is.
 pub fn place(area: &[u32], i: usize) -> usize
     ensures { result ≡ get_or area.now i 0 }
 {
@@ -24,7 +24,7 @@ const NO_ENTRY: Entry = Entry {
     offset: 0,
 };
 
-// The entry found, or the root's where none is.
+// The entry found, or the root's where none is. Total, as `recorded_entry` is.
 pub fn or_none(found: Option<Entry>) -> Entry
     ensures { result ≡ or_none found }
 {

@@ -25,10 +25,10 @@ pub enum Refusal {
     SectionOutside(Section),
     // The sum of a section is wrong.
     WrongSectionSum(Section),
-    // An entry is cut short, of no type or one too many; 0: the count differs.
+    // An entry is cut short, of no type or one too many; 0: the count differs. 0 as document 01's table reports it (`code_of_refusal`).
     BadTreeTable(usize),
     // A node's parent or string does not exist, or its string is no subkey; the node, and the place at which its string breaks: 0 where it does not exist
-    // or is a subkey.
+    // or is a subkey. 0 as document 01's table reports it (`code_of_refusal`).
     BadLink(usize, usize),
     // A node's climb does not reach the root.
     EndlessClimb(usize),
@@ -75,6 +75,7 @@ pub struct RefusalCode {
 }
 
 // `refused N P`, as the listers print it.
+// The listers store the same text in a lent block: std's writer into a slice says how many bytes it wrote, not which.
 impl fmt::Display for Refusal {
     ghost use Rattle.std.specs.Prelude.{Some};
     ghost use Rattle.aff_format.specs.Refusal.{refused_text};

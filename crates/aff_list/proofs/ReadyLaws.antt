@@ -1,6 +1,7 @@
 -- What is decided before the first line, and what then holds: opening decides, then the paths. Assumes nothing.
 use mathlib.Core.Path.{◌≡◌, refl, sym, ap, ◌∙◌}
-use mathlib.Core.Bool.{true, false}
+use mathlib.Core.Bool.{Bool, true, false, not}
+use mathlib.Core.Logic.{⊎_elim}
 use mathlib.Core.List.{List, ◌++◌}
 use Prim.Native.Nat.{ℕ, ◌≤◌, ◌<◌}
 use native.Mathlib.Omega.{arith}
@@ -11,7 +12,7 @@ use Rattle.aff_format.specs.Answer.{Answer, accepted, refused, first_wrong}
 use Rattle.aff_format.specs.Refusal.{code_of_refusal}
 use Rattle.aff_format.specs.Verdict.{answer_of}
 use Rattle.aff_format.specs.declared.refusal.Refusal.{Refusal}
-use Rattle.std.specs.Prelude.{Result, Ok, Err, IsErrAnd}
+use Rattle.std.specs.Prelude.{Option, Some, None, Result, Ok, Err, IsErrAnd}
 use Rattle.aff_format.proofs.AnswerLaws.{not_both, passed, passed_value}
 use Rattle.aff_format.proofs.LowestLaws.{none_at}
 use Rattle.aff_format.proofs.VerdictLaws.{verdict_refuses, verdict_accepts}
@@ -24,23 +25,29 @@ use Rattle.aff_open.proofs.OpenedLaws.{opened_belongs}
 use Rattle.aff_listing.specs.ListingOrder.{listing_order, listed_count}
 use Rattle.aff_nodes.specs.Recall.{path_at}
 use Rattle.aff_listing.specs.declared.choice.Choice.{Choice}
-use Rattle.aff_format.specs.passes.Capped.{capped}
-use Rattle.aff_format.proofs.CappedLaws.{capped_over, capped_exact}
+use Rattle.aff_spelling.specs.Within.{within}
+use Rattle.aff_spelling.proofs.WithinLaws.{within_some, within_none}
+use Rattle.aff_format.proofs.ClimbLaws.{le_or_lt}
+use Rattle.std.specs.Option.{is_some}
 use Rattle.aff_listing.proofs.ListedLaws.{order_exist, order_length, count_most}
 use Rattle.aff_list.specs.Lister.{path_limit, path_too_long, path_checks, Ready, with_paths, judged, answer_of_prepared, lines_of, lines_by, lines_after, with_order, order_after}
 use Rattle.aff_list.specs.declared.blocks.Prepared.{Prepared}
 
--- Whether a path is too long, by its length as it is counted.
-module _ (image : List ℕ) (reader : Reader) (strings entries : List ℕ) (k : ℕ) {n : ℕ} (is : n ≡ capped path_limit (length (path_at image reader strings entries k))) where
-  pub path_long : path_limit < n → path_too_long image reader strings entries k ≡ true
-  unfolding path_too_long
-  path_long h = lt-ltb _ _ (capped_over path_limit (length (path_at image reader strings entries k)) is h)
+opposite : (b : Bool) {x : Bool} → x ≡ not b → not x ≡ b
+opposite true e = ap not e
+opposite false e = ap not e
 
-  pub path_short : n ≤ path_limit → path_too_long image reader strings entries k ≡ false
+-- Whether a path is too long, by its length where it is within the limit.
+module _ (image : List ℕ) (reader : Reader) (strings entries : List ℕ) (k : ℕ) where
+  pub path_measured : {o : Option ℕ} (b : Bool) → o ≡ within path_limit (length (path_at image reader strings entries k)) → is_some o ≡ not b
+      → path_too_long image reader strings entries k ≡ b
   unfolding path_too_long
-  path_short h =
-      let short : length (path_at image reader strings entries k) ≤ path_limit = omega (arith, capped_exact path_limit (length (path_at image reader strings entries k)) is h) in
-      le-ltb _ _ short
+  path_measured b is some =
+      let n : ℕ = length (path_at image reader strings entries k) in
+      let decided = ap (λ (o : Option ℕ). not (is_some o)) (sym is) ∙ opposite b some in
+      ⊎_elim (λ (h : n ≤ path_limit). le-ltb _ _ h ∙ ap (λ (o : Option ℕ). not (is_some o)) (within_some path_limit n h) ∙ decided)
+      (λ (h : path_limit < n). lt-ltb _ _ h ∙ ap (λ (o : Option ℕ). not (is_some o)) (within_none path_limit n h) ∙ decided)
+      (le_or_lt n path_limit)
 
 -- After an accepted opening: the paths of the nodes listed decide.
 module _ (image : List ℕ) (reader : Reader) (strings entries : List ℕ) (choice : Choice) where
@@ -106,6 +113,13 @@ module _ (image : List ℕ) (choice : Choice) (strings entries numbers : List �
 
   pub opened_ready : (r : Reader) → a ≡ accepted r → reader_belongs image r ss es ≡ true
   opened_ready r h = rw (s, e) (opened_belongs image form strings entries (sym reported ∙ h))
+
+  -- The two areas are as opening leaves them.
+  pub strings_left_lem : ss ≡ strings_after image (form_for image) strings entries
+  strings_left_lem = s ∙ ap (λ (l : List ℕ). strings_after image l strings entries) f
+
+  pub entries_left_lem : es ≡ entries_after image (form_for image) strings entries
+  entries_left_lem = e ∙ ap (λ (l : List ℕ). entries_after image l strings entries) f
 
 -- Accepted: the nodes listed are at the front of the area, and all is ready for their lines.
 pub record Listed (image : List ℕ) (reader : Reader) (strings entries : List ℕ) (choice : Choice) (lines : ℕ) (numbers : List ℕ) : Type 0 where

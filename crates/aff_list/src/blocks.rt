@@ -19,12 +19,12 @@ use aff_reader::{Belonging, Opened, Reader};
 use aff_spelling::Spelling;
 
 // 21 where one of some nodes has a path above 65,536 bytes. One climb a node.
-fn measure(belonging: &Belonging<'_>, order: &[u32]) -> Result<(), Refusal>
+fn measure(belonging: &Belonging<'_, '_>, order: &[u32]) -> Result<(), Refusal>
     requires { Exist belonging.now.opened.reader order.now }
     ensures { answer_of result ≡ first_wrong (of belonging.now.opened path_checks order.now) tt }
 {
     for &node in order {
-        if 65536 < paths::path_length(Spelling::Raw, belonging, node as usize, 65536) {
+        if paths::path_length(Spelling::Raw, belonging, node as usize, 65536).is_none() {
             return Err(Refusal::BufferTooSmall);
         }
     }
@@ -40,7 +40,7 @@ pub struct Prepared {
 
 // After an accepted opening: writes listing order, and measures the paths of the nodes listed.
 fn prepare(
-    belonging: &Belonging<'_>,
+    belonging: &Belonging<'_, '_>,
     choice: Choice,
     order: &mut [u32; 2049],
 ) -> Result<Prepared, Refusal>
@@ -84,8 +84,8 @@ pub fn begin(
 }
 
 // Puts a node's line and a line feed after the first `used` bytes of a block, and returns where they end. Where they do not fit, the
-// block stays, and `used` is returned.
-fn put_row(belonging: &Belonging<'_>, node: usize, used: usize, block: &mut [u8]) -> usize
+// block stays, and `used` is returned. The old end and no Option: `end_after` says both.
+fn put_row(belonging: &Belonging<'_, '_>, node: usize, used: usize, block: &mut [u8]) -> usize
     requires exists { node ≤ belonging.now.opened.reader.nodes }
     requires inside { used ≤ length block.old }
     ensures value { result ≡ end_after used (of belonging.now.opened row node) block.old }
@@ -114,7 +114,7 @@ pub struct Filled {
 
 // Fills a block from its front with the lines of the nodes of an order, from a place on: as many as it has space for, and one at least where one is left;
 // the rest of it stays.
-pub fn fill(opened: &Opened<'_>, order: &[u32], from: usize, block: &mut [u8; 262164]) -> Filled
+pub fn fill(opened: &Opened<'_, '_>, order: &[u32], from: usize, block: &mut [u8; 262164]) -> Filled
     requires ready { holds opened.now Ready order.now }
     requires place { from ≤ length order.now }
     ensures { holds opened.now Fills order.now from result.next result.used block.old block.new }
@@ -136,7 +136,7 @@ pub fn fill(opened: &Opened<'_>, order: &[u32], from: usize, block: &mut [u8; 26
 
 // Where the first block ends: the record of the opening, how many lines there are in all, the place in listing order of the line that comes next, and the
 // bytes filled. Where the next place is the number of lines there is no further block. Too long an input, or a refusal, leaves an all-zero record, and
-// no lines.
+// no lines. Zeros and no Option: what is printed is one text in each case, and `Starts` says it of all.
 #[derive(Clone, Copy, Debug, PartialEq, Eq)]
 pub struct First {
     pub reader: Reader,

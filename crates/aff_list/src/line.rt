@@ -41,7 +41,7 @@ fn put_tail(kind: Kind, count: u32, out: &mut [u8]) -> usize
 
 // Writes a node's path, escaped, and a text after it at the front of an output: 21. The passes of the path, and one over the text.
 fn with_path(
-    belonging: &Belonging<'_>,
+    belonging: &Belonging<'_, '_>,
     node: usize,
     text: &[u8],
     out: &mut [u8],
@@ -59,7 +59,7 @@ fn with_path(
 }
 
 // Writes a node's line at the front of an output: 21. At most 19 bytes follow the path.
-pub fn line_of(belonging: &Belonging<'_>, node: usize, out: &mut [u8]) -> Result<usize, Refusal>
+pub fn line_of(belonging: &Belonging<'_, '_>, node: usize, out: &mut [u8]) -> Result<usize, Refusal>
     requires { node ≤ belonging.now.opened.reader.nodes }
     ensures answer { answer_of result ≡ text_answer (length out.old) (of belonging.now.opened line_at node) }
     ensures output { out.new ≡ front_written (answer_of result) (of belonging.now.opened line_at node) out.old }
@@ -72,7 +72,7 @@ pub fn line_of(belonging: &Belonging<'_>, node: usize, out: &mut [u8]) -> Result
 
 // Writes a node's line at the front of an output; the rest of it stays: 24, 15, 21. Returns the line's length.
 #[tactic(auto, unfolding(crate::specs::Line::line_answer))]
-pub fn line(opened: &Opened<'_>, node: usize, out: &mut [u8]) -> Result<usize, Refusal>
+pub fn line(opened: &Opened<'_, '_>, node: usize, out: &mut [u8]) -> Result<usize, Refusal>
     ensures answer { answer_of result ≡ of opened.now line_answer node (length out.old) }
     ensures output { out.new ≡ front_written (answer_of result) (of opened.now line_at node) out.old }
 {

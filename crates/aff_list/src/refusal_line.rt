@@ -1,4 +1,4 @@
-// The line `refused N P`.
+// The line `refused N P`. By hand: std's writer into a slice says how many bytes it wrote, not which; `Starts` says which.
 ghost use Rattle.std.specs.Prelude.{[], ◌∷◌, ◌++◌, ◌+◌, ◌≤◌, ◌<◌, length};
 ghost use Rattle.aff_format.specs.Refusal.{number_of, place_of};
 ghost use Rattle.aff_format.specs.passes.Written.{Written};

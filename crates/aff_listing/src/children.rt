@@ -7,13 +7,13 @@ use aff_reader::Belonging;
 
 // A record that belongs, and the links of all its nodes.
 #[derive(Clone, Copy, Debug, PartialEq, Eq)]
-pub struct Children<'a> {
-    pub belonging: Belonging<'a>,
+pub struct Children<'i, 'a> {
+    pub belonging: Belonging<'i, 'a>,
     pub links: &'a [Links; 2049],
     pub ghost tables: { ChildTables (parent_of belonging.opened) belonging.opened.reader.nodes 1 links.now },
 }
 
-impl Children<'_> {
+impl Children<'_, '_> {
     // The lowest child of a node; nodes + 1 where there is none.
     #[tactic(auto, using(aff_reader::proofs::BelongsLaws::nodes_few))]
     pub fn first(&self, node: usize) -> usize

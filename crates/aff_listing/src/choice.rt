@@ -4,6 +4,7 @@ ghost use Rattle.aff_listing.specs.ListingOrder.{lists};
 
 use aff_format::Kind;
 
+// A value and no closure: `lists`, `listing_order` are functions of it, and C has a flag.
 #[derive(Clone, Copy, Debug, PartialEq, Eq)]
 pub enum Choice {
     AllNodes,

@@ -17,28 +17,61 @@ use crate::links::{self, Links};
 use aff_format::Refusal;
 use aff_reader::{Belonging, Opened};
 
-// Whether a choice lists a node.
-fn is_listed(belonging: &Belonging<'_>, choice: Choice, node: usize) -> bool
-    ensures { result ≡ listed belonging.now.opened choice node }
-{
-    choice.lists(belonging.entry(node).kind)
+// The nodes that a choice lists, of a record that belongs.
+#[derive(Clone, Copy, Debug, PartialEq, Eq)]
+struct Listed<'b, 'i, 'a> {
+    belonging: &'b Belonging<'i, 'a>,
+    choice: Choice,
 }
 
-// How many of the nodes numbered below `end` a choice lists. One pass over them.
-fn listed_below(belonging: &Belonging<'_>, choice: Choice, end: usize) -> usize
-    ensures { result ≡ count_by (listed belonging.now.opened choice) (range_with_len 0 end) }
-{
-    (0..end)
-        .filter(|&node| is_listed(belonging, choice, node))
-        .count()
-}
+impl Listed<'_, '_, '_> {
+    // Whether a node is one of them.
+    fn has(&self, node: usize) -> bool
+        ensures { result ≡ listed self.now node }
+    {
+        self.choice.lists(self.belonging.entry(node).kind)
+    }
 
-// How many nodes a choice lists.
-#[tactic(auto, using(aff_reader::proofs::BelongsLaws::nodes_few, crate::proofs::KeptLaws::kept_below_is))]
-fn count_listed(belonging: &Belonging<'_>, choice: Choice) -> usize
-    ensures { result ≡ of belonging.now.opened listed_count choice }
-{
-    listed_below(belonging, choice, belonging.opened.reader.nodes + 1)
+    // How many of them are numbered below `end`. One pass over these numbers.
+    fn count_below(&self, end: usize) -> usize
+        ensures { result ≡ count_by (listed self.now) (range_with_len 0 end) }
+    {
+        (0..end).filter(|&node| self.has(node)).count()
+    }
+
+    // How many they are.
+    #[tactic(auto, using(aff_reader::proofs::BelongsLaws::nodes_few, crate::proofs::KeptLaws::kept_below_is))]
+    fn count(&self) -> usize
+        ensures { result ≡ of self.now.belonging.now.opened listed_count self.now.choice }
+    {
+        self.count_below(self.belonging.opened.reader.nodes + 1)
+    }
+
+    // Stores a node's number where it is listed, and returns the place after it.
+    #[tactic(auto, using(aff_format::proofs::WrittenLaws::written_one, aff_format::proofs::WrittenLaws::written_none), unfolding(crate::specs::ListingOrder::own))]
+    fn put(&self, node: u32, at: usize, out: &mut [u32]) -> usize
+        requires { at + length (own (listed self.now) node) ≤ length out.old }
+        ensures { Written at (own (listed self.now) node) out.old out.new result }
+    {
+        if self.has(node as usize) {
+            out[at] = node;
+            return at + 1;
+        }
+        at
+    }
+
+    // Stores those of an order at the front of an output, without the other nodes. Returns how many it stored. One pass over the order.
+    #[tactic(auto, using(aff_format::proofs::WrittenLaws::written_none), unfolding(crate::specs::ListingOrder::kept))]
+    fn put_all(&self, order: &[u32], out: &mut [u32]) -> usize
+        requires { length (kept (listed self.now) order.now) ≤ length out.old }
+        ensures { Written 0 (kept (listed self.now) order.now) out.old out.new result }
+    {
+        let mut end = 0;
+        for &node in order {
+            end = self.put(node, end, out);
+        }
+        end
+    }
 }
 
 // Stores a node's number, and returns the place after it.
@@ -57,7 +90,7 @@ fn put_number(node: usize, at: usize, out: &mut [u32]) -> usize
 #[cycle(list_children_list_node)]
 #[tactic(auto, using(aff_reader::proofs::BelongsLaws::nodes_few, crate::proofs::ListingLaws::preorder_ended, crate::proofs::ListingLaws::below_fits, aff_format::proofs::WrittenLaws::written_none))]
 fn list_node(
-    children: &Children<'_>,
+    children: &Children<'_, '_>,
     node: usize,
     depth: usize,
     at: usize,
@@ -77,7 +110,7 @@ fn list_node(
 // Stores the subtrees of a node's children, in number order. One step a child, besides the subtrees.
 #[cycle(list_children_list_node)]
 fn list_children(
-    children: &Children<'_>,
+    children: &Children<'_, '_>,
     node: usize,
     depth: usize,
     at: usize,
@@ -100,7 +133,7 @@ fn list_children(
 
 // Makes the order of all nodes by links made once. Returns how many they are.
 #[tactic(auto, using(crate::proofs::ListedLaws::all_fits))]
-fn full_order(belonging: &Belonging<'_>, order: &mut [u32; 2049]) -> usize
+fn full_order(belonging: &Belonging<'_, '_>, order: &mut [u32; 2049]) -> usize
     ensures { Written 0 (of belonging.now.opened listing_order AllNodes) order.old order.new result }
 {
     let nodes = belonging.opened.reader.nodes;
@@ -113,67 +146,30 @@ fn full_order(belonging: &Belonging<'_>, order: &mut [u32; 2049]) -> usize
     list_node(&children, 0, nodes + 1, 0, order)
 }
 
-// Stores a number where the choice lists that node, and returns the place after it.
-#[tactic(auto, using(aff_format::proofs::WrittenLaws::written_one, aff_format::proofs::WrittenLaws::written_none), unfolding(crate::specs::ListingOrder::own))]
-fn put_listed(
-    belonging: &Belonging<'_>,
-    choice: Choice,
-    node: u32,
-    at: usize,
-    out: &mut [u32],
-) -> usize
-    requires { at + length (own (listed belonging.now.opened choice) node) ≤ length out.old }
-    ensures { Written at (own (listed belonging.now.opened choice) node) out.old out.new result }
-{
-    if is_listed(belonging, choice, node as usize) {
-        out[at] = node;
-        return at + 1;
-    }
-    at
-}
-
-// Stores the nodes of an order at the front of an output, without those that the choice does not list. Returns how many it stored. One pass over these
-// nodes.
-#[tactic(auto, using(aff_format::proofs::WrittenLaws::written_none), unfolding(crate::specs::ListingOrder::kept))]
-fn put_all_listed(
-    belonging: &Belonging<'_>,
-    choice: Choice,
-    order: &[u32],
-    out: &mut [u32],
-) -> usize
-    requires { length (kept (listed belonging.now.opened choice) order.now) ≤ length out.old }
-    ensures { Written 0 (kept (listed belonging.now.opened choice) order.now) out.old out.new result }
-{
-    let mut end = 0;
-    for &node in order {
-        end = put_listed(belonging, choice, node, end, out);
-    }
-    end
-}
-
 // Writes the nodes that a choice lists, in listing order, at the front of an output with a place for each. Returns how many they are. A few passes over the
 // nodes: the order of all nodes is made in a table, then those listed are stored. Recursion depth is the number of levels of the tree, at most 2,049, and
 // a level takes 48 bytes as compiled for x86-64: with an order of 8,196 bytes and links of 16,392 about 123,500 bytes of stack.
-pub fn listing_of(belonging: &Belonging<'_>, choice: Choice, out: &mut [u32]) -> usize
+pub fn listing_of(belonging: &Belonging<'_, '_>, choice: Choice, out: &mut [u32]) -> usize
     requires { of belonging.now.opened listed_count choice ≤ length out.old }
     ensures answer { result ≡ of belonging.now.opened listed_count choice }
     ensures output { out.new ≡ front_written (accepted result) (of belonging.now.opened listing_order choice) out.old }
 {
     let mut order = [0u32; 2049];
     let count = full_order(belonging, &mut order);
-    put_all_listed(belonging, choice, &order[..count], out)
+    let listed = Listed { belonging, choice };
+    listed.put_all(&order[..count], out)
 }
 
 // Writes the numbers of the nodes that a choice lists, in listing order, at the front of an output; the rest of it stays: 24, 21. Returns how many it
 // wrote.
 #[tactic(auto, unfolding(crate::specs::ListingOrder::listing_answer))]
-pub fn listing(opened: &Opened<'_>, choice: Choice, out: &mut [u32]) -> Result<usize, Refusal>
+pub fn listing(opened: &Opened<'_, '_>, choice: Choice, out: &mut [u32]) -> Result<usize, Refusal>
     ensures answer { answer_of result ≡ of opened.now listing_answer choice (length out.old) }
     ensures output { out.new ≡ front_written (answer_of result) (of opened.now listing_order choice) out.old }
 {
-    let belonging = opened.judge()?;
-    if out.len() < count_listed(&belonging, choice) {
+    let belonging = &opened.judge()?;
+    if out.len() < (Listed { belonging, choice }).count() {
         return Err(Refusal::BufferTooSmall);
     }
-    Ok(listing_of(&belonging, choice, out))
+    Ok(listing_of(belonging, choice, out))
 }

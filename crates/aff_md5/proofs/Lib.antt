@@ -1,6 +1,5 @@
--- `DigestLaws` and `Copying` are for the proofs of callers; the other modules are for the proofs of this crate.
+-- `DigestLaws` is for the proofs of callers; the other modules are for the proofs of this crate.
 pub mod DigestLaws
-pub mod Copying
 pub mod Examples
 mod StepTables
 mod Steps

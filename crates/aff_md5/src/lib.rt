@@ -46,6 +46,7 @@ static WORDS: [u8; 64] = *b"\
 // ---- Bytes.
 
 // Writes s into b from index `at` on. A function of its own, so that one contract says what `copy_from_slice` leaves at a part of an array.
+// Not `bytes::put` of aff_format: aff_md5 stands on no other crate.
 fn put(b: &mut [u8], at: usize, s: &[u8])
     requires { at + length s.now ≤ length b.old }
     ensures { b.new ≡ take at b.old ++ (s.now ++ drop (at + length s.now) b.old) }
@@ -64,6 +65,7 @@ fn put_word(b: &mut [u8], at: usize, x: u32)
 // ---- A block.
 
 // Word k of the block m.
+// A block is a part of the message, with its length as a clause: one loop takes the blocks of two parts in turn (`block`).
 fn word(m: &[u8], k: usize) -> u32
     requires block { length m.now ≡ 64 }
     requires index { k < 16 }

@@ -13,7 +13,7 @@ use aff_format::{ElementAnswer, Kind, Refusal, element, recorded};
 use aff_reader::{Belonging, Opened, Span};
 
 // 24, 15: what every call on a node judges first.
-pub fn judge<'a>(opened: &Opened<'a>, node: usize) -> Result<Belonging<'a>, Refusal>
+pub fn judge<'i, 'a>(opened: &Opened<'i, 'a>, node: usize) -> Result<Belonging<'i, 'a>, Refusal>
     ensures { answer_of (opened_of result) ≡ first_wrong (of opened.now exists_checks node) opened.now }
 {
     let belonging = opened.judge()?;
@@ -25,7 +25,7 @@ pub fn judge<'a>(opened: &Opened<'a>, node: usize) -> Result<Belonging<'a>, Refu
 
 // Where the name of a node is.
 #[tactic(auto, using(crate::proofs::SpanLaws::name_root, crate::proofs::SpanLaws::name_other, crate::proofs::SpanLaws::name_begins, aff_reader::proofs::BelongsLaws::symbols_within))]
-pub fn name_span(belonging: &Belonging<'_>, node: usize) -> Span
+pub fn name_span(belonging: &Belonging<'_, '_>, node: usize) -> Span
     requires { node ≤ belonging.now.opened.reader.nodes }
     ensures { result ≡ of belonging.now.opened name_span node }
 {
@@ -44,7 +44,7 @@ pub fn name_span(belonging: &Belonging<'_>, node: usize) -> Span
 
 // Where the data of a node are.
 #[tactic(auto, using(crate::proofs::SpanLaws::data_void, crate::proofs::SpanLaws::data_full))]
-pub fn data_span(belonging: &Belonging<'_>, node: usize) -> Span
+pub fn data_span(belonging: &Belonging<'_, '_>, node: usize) -> Span
     requires { node ≤ belonging.now.opened.reader.nodes }
     ensures { result ≡ data_span belonging.now.opened.image.now belonging.now.opened.entries.now node }
 {
@@ -61,7 +61,7 @@ pub fn data_span(belonging: &Belonging<'_>, node: usize) -> Span
 // The name of a node: where it is in the image, up to its zero or to the symbol section's end. The root's is empty. Two lines over `judge`, as
 // `view_bounds`: a parameter for the span would be longer.
 #[tactic(auto, unfolding(crate::specs::Answers::name_answer))]
-pub fn name_bounds(opened: &Opened<'_>, node: usize) -> Result<Span, Refusal>
+pub fn name_bounds(opened: &Opened<'_, '_>, node: usize) -> Result<Span, Refusal>
     ensures { answer_of result ≡ of opened.now name_answer node }
 {
     let belonging = judge(opened, node)?;
@@ -70,7 +70,7 @@ pub fn name_bounds(opened: &Opened<'_>, node: usize) -> Result<Span, Refusal>
 
 // The kind of a node. The root is Void.
 #[tactic(auto, unfolding(crate::specs::Answers::kind_answer))]
-pub fn kind(opened: &Opened<'_>, node: usize) -> Result<Kind, Refusal>
+pub fn kind(opened: &Opened<'_, '_>, node: usize) -> Result<Kind, Refusal>
     ensures { answer_of result ≡ of opened.now kind_answer node }
 {
     let belonging = judge(opened, node)?;
@@ -79,7 +79,7 @@ pub fn kind(opened: &Opened<'_>, node: usize) -> Result<Kind, Refusal>
 
 // The count of a node's elements; 0 of a Void one.
 #[tactic(auto, unfolding(crate::specs::Answers::count_answer))]
-pub fn count(opened: &Opened<'_>, node: usize) -> Result<usize, Refusal>
+pub fn count(opened: &Opened<'_, '_>, node: usize) -> Result<usize, Refusal>
     ensures { answer_of result ≡ of opened.now count_answer node }
 {
     let belonging = judge(opened, node)?;
@@ -88,7 +88,7 @@ pub fn count(opened: &Opened<'_>, node: usize) -> Result<usize, Refusal>
 
 // The data of a node: where they are in the image. A Void node has none.
 #[tactic(auto, unfolding(crate::specs::Answers::view_answer))]
-pub fn view_bounds(opened: &Opened<'_>, node: usize) -> Result<Span, Refusal>
+pub fn view_bounds(opened: &Opened<'_, '_>, node: usize) -> Result<Span, Refusal>
     ensures { answer_of result ≡ of opened.now view_answer node }
 {
     let belonging = judge(opened, node)?;
@@ -116,14 +116,14 @@ fn bytes_of<'a>(image: &'a [u8], bounds: Result<Span, Refusal>) -> &'a [u8]
 
 // The name of a node, as a part of the image; empty where the call is refused. No `Result`: its clause, `part_of`, says that it can't fail. One line over
 // `name_bounds`, as `view` over `view_bounds`: a parameter for the span would be longer.
-pub fn name<'a>(opened: &Opened<'a>, node: usize) -> &'a [u8]
+pub fn name<'i>(opened: &Opened<'i, '_>, node: usize) -> &'i [u8]
     ensures { result.now ≡ part_of opened.now.image.now (of opened.now name_answer node) }
 {
     bytes_of(opened.image, name_bounds(opened, node))
 }
 
 // The data of a node, as a part of the image; empty where the call is refused. No `Result`, as `name`.
-pub fn view<'a>(opened: &Opened<'a>, node: usize) -> &'a [u8]
+pub fn view<'i>(opened: &Opened<'i, '_>, node: usize) -> &'i [u8]
     ensures { result.now ≡ part_of opened.now.image.now (of opened.now view_answer node) }
 {
     bytes_of(opened.image, view_bounds(opened, node))
@@ -131,7 +131,7 @@ pub fn view<'a>(opened: &Opened<'a>, node: usize) -> &'a [u8]
 
 // One element of a node's data: 16.
 #[tactic(auto, using(crate::proofs::SpanLaws::data_lies))]
-pub fn element_of(belonging: &Belonging<'_>, node: usize, index: usize) -> ElementAnswer
+pub fn element_of(belonging: &Belonging<'_, '_>, node: usize, index: usize) -> ElementAnswer
     requires { node ≤ belonging.now.opened.reader.nodes }
     ensures { answer_of result ≡ decoded (kind_at belonging.now.opened.image.now belonging.now.opened.entries.now node) (bytes_at belonging.now.opened.image.now belonging.now.opened.entries.now node) index }
 {
@@ -141,7 +141,7 @@ pub fn element_of(belonging: &Belonging<'_>, node: usize, index: usize) -> Eleme
 
 // One element of a node's data.
 #[tactic(auto, unfolding(crate::specs::Answers::element_answer))]
-pub fn element(opened: &Opened<'_>, node: usize, index: usize) -> ElementAnswer
+pub fn element(opened: &Opened<'_, '_>, node: usize, index: usize) -> ElementAnswer
     ensures { answer_of result ≡ of opened.now element_answer node index }
 {
     let belonging = judge(opened, node)?;

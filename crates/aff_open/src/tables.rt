@@ -32,6 +32,8 @@ fn lengths_wrong(image: &[u8], form: &[u8], strings: &[u32], entries: &[u32]) ->
         || limits::IMAGE_LIMIT < image.len()
 }
 
+// The lengths of the two areas are clauses below: the areas are lent slices, 1 judges them, and arrays would come by a conversion that can fail.
+
 // 25 to 27, of the image's symbol section.
 #[tactic(auto, using(crate::proofs::TablesLaws::span_inside_lem), unfolding(crate::specs::Sections::section_bytes))]
 fn symbol_table(readable: &Readable<'_>, strings: &mut [u32]) -> Result<usize, Refusal>

@@ -12,8 +12,9 @@ use Rattle.std.proofs.lemmas.List.{take_min}
 use borrow.Author.Tests.{eq-eqb, ne_eqb}
 use Rattle.aff_format.specs.Tree.{front_by}
 use Rattle.aff_format.specs.Strings.{up_to_zero}
-use Rattle.aff_format.specs.passes.Capped.{capped}
-use Rattle.aff_format.proofs.CappedLaws.{capped_by, capped_past, capped_exact, capped_next}
+use Rattle.std.specs.Prelude.{Option, Some, None}
+use Rattle.aff_spelling.specs.Within.{within}
+use Rattle.aff_spelling.proofs.WithinLaws.{within_some, within_none, within_past, within_exact}
 use Rattle.aff_read.specs.passes.Held.{symbols_from}
 use native.Mathlib.Nat.{eq-zero-or-pos}
 use Rattle.aff_format.proofs.TreeLaws.{front_root, front_up, front_step}
@@ -41,9 +42,9 @@ up_to_zero_take (suc n) (x ∷ l) = go (eqb x 0) (up_to_zero_take n l)
     go true h = refl
     go false h = ap (λ (m : List ℕ). x ∷ m) h
 
--- What was counted within a limit fits it.
-pub counted_fits : {limit n r : ℕ} → r ≡ capped limit n → r ≤ limit → n ≤ limit
-counted_fits {limit} {n} is within = omega (arith, capped_exact limit n is within)
+-- A length that was answered is within the limit.
+pub counted_fits : {limit n r : ℕ} {o : Option ℕ} → o ≡ Some r → o ≡ within limit n → n ≤ limit
+counted_fits {limit} {n} is answered = (within_exact limit n (sym is ∙ answered)).1
 
 module _ (parent : ℕ → ℕ) (name : ℕ → List ℕ) where
   -- In the code's terms.
@@ -123,23 +124,35 @@ module _ (image : List ℕ) (reader : Reader) (strings entries : List ℕ) where
     unfolding name_from
     own_string = own_name
 
-    -- The length of a slash and the name as it is written, counted up to a limit from no more bytes of the name.
-    pub name_counted : (s : Spelling) (limit : ℕ) (symbols : List ℕ) {run : List ℕ} {n : ℕ} → (limit ≡ 0 → ⊥)
+    -- The first bytes of a name, one more than a limit less one.
+    front_run : (limit : ℕ) (symbols : List ℕ) {run : List ℕ} → (limit ≡ 0 → ⊥)
         → symbols ≡ symbols_from image reader strings entries (recorded_entry image entries node).string
-        → run ≡ up_to_zero (take (min limit (length symbols)) symbols) → n ≡ capped (limit - 1) (length (spelled s run))
-        → n + 1 ≡ capped limit (length (written_name s image reader strings entries node) + 1)
-    name_counted s limit symbols {run} {n} some from read counted =
-        let name : List ℕ = name_at image reader strings entries node in
+        → run ≡ up_to_zero (take (min limit (length symbols)) symbols) → run ≡ take (limit - 1 + 1) (name_at image reader strings entries node)
+    front_run limit symbols some from read =
         let few : limit ≡ limit - 1 + 1 = omega arith in
-        let front : run ≡ take (limit - 1 + 1) name =
         read ∙ ap up_to_zero (take_min limit symbols) ∙ up_to_zero_take limit symbols
-        ∙ ap (λ (l : List ℕ). take limit (up_to_zero l)) from ∙ ap (take limit) (sym own_string) ∙ ap (λ (k : ℕ). take k name) few in
-        capped_next limit (length (spelled s name)) n some
-        (counted ∙ ap (λ (l : List ℕ). capped (limit - 1) (length (spelled s l))) front ∙ spelled_front s (limit - 1) name)
+        ∙ ap (λ (l : List ℕ). take limit (up_to_zero l)) from ∙ ap (take limit) (sym own_string) ∙ ap (λ (k : ℕ). take k (name_at image reader strings entries node)) few
 
-  -- The root has no name, and one byte is past a limit of none.
-  pub own_counted : (s : Spelling) (node limit : ℕ) → (node ≡ 0) ⊎ ((node ≡ 0 → ⊥) × (limit ≡ 0))
-      → 1 ≡ capped limit (length (written_name s image reader strings entries node) + 1)
-  own_counted s node limit h =
-      ⊎_elim (λ (z : node ≡ 0). rw (z, ap length (root_name s image reader strings entries)) (capped_by limit 1 (λ l e. sym e) (λ l e. omega arith)))
-      (λ (z : (node ≡ 0 → ⊥) × (limit ≡ 0)). rw z.1 (sym (capped_past 0 (length (written_name s image reader strings entries node) + 1) (omega arith)))) h
+    -- The length of a slash and the name as it is written, where it is within a limit, from no more bytes of the name.
+    module _ (s : Spelling) (limit : ℕ) (symbols : List ℕ) {run : List ℕ} (some : limit ≡ 0 → ⊥)
+        (from : symbols ≡ symbols_from image reader strings entries (recorded_entry image entries node).string)
+        (read : run ≡ up_to_zero (take (min limit (length symbols)) symbols)) where
+      read_within : within (limit - 1) (length (spelled s run)) ≡ within (limit - 1) (length (written_name s image reader strings entries node))
+      read_within =
+          ap (λ (l : List ℕ). within (limit - 1) (length (spelled s l))) (front_run limit symbols some from read)
+          ∙ spelled_front s (limit - 1) (name_at image reader strings entries node)
+
+      pub name_past : None ≡ within (limit - 1) (length (spelled s run)) → None ≡ within limit (length (written_name s image reader strings entries node) + 1)
+      name_past e =
+          let l = within_past (limit - 1) (length (written_name s image reader strings entries node)) (e ∙ read_within) in
+          within_none limit (length (written_name s image reader strings entries node) + 1) (omega arith)
+
+      pub name_counted : {n : ℕ} → Some n ≡ within (limit - 1) (length (spelled s run)) → Some (n + 1) ≡ within limit (length (written_name s image reader strings entries node) + 1)
+      name_counted {n} e =
+          let x = within_exact (limit - 1) (length (written_name s image reader strings entries node)) (e ∙ read_within) in
+          let same : n + 1 ≡ length (written_name s image reader strings entries node) + 1 = omega (arith, x.0) in
+          ap Some same ∙ within_some limit (length (written_name s image reader strings entries node) + 1) (omega (arith, x.1))
+
+  -- The root has no name.
+  pub own_root : (s : Spelling) (node limit : ℕ) → (limit ≡ 0 → ⊥) → node ≡ 0 → Some 1 ≡ within limit (length (written_name s image reader strings entries node) + 1)
+  own_root s node limit some z = rw (z, ap length (root_name s image reader strings entries)) (within_some limit 1 (omega arith))

@@ -6,7 +6,6 @@ ghost use Rattle.aff_reader.specs.Opened.{of, opened_entry};
 ghost use Rattle.aff_format.specs.Recorded.{name_from};
 ghost use Rattle.aff_format.specs.Verdict.{answer_of};
 ghost use Rattle.aff_read.specs.Paths.{spelled_path_at, path_answer, front_written, found, lookup_answer, lookup_of_answer};
-ghost use Rattle.aff_format.specs.passes.Capped.{capped};
 ghost use Rattle.aff_read.specs.passes.Climb.{table_parent, table_name, table_front, TableInside, NotedMore, ClimbNoted};
 ghost use Rattle.aff_read.specs.passes.Held.{holds, symbols_from};
 ghost use Rattle.aff_read.specs.passes.Fit.{fit_from, fit_at, above_at, FitsSettled, Chain};
@@ -15,6 +14,7 @@ ghost use Rattle.std.specs.Prelude.{Some, None};
 ghost use Rattle.aff_nodes.specs.Recall.{name_at, name_span, path_at};
 ghost use Rattle.aff_format.specs.passes.Written.{Written, text_answer};
 ghost use Rattle.aff_spelling.specs.Spelling.{spelled};
+ghost use Rattle.aff_spelling.specs.Within.{within};
 
 use aff_format::{Edition, Refusal, bytes, path as format_path, recorded};
 use aff_nodes::node;
@@ -22,7 +22,7 @@ use aff_reader::{Belonging, Opened};
 use aff_spelling::{Spelling, spelling};
 
 // The symbol section from a string on.
-fn symbols_from<'a>(belonging: &Belonging<'a>, string: u32) -> &'a [u8]
+fn symbols_from<'i>(belonging: &Belonging<'i, '_>, string: u32) -> &'i [u8]
     requires { string < belonging.now.opened.reader.strings }
     ensures { result.now ≡ of belonging.now.opened symbols_from string }
 {
@@ -30,44 +30,48 @@ fn symbols_from<'a>(belonging: &Belonging<'a>, string: u32) -> &'a [u8]
     &image[recorded::place(strings, string as usize)..belonging.symbols_end()]
 }
 
-// The length of a slash and a node's name as it is written, counted no further than one past a limit. No byte of the name is read past the limit.
-fn own_length(spelling: Spelling, belonging: &Belonging<'_>, node: usize, limit: usize) -> usize
+// The length of a slash and a node's name as it is written, or nothing where it is above a limit. No byte of the name is read past the limit.
+fn own_length(
+    spelling: Spelling,
+    belonging: &Belonging<'_, '_>,
+    node: usize,
+    limit: usize,
+) -> Option<usize>
     requires node_exists { node ≤ belonging.now.opened.reader.nodes }
-    requires limit_small { limit < 2 ^ 63 }
-    ensures { result ≡ capped limit (length (spelled spelling (of belonging.now.opened name_at node)) + 1) }
+    ensures { result ≡ within limit (length (spelled spelling (of belonging.now.opened name_at node)) + 1) }
 {
-    if node == 0 || limit == 0 {
-        return 1;
+    if limit == 0 {
+        return None;
+    }
+    if node == 0 {
+        return Some(1);
     }
     let symbols = symbols_from(belonging, belonging.entry(node).string);
     let name = recorded::until_zero(&symbols[..limit.min(symbols.len())]);
-    spelling::spelled_length(spelling, name, limit - 1) + 1
+    let length = spelling::spelled_length(spelling, name, limit - 1)?;
+    Some(length + 1)
 }
 
-// The length of a node's path as it is written, counted no further than one past a limit. Each step of the climb counts a byte at least, and no name is read
+// The length of a node's path as it is written, or nothing where it is above a limit. Each step of the climb counts a byte at least, and no name is read
 // past the limit: at most `limit` bytes, and `limit` + 1 steps.
 pub fn path_length(
     spelling: Spelling,
-    belonging: &Belonging<'_>,
+    belonging: &Belonging<'_, '_>,
     node: usize,
     limit: usize,
-) -> usize
+) -> Option<usize>
     requires node_exists { node ≤ belonging.now.opened.reader.nodes }
-    requires limit_small { limit < 2 ^ 63 }
-    ensures { result ≡ capped limit (length (of belonging.now.opened (spelled_path_at spelling) node)) }
+    ensures { result ≡ within limit (length (of belonging.now.opened (spelled_path_at spelling) node)) }
 {
     let mut left = limit;
     let mut at = node;
     // It follows parents and counts no index, so no `for` fits.
     loop {
-        let own = own_length(spelling, belonging, at, left);
-        if left < own {
-            return limit + 1;
-        }
+        let own = own_length(spelling, belonging, at, left)?;
         left -= own;
         at = belonging.parent(at);
         if at == 0 {
-            return limit - left;
+            return Some(limit - left);
         }
     }
 }
@@ -82,7 +86,7 @@ struct Noted {
 }
 
 // Stores a node other than the root in the table of a climb. Reads one entry and one name. Returns the parent.
-fn note(belonging: &Belonging<'_>, node: usize, table: &mut [Noted; 2049]) -> usize
+fn note(belonging: &Belonging<'_, '_>, node: usize, table: &mut [Noted; 2049]) -> usize
     requires node_exists { node ≤ belonging.now.opened.reader.nodes }
     requires other { 0 < node }
     requires table_inside { TableInside belonging.now.opened.image.now table.old }
@@ -103,7 +107,7 @@ fn note(belonging: &Belonging<'_>, node: usize, table: &mut [Noted; 2049]) -> us
 
 // Stores the nodes of the climb from a node to the root, and no others, in the table of the climb.
 #[tactic(auto, using(crate::proofs::ClimbLaws::climbing_start))]
-fn note_climb(belonging: &Belonging<'_>, node: usize, table: &mut [Noted; 2049])
+fn note_climb(belonging: &Belonging<'_, '_>, node: usize, table: &mut [Noted; 2049])
     requires node_exists { node ≤ belonging.now.opened.reader.nodes }
     requires table_inside { TableInside belonging.now.opened.image.now table.old }
     ensures { holds belonging.now.opened ClimbNoted table.new node }
@@ -163,7 +167,7 @@ fn write_front(
 // 24,588 bytes, and the frames of `write_front`: about 123,000 bytes for a climb of 2,048 nodes.
 pub fn path_of(
     spelling: Spelling,
-    belonging: &Belonging<'_>,
+    belonging: &Belonging<'_, '_>,
     node: usize,
     out: &mut [u8],
 ) -> Result<usize, Refusal>
@@ -171,10 +175,7 @@ pub fn path_of(
     ensures answer { answer_of result ≡ text_answer (length out.old) (of belonging.now.opened (spelled_path_at spelling) node) }
     ensures output { out.new ≡ front_written (answer_of result) (of belonging.now.opened (spelled_path_at spelling) node) out.old }
 {
-    let limit = out.len();
-    if limit < path_length(spelling, belonging, node, limit) {
-        return Err(Refusal::BufferTooSmall);
-    }
+    path_length(spelling, belonging, node, out.len()).ok_or(Refusal::BufferTooSmall)?;
     if node == 0 {
         return Ok(bytes::put_run(b"/", 0, out));
     }
@@ -186,7 +187,7 @@ pub fn path_of(
 
 // Writes the path of a node, root first, at the front of an output; the rest of it stays: 24, 15, 21. Returns the path's length.
 #[tactic(auto, unfolding(crate::specs::Paths::path_answer))]
-pub fn path(opened: &Opened<'_>, node: usize, out: &mut [u8]) -> Result<usize, Refusal>
+pub fn path(opened: &Opened<'_, '_>, node: usize, out: &mut [u8]) -> Result<usize, Refusal>
     ensures answer { answer_of result ≡ of opened.now path_answer node (length out.old) }
     ensures output { out.new ≡ front_written (answer_of result) (of opened.now path_at node) out.old }
 {
@@ -225,7 +226,7 @@ struct Step {
 }
 
 // The fit of a node by that of its parent: a slash and the name are to follow.
-fn fit_below(belonging: &Belonging<'_>, path: &[u8], step: Step, above: Fit) -> Fit
+fn fit_below(belonging: &Belonging<'_, '_>, path: &[u8], step: Step, above: Fit) -> Fit
     requires node_exists { step.node ≤ belonging.now.opened.reader.nodes }
     requires other { 0 < step.node }
     requires string_value { step.string ≡ (opened_entry belonging.now.opened step.node).string }
@@ -241,7 +242,7 @@ fn fit_below(belonging: &Belonging<'_>, path: &[u8], step: Step, above: Fit) -> 
 
 // Climbs from a node to the first one whose fit is stored, itself or an ancestor, and stores the nodes on the way. Returns how many they are, and that fit.
 fn climb(
-    belonging: &Belonging<'_>,
+    belonging: &Belonging<'_, '_>,
     node: usize,
     fits: &[Option<Fit>; 2049],
     steps: &mut [Step; 2048],
@@ -254,7 +255,7 @@ fn climb(
 {
     let mut count = 0;
     let mut at = node;
-    // It follows parents and counts no index, so no `for` fits.
+    // It follows parents up to a stored fit and counts its steps: how many there are is not known before, so no `for` fits.
     loop {
         if let Some(fit) = fits[at] {
             return (count, fit);
@@ -271,7 +272,7 @@ fn climb(
 
 // Returns the fit of a node other than the root. Computes and stores it, and before it those of its ancestors, unless they are stored already.
 fn settle(
-    belonging: &Belonging<'_>,
+    belonging: &Belonging<'_, '_>,
     path: &[u8],
     node: usize,
     steps: &mut [Step; 2048],
@@ -294,7 +295,7 @@ fn settle(
 // Whether the path of a node is the given one.
 #[tactic(auto, using(crate::proofs::FitLaws::other_has))]
 fn has_path(
-    belonging: &Belonging<'_>,
+    belonging: &Belonging<'_, '_>,
     path: &[u8],
     node: usize,
     steps: &mut [Step; 2048],
@@ -314,7 +315,7 @@ fn has_path(
 // The lowest node whose path is the given one. The fit of a node is computed once at most: its entry is read once, and its
 // name compared only where its parent fits, up to the first byte that differs and no further than the path goes. No recursion: the stack holds two
 // arrays, 65,560 bytes.
-pub fn lowest_match(belonging: &Belonging<'_>, path: &[u8]) -> Option<usize>
+pub fn lowest_match(belonging: &Belonging<'_, '_>, path: &[u8]) -> Option<usize>
     ensures { result ≡ of belonging.now.opened found path.now }
 {
     let mut steps = [Step::default(); 2048];
@@ -330,7 +331,7 @@ pub fn lowest_match(belonging: &Belonging<'_>, path: &[u8]) -> Option<usize>
 
 // The lowest node whose path is the given one: 14, with the place at which the path breaks, 15.
 #[tactic(auto, using(crate::proofs::LookupLaws::lookup_breaks, crate::proofs::LookupLaws::lookup_at, crate::proofs::LookupLaws::lookup_none))]
-pub fn lookup_of(belonging: &Belonging<'_>, path: &[u8]) -> Result<usize, Refusal>
+pub fn lookup_of(belonging: &Belonging<'_, '_>, path: &[u8]) -> Result<usize, Refusal>
     ensures { answer_of result ≡ of belonging.now.opened lookup_of_answer path.now }
 {
     let edition = Edition::by_number(belonging.opened.reader.edition);
@@ -342,7 +343,7 @@ pub fn lookup_of(belonging: &Belonging<'_>, path: &[u8]) -> Result<usize, Refusa
 
 // The lowest node whose path is the given one: 24, 14 with the place in the path, 15.
 #[tactic(auto, unfolding(crate::specs::Paths::lookup_answer, crate::specs::Paths::lookup_of_answer))]
-pub fn lookup(opened: &Opened<'_>, path: &[u8]) -> Result<usize, Refusal>
+pub fn lookup(opened: &Opened<'_, '_>, path: &[u8]) -> Result<usize, Refusal>
     ensures { answer_of result ≡ of opened.now lookup_answer path.now }
 {
     let belonging = opened.judge()?;

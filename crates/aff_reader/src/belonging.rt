@@ -8,13 +8,15 @@ use aff_format::Entry;
 use aff_format::recorded::Entries;
 
 // What a call has that has judged the record (24).
+// A node that exists has no struct of its own: along a climb the number moves, and each step would build it again with its proof. So that a node
+// exists is a clause.
 #[derive(Clone, Copy, Debug, PartialEq, Eq)]
-pub struct Belonging<'a> {
-    pub opened: Opened<'a>,
+pub struct Belonging<'i, 'a> {
+    pub opened: Opened<'i, 'a>,
     pub ghost belongs: { of opened reader_belongs ≡ true },
 }
 
-impl Belonging<'_> {
+impl Belonging<'_, '_> {
     ghost use Rattle.std.specs.Prelude.{◌+◌};
     ghost use Rattle.aff_reader.specs.Opened.{opened_entry};
 

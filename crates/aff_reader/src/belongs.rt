@@ -16,7 +16,7 @@ use aff_tables::climb;
 
 // The image's length, the areas' sizes, the counts and the edition.
 #[tactic(auto, unfolding(crate::specs::Belongs::sizes_belong))]
-fn sizes(opened: &Opened<'_>) -> bool
+fn sizes(opened: &Opened<'_, '_>) -> bool
     ensures { result ≡ of opened.now sizes_belong }
 {
     let reader = opened.reader;
@@ -104,7 +104,7 @@ fn nodes_belong(entries: &Entries<'_>, reader: &Reader) -> bool
 }
 
 // The strings, then the nodes.
-fn tables_belong(opened: &Opened<'_>) -> bool
+fn tables_belong(opened: &Opened<'_, '_>) -> bool
     requires image_length { length opened.now.image.now ≤ image_limit }
     requires few_strings { opened.now.reader.strings ≤ length opened.now.strings.now }
     requires few_nodes { opened.now.reader.nodes ≤ node_limit }
@@ -124,7 +124,7 @@ fn tables_belong(opened: &Opened<'_>) -> bool
 
 // 24: over all that is recorded, whatever the record and the areas hold. One pass over the strings, one over the nodes, and their climbs.
 #[tactic(auto, using(crate::proofs::BelongsLaws::sizes_decide, crate::proofs::BelongsLaws::sections_decide, crate::proofs::BelongsLaws::tables_decide, crate::proofs::BelongsLaws::sizes_hold, crate::proofs::BelongsLaws::sections_hold))]
-pub fn belongs(opened: &Opened<'_>) -> bool
+pub fn belongs(opened: &Opened<'_, '_>) -> bool
     ensures { result ≡ of opened.now belongs_of }
 {
     sizes(opened) && sections_inside(opened.image, &opened.reader) && tables_belong(opened)

@@ -6,14 +6,14 @@ use aff_format::Refusal;
 
 // What a reading call is passed: the record of an opening, and the image and the two areas that it was opened with. Nothing is known of them.
 #[derive(Clone, Copy, Debug, PartialEq, Eq)]
-pub struct Opened<'a> {
-    pub image: &'a [u8],
+pub struct Opened<'i, 'a> {
+    pub image: &'i [u8],
     pub reader: Reader,
     pub strings: &'a [u32],
     pub entries: &'a [u32],
 }
 
-impl<'a> Opened<'a> {
+impl<'i, 'a> Opened<'i, 'a> {
     ghost use Rattle.std.specs.Prelude.{◌≡◌};
     ghost use Rattle.aff_format.specs.Answer.{first_wrong};
     ghost use Rattle.aff_format.specs.Verdict.{answer_of};
@@ -30,7 +30,7 @@ impl<'a> Opened<'a> {
     }
 
     // The same four as a record that belongs; else 24.
-    pub fn judge(&self) -> Result<Belonging<'a>, Refusal>
+    pub fn judge(&self) -> Result<Belonging<'i, 'a>, Refusal>
         ensures { answer_of (opened_of result) ≡ first_wrong (of self.now belongs_checks) self.now }
     {
         if !self.belongs() {

@@ -10,6 +10,7 @@ pub struct Span {
 }
 
 // What an accepted opening found. It belongs to the image and the two areas that were passed.
+// The edition is a number, since C hands in any record: 24 judges it (`sizes_belong`).
 #[derive(Clone, Copy, Debug, PartialEq, Eq, Default)]
 pub struct Reader {
     pub length: usize,

@@ -7,15 +7,16 @@ use native.Mathlib.Numerals.{add-one}
 use native.Mathlib.Omega.{arith}
 use lib.ListN.{length, get_or, take, drop, length-append, take-append-drop, drop_of_length-le}
 use lib.Seq.{take-suc, take_all, drop-cons, length-take-le}
-use Rattle.aff_format.specs.passes.Capped.{capped}
 use Rattle.aff_format.specs.passes.Written.{Written}
-use Rattle.aff_format.proofs.CappedLaws.{capped_within, capped_past}
 use Rattle.aff_format.proofs.ClimbLaws.{le_or_lt}
 use Rattle.aff_format.proofs.WrittenLaws.{written_none, written_same, written_more, written_length}
+use Rattle.std.specs.Prelude.{Option, Some, None}
 use Rattle.aff_spelling.specs.Spelling.{shown_byte, shown, spelled}
+use Rattle.aff_spelling.specs.Within.{within}
 use Rattle.aff_spelling.specs.declared.spelling.Spelling.{Spelling}
 use Rattle.aff_spelling.specs.declared.spelling.Spelling.TheVariants.{Raw, Escaped}
 use Rattle.aff_spelling.proofs.SpellingLaws.{length_shown, shown_append, shown_one}
+use Rattle.aff_spelling.proofs.WithinLaws.{within_some, within_none}
 
 -- ---- Byte after byte.
 
@@ -39,14 +40,14 @@ pub record Counted (run : List ℕ) (limit left k : ℕ) : Type 0 where
   pub counted : limit - left + length (shown (drop k run)) ≡ length (shown run)
 
 module _ {run : List ℕ} {limit left k : ℕ} (c : Counted run limit left k) where
-  pub counted_all : length run ≤ k → limit - left ≡ capped limit (length (shown run))
+  pub counted_all : length run ≤ k → Some (limit - left) ≡ within limit (length (shown run))
   counted_all h =
       let e : limit - left ≡ length (shown run) = omega (arith, c.counted, ap length (shown_none run k h)) in
-      e ∙ sym (capped_within limit (length (shown run)) (omega arith))
+      ap Some e ∙ within_some limit (length (shown run)) (omega arith)
 
   module _ (more : k < length run) {own : ℕ} (is : own ≡ length (shown_byte (get_or run k 0))) where
-    pub counted_past : left < own → limit + 1 ≡ capped limit (length (shown run))
-    counted_past h = sym (capped_past limit (length (shown run)) (omega (arith, c.few, c.counted, shown_rest run k more)))
+    pub counted_past : left < own → None ≡ within limit (length (shown run))
+    counted_past h = within_none limit (length (shown run)) (omega (arith, c.few, c.counted, shown_rest run k more))
 
     pub counted_next : own ≤ left → Counted run limit (left - own) (k + 1)
     counted_next h = record { few = omega (arith, c.few); counted = omega (arith, c.few, c.counted, shown_rest run k more) }
@@ -88,12 +89,12 @@ spelled_long : (s : Spelling) (l : List ℕ) → length l ≤ length (spelled s 
 spelled_long Raw l = omega arith
 spelled_long Escaped l = (length_shown l).0
 
--- One byte more than the limit decides how long a name is as it is written, counted up to the limit.
-pub spelled_front : (s : Spelling) (limit : ℕ) (l : List ℕ) → capped limit (length (spelled s (take (limit + 1) l))) ≡ capped limit (length (spelled s l))
+-- One byte more than the limit decides how long a name is as it is written, where it is within the limit.
+pub spelled_front : (s : Spelling) (limit : ℕ) (l : List ℕ) → within limit (length (spelled s (take (limit + 1) l))) ≡ within limit (length (spelled s l))
 spelled_front s limit l =
-    ⊎_elim (λ (h : length l ≤ limit + 1). ap (λ (m : List ℕ). capped limit (length (spelled s m))) (take_all (limit + 1) l h))
+    ⊎_elim (λ (h : length l ≤ limit + 1). ap (λ (m : List ℕ). within limit (length (spelled s m))) (take_all (limit + 1) l h))
     (λ (h : limit + 1 < length l).
     let n = length-take-le (limit + 1) l (omega arith) in
-    capped_past limit (length (spelled s (take (limit + 1) l))) (omega (arith, spelled_long s (take (limit + 1) l)))
-    ∙ sym (capped_past limit (length (spelled s l)) (omega (arith, spelled_long s l))))
+    sym (within_none limit (length (spelled s (take (limit + 1) l))) (omega (arith, spelled_long s (take (limit + 1) l))))
+    ∙ within_none limit (length (spelled s l)) (omega (arith, spelled_long s l)))
     (le_or_lt (length l) (limit + 1))

@@ -1,8 +1,8 @@
 // The two spellings of a name, and the passes that measure and write them.
-ghost use Rattle.std.specs.Prelude.{◌≡◌, ◌+◌, ◌^◌, ◌≤◌, ◌<◌, length};
-ghost use Rattle.aff_format.specs.passes.Capped.{capped};
+ghost use Rattle.std.specs.Prelude.{◌≡◌, ◌+◌, ◌≤◌, ◌<◌, length};
 ghost use Rattle.aff_format.specs.passes.Written.{Written};
 ghost use Rattle.aff_spelling.specs.Spelling.{hex_digit, is_plain, shown_byte, shown, spelled};
+ghost use Rattle.aff_spelling.specs.Within.{within};
 
 use aff_format::bytes;
 
@@ -52,21 +52,16 @@ fn put_shown_byte(x: u8, at: usize, out: &mut [u8]) -> usize
     bytes::put_run(&escape, at, out)
 }
 
-// The length of what is printed for some bytes, counted no further than one past a limit. One pass, over no more bytes than the limit and one.
+// The length of what is printed for some bytes, or nothing where it is above a limit. One pass, over no more bytes than the limit and one.
 #[tactic(auto, using(crate::proofs::ShownLaws::counted_past, crate::proofs::ShownLaws::counted_next, crate::proofs::ShownLaws::counted_all))]
-fn shown_length(run: &[u8], limit: usize) -> usize
-    requires { limit < 2 ^ 63 }
-    ensures { result ≡ capped limit (length (shown run.now)) }
+fn shown_length(run: &[u8], limit: usize) -> Option<usize>
+    ensures { result ≡ within limit (length (shown run.now)) }
 {
     let mut left = limit;
     for &x in run {
-        let own = shown_size(x);
-        if left < own {
-            return limit + 1;
-        }
-        left -= own;
+        left = left.checked_sub(shown_size(x))?;
     }
-    limit - left
+    Some(limit - left)
 }
 
 // Stores what is printed for some bytes, and returns where it ends. One pass over the bytes.
@@ -82,13 +77,12 @@ fn put_shown(run: &[u8], at: usize, out: &mut [u8]) -> usize
     end
 }
 
-// The length of some bytes as they are written, counted no further than one past a limit.
-pub fn spelled_length(spelling: Spelling, run: &[u8], limit: usize) -> usize
-    requires { limit < 2 ^ 63 }
-    ensures { result ≡ capped limit (length (spelled spelling run.now)) }
+// The length of some bytes as they are written, or nothing where it is above a limit.
+pub fn spelled_length(spelling: Spelling, run: &[u8], limit: usize) -> Option<usize>
+    ensures { result ≡ within limit (length (spelled spelling run.now)) }
 {
     match spelling {
-        Spelling::Raw => run.len().min(limit + 1),
+        Spelling::Raw => (run.len() <= limit).then_some(run.len()),
         Spelling::Escaped => shown_length(run, limit),
     }
 }

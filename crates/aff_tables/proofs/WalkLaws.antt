@@ -1,5 +1,5 @@
 -- The walk over the entries of a section: what is left of the limit and of the section has the rest of its entries. Assumes nothing.
-use mathlib.Core.Path.{◌≡◌, refl, sym, ap, ◌∙◌}
+use mathlib.Core.Path.{◌≡◌, refl, ap, ◌∙◌}
 use mathlib.Core.List.{List, [], ◌∷◌}
 use Prim.Native.Nat.{ℕ, zero, suc, ◌+◌, ◌-◌, ◌≤◌, ◌<◌}
 use native.Mathlib.Omega.{arith}
@@ -8,10 +8,10 @@ use lib.Seq.{drop-drop}
 use Rattle.aff_format.specs.Entry.{entry_of}
 use Rattle.aff_format.specs.Kind.{entry_size}
 use Rattle.aff_format.specs.declared.entry.Entry.{Entry}
-use Rattle.std.specs.Prelude.{Option, Some, None, Result}
+use Rattle.std.specs.Prelude.{Some, None, Result}
 use Rattle.aff_format.proofs.EntryLaws.{entry_inside}
 use Rattle.aff_format.proofs.KindLaws.{entry_size_bounds}
-use Rattle.aff_tables.specs.passes.Results.{size_found, walk_of}
+use Rattle.aff_tables.specs.passes.Results.{walk_of}
 use Rattle.aff_tables.specs.Tables.{entries_in, bytes_after_entries, entry_places}
 use Rattle.aff_format.specs.Bytes.{laid_over}
 use Rattle.aff_format.specs.declared.refusal.Refusal.{Refusal}
@@ -21,12 +21,6 @@ pub length_entry_places : (at : ℕ) (es : List Entry) → length (entry_places 
 unfolding entry_places
 length_entry_places at [] = refl
 length_entry_places at (e ∷ es) = ap suc (length_entry_places (at + entry_size e.kind) es)
-
--- An entry is found, or none.
-
-found_broken : (f : Option Entry) → size_found f ≡ 0 → f ≡ None
-found_broken (Some e) h = absurd (omega (arith, entry_size_bounds e.kind))
-found_broken None h = refl
 
 pub entries_more : (limit : ℕ) (l : List ℕ) (e : Entry) → entry_of l ≡ Some e → entries_in (suc limit) l ≡ e ∷ entries_in limit (drop (entry_size e.kind) l)
 unfolding entries_in
@@ -59,7 +53,7 @@ Walk section first area₀ area r =
 
 module _ {section : List ℕ} {first : ℕ} {area₀ area : List ℕ} {n at : ℕ} (w : Walking section first area₀ area n at) where
   -- One entry more.
-  walk_on : (e : Entry) → entry_of (drop at section) ≡ Some e → n < length area
+  pub walk_on : (e : Entry) → entry_of (drop at section) ≡ Some e → n < length area
       → Walking section first area₀ (set area n (first + at)) (n + 1) (at + entry_size e.kind)
   unfolding entry_places
   walk_on e h r =
@@ -73,21 +67,9 @@ module _ {section : List ℕ} {first : ℕ} {area₀ area : List ℕ} {n at : �
         rest = rw (m, after_more (length area₀ - (n + 1)) (drop at section) e h, d) at w.rest;
       }
 
-  walk_found : (f : Option Entry) → entry_of (drop at section) ≡ f → (size : ℕ) → size ≡ size_found f → (size ≡ 0 → ⊥) → n < length area
-      → Walking section first area₀ (set area n (first + at)) (n + 1) (at + size)
-  walk_found (Some e) h size s z r = rw s (walk_on e h r)
-  walk_found None h size s z r = absurd (z s)
-
-  pub walk_step : {size : ℕ} → size ≡ size_found (entry_of (drop at section)) → (size ≡ 0 → ⊥) → n < length area
-      → Walking section first area₀ (set area n (first + at)) (n + 1) (at + size)
-  walk_step {size} = walk_found (entry_of (drop at section)) refl size
-
   pub walk_buffer : length area ≤ n → Over (length area₀ - n) (drop at section)
   unfolding entries_in bytes_after_entries
   walk_buffer h = let l = w.laid.long in let z : length area₀ - n ≡ 0 = omega arith in (rw z, rw z)
-
-  pub walk_none : {size : ℕ} → size ≡ size_found (entry_of (drop at section)) → size ≡ 0 → Over (length area₀ - n) (drop at section)
-  walk_none s z = over_broken (length area₀ - n) (drop at section) (found_broken (entry_of (drop at section)) (sym s ∙ z))
 
   module _ (o : Over (length area₀ - n) (drop at section)) where
     stored : (n ≡ length (entries_in (length area₀) section)) × (area ≡ laid_over area₀ (entry_places first (entries_in (length area₀) section)))

@@ -33,6 +33,7 @@ pub fn climbs(parents: &[u32], nodes: usize) -> Option<usize>
     requires { ParentsExist parents.now nodes }
     ensures { result ≡ lowest_from (λ k. not (reaches_by (copied_parent parents.now) nodes k)) nodes 1 }
 {
+    // 0 and no Option for none: four bytes a node on the stack.
     let mut marks = [0u32; 2049];
     for k in 1..=nodes {
         if !trail(parents, nodes, k, &mut marks) {

@@ -1,5 +1,5 @@
 // Parents, strings and names of the nodes.
-ghost use Rattle.std.specs.Prelude.{◌≡◌, ◌≤◌, ◌<◌, length, None};
+ghost use Rattle.std.specs.Prelude.{◌≡◌, ◌≤◌, None};
 ghost use Rattle.aff_format.specs.Lowest.{lowest_from};
 ghost use Rattle.aff_format.specs.Recorded.{recorded_entry, recorded_string};
 ghost use Rattle.aff_format.specs.Subkey.{subkey_from, break_place, is_subkey};
@@ -18,8 +18,7 @@ fn judged(edition: Edition, name: &[u8]) -> bool
 }
 
 // Judges each string once: one pass over its bytes.
-fn judge(strings: &Strings<'_>, edition: Edition, sound: &mut [bool])
-    requires { strings.now.count ≤ length sound.old }
+fn judge(strings: &Strings<'_>, edition: Edition, sound: &mut [bool; 2048])
     ensures { Judged edition strings.now.image.now strings.now.end strings.now.places.now strings.now.count sound.new }
 {
     for i in 0..strings.count {
@@ -27,8 +26,8 @@ fn judge(strings: &Strings<'_>, edition: Edition, sound: &mut [bool])
     }
 }
 
-fn link_bad(entry: Entry, nodes: usize, strings: usize, sound: &[bool]) -> bool
-    requires { strings ≤ length sound.now }
+fn link_bad(entry: Entry, nodes: usize, strings: usize, sound: &[bool; 2048]) -> bool
+    requires { strings ≤ 2048 }
     ensures { result ≡ link_bad nodes strings sound.now entry }
 {
     let string = entry.string as usize;
@@ -42,14 +41,12 @@ fn links(
     entries: &Entries<'_>,
     nodes: usize,
     strings: usize,
-    sound: &[bool],
-    parents: &mut [u32],
-    names: &mut [u32],
+    sound: &[bool; 2048],
+    parents: &mut [u32; 2049],
+    names: &mut [u32; 2049],
 ) -> Option<usize>
-    requires few { nodes ≤ 2048 }
-    requires judged { strings ≤ length sound.now }
-    requires parents { nodes < length parents.old }
-    requires names { nodes < length names.old }
+    requires few_nodes { nodes ≤ 2048 }
+    requires few_strings { strings ≤ 2048 }
     ensures value { result ≡ lowest_from (λ k. link_bad nodes strings sound.now (recorded_entry entries.now.image.now entries.now.places.now k)) nodes 1 }
     ensures copied { result ≡ None → Copied (recorded_entry entries.now.image.now entries.now.places.now) nodes parents.new names.new }
 {
@@ -70,12 +67,10 @@ pub fn linked(
     edition: Edition,
     entries: &[u32],
     nodes: usize,
-    parents: &mut [u32],
-    names: &mut [u32],
+    parents: &mut [u32; 2049],
+    names: &mut [u32; 2049],
 ) -> Option<usize>
-    requires few { nodes ≤ 2048 }
-    requires parents { nodes < length parents.old }
-    requires names { nodes < length names.old }
+    requires { nodes ≤ 2048 }
     ensures value { result ≡ lowest_from (link_wrong edition (recorded_contents strings.now.image.now strings.now.end strings.now.places.now strings.now.count entries.now nodes)) nodes 1 }
     ensures copied { result ≡ None → Copied (recorded_entry strings.now.image.now entries.now) nodes parents.new names.new }
 {

@@ -1,5 +1,5 @@
-// What is asked of the nodes, after the two tables.
-ghost use Rattle.std.specs.Prelude.{◌≡◌, ◌≤◌, ◌<◌, length};
+// What is asked of the nodes, after the two tables. That they are at most 2,048 is a clause: it is a fact of one number, and a type for it would be no plainer.
+ghost use Rattle.std.specs.Prelude.{◌≡◌, ◌≤◌};
 ghost use Rattle.aff_format.specs.Answer.{first_wrong};
 ghost use Rattle.aff_format.specs.Recorded.{recorded_entry, recorded_string};
 ghost use Rattle.aff_format.specs.Verdict.{answer_of};
@@ -18,11 +18,10 @@ fn copied_checks(
     entries: &Entries<'_>,
     nodes: usize,
     bounds: Bounds,
-    parents: &[u32],
-    names: &[u32],
+    parents: &[u32; 2049],
+    names: &[u32; 2049],
 ) -> Result<(), Refusal>
-    requires linked { ParentsExist parents.now nodes }
-    requires named { nodes < length names.now }
+    requires { ParentsExist parents.now nodes }
     ensures { answer_of result ≡ first_wrong (copied_checks bounds.from bounds.size parents.now names.now nodes (recorded_entry entries.now.image.now entries.now.places.now)) tt }
 {
     if let Some(k) = climb::climbs(parents, nodes) {

@@ -22,6 +22,7 @@ fn split(section: &[u8], first: usize, places: &mut [u32]) -> Option<usize>
     let mut start = 0;
     for (at, &byte) in section.iter().enumerate() {
         if byte == 0 {
+            // Here and at the end, tried: `*places.get_mut(n)? = ..`. It says of a slice only how long it is after the write.
             if places.len() <= n {
                 return None;
             }
@@ -52,6 +53,8 @@ fn counted(strings: &Strings<'_>, edition: Edition, records: u64) -> Result<usiz
         None => Ok(strings.count),
     }
 }
+
+// The section comes by its place and not as a slice, here and in tree.rt: what is stored counts from the image's front.
 
 // 25 to 27, of the symbol section, `size` bytes from `from` on, with the record count of its header: the table's first fault, or how many strings it
 // has, with where each begins stored. The last string ends at its zero or, where it has none, at the section's end.

@@ -2,20 +2,12 @@
 ghost use Rattle.std.specs.Prelude.{◌≡◌, ℕ, ◌+◌, ◌^◌, ◌≤◌, ◌<◌, length, drop};
 ghost use Rattle.aff_format.specs.Answer.{accepted, first_wrong};
 ghost use Rattle.aff_format.specs.Bytes.{part, laid_over};
-ghost use Rattle.aff_format.specs.Entry.{entry_of};
 ghost use Rattle.aff_tables.specs.Tables.{entries_in, bytes_after_entries, entry_places, entries_of, tree_checks};
-ghost use Rattle.aff_tables.specs.passes.Results.{size_found, walk_of};
+ghost use Rattle.aff_tables.specs.passes.Results.{walk_of};
 ghost use Rattle.aff_format.specs.Verdict.{answer_of};
 
 use crate::counts;
 use aff_format::{Edition, Refusal, entry};
-
-// The bytes of the entry at a place; 0 where there is none.
-fn entry_size(section: &[u8], at: usize) -> usize
-    ensures { result ≡ size_found (entry_of (drop at section.now)) }
-{
-    entry::entry_at(section, at).map_or(0, |found| found.kind.entry_size())
-}
 
 // After n whole entries, which end at a place: how many they are, where they are the whole section; else the next one is broken.
 fn ended(section: &[u8], at: usize, n: usize) -> Result<usize, Refusal>
@@ -39,12 +31,11 @@ fn walk(section: &[u8], first: usize, places: &mut [u32]) -> Result<usize, Refus
 {
     let mut at = 0;
     for n in 0..places.len() {
-        let size = entry_size(section, at);
-        if size == 0 {
+        let Some(found) = entry::entry_at(section, at) else {
             return ended(section, at, n);
-        }
+        };
         places[n] = (first + at) as u32;
-        at += size;
+        at += found.kind.entry_size();
     }
     ended(section, at, places.len())
 }

@@ -19,6 +19,8 @@ fn lengths_wrong(buffer: &[u8], form: &[u8], text: &[u8], tree: &[u8]) -> bool
 
 // Begins a file of a written edition in a buffer: 1, 3, 21, 23. `edition` is its number, 2 or 3; `form` has the 12 bytes that come after the signature text. An
 // accepted begin stores 0 at the buffer's place 0, so that nothing opens there until the file is closed, and clears both areas.
+// The edition is a number, since C passes any: 3 judges it. The record is lent: after 23 it is left stopped (`begin_writer`). Buffer and areas stay three
+// parameters, as in make and put.
 #[tactic(auto, unfolding(crate::specs::Begin::begin_answer, aff_areas::specs::Stores::apply_stores, aff_areas::specs::Stores::stores_from))]
 pub fn begin(
     edition: u32,

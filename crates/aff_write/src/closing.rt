@@ -48,7 +48,7 @@ impl Sections<'_> {
         header::put_section(out, edition, at, place, count, bytes);
     }
 
-    // The three section headers after the signature, in the order of the edition.
+    // The three section headers after the signature, in the order of the edition. Three calls: a loop and its invariant would be longer.
     fn put_headers(&self, out: &mut [u8])
         requires { most_header ≤ length out.old }
         ensures { out.new ≡ spliced signature_size (joined (map (section_of self.now.writer self.now.full self.now.symbols.now self.now.entries.now self.now.stored.now) (header_order (writer_edition self.now.writer)))) out.old }
@@ -63,7 +63,8 @@ impl Sections<'_> {
     }
 }
 
-// The header of the finished file, from its strings, its entries and the data in the buffer: the front of what is returned.
+// The header of the finished file, from its strings, its entries and the data in the buffer: the front of what is returned. The buffer is lent for the
+// stores, so a record that belongs has its length alone, and that the two agree is a clause, here and below.
 fn close_header<'a>(
     buffer: &'a [u8],
     held: &Held<'_>,
@@ -162,6 +163,7 @@ fn close_held(buffer: &mut [u8], held: &Held<'_>, allowance: usize) -> Result<us
 }
 
 // Closes the file: 24, 22, 23. It answers the stores made. The last store, of the first signature byte, makes the buffer one that opens.
+// Buffer and areas stay three parameters, as in put.
 #[tactic(auto, unfolding(crate::specs::Close::close_answer, aff_areas::specs::Stores::apply_stores))]
 pub fn close(
     buffer: &mut [u8],

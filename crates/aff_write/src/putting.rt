@@ -35,7 +35,8 @@ fn data_kind(code: u64, size: usize) -> Result<Kind, Refusal>
     Ok(kind)
 }
 
-// How many elements of a kind that holds data some bytes are.
+// How many elements of a kind that holds data some bytes are. That it holds data is a clause: 19 has judged the kind, and a type for four of the five
+// kinds would stand beside `Kind`, which 01 names.
 fn count_in(kind: Kind, bytes: &[u8]) -> usize
     requires { is_void kind ≡ false }
     ensures value { result ≡ count_in kind bytes.now }

@@ -31,7 +31,7 @@ pub fn text<W: Write>(out: &mut W, bytes: &[u8]) -> io::Result<()>
     Ok(())
 }
 
-// The first bytes of a run; nothing where it has fewer.
+// The first bytes of a run; nothing where it has fewer. A size and no slice: callers prove nothing of it, and clause `cut` holds of any.
 pub fn front<W: Write>(out: &mut W, bytes: &[u8], size: usize) -> io::Result<()>
     ensures all { OnOk result (size ≤ length bytes.now → Appends (W.contents out.old) (W.contents out.new) (take size bytes.now)) }
     ensures cut { OnErr result (AppendsPart (W.contents out.old) (W.contents out.new) (take size bytes.now)) }
@@ -83,7 +83,7 @@ pub fn read_full<R: Read>(input: &mut R, area: &mut [u8]) -> io::Result<usize>
     ensures end { IfOk result (λ n. n < length area.new → IsAtEnd (R.remaining input.new)) }
     ensures cut { OnErr result (ConsumesPart (R.remaining input.old) (R.remaining input.new) area.new) }
 {
-    // A loop: std has no reader into lent memory whose contract says what an error leaves.
+    // A loop: std has no reader into lent memory whose contract says what an error leaves (clause `cut`).
     let mut done = 0;
     while done < area.len() {
         let n = input.read(&mut area[done..])?;

@@ -3,6 +3,9 @@
 
 pub mod show; // bytes and answers
 
+ghost use Rattle.std.specs.Prelude.{◌≡◌};
+ghost use Rattle.test_dump.specs.Opening.{IsOpening};
+
 use aff_format::{Kind, Refusal};
 use aff_nodes::node;
 use aff_read::paths;
@@ -13,7 +16,7 @@ use std::io::Write;
 // The elements of a node, and the index after them: 16.
 fn print_elements(
     out: &mut impl Write,
-    opened: &Opened<'_>,
+    opened: &Opened<'_, '_>,
     node: usize,
     count: usize,
 ) -> io::Result<()> {
@@ -24,7 +27,7 @@ fn print_elements(
     writeln!(out)
 }
 
-fn print_path(out: &mut impl Write, opened: &Opened<'_>, node: usize) -> io::Result<()> {
+fn print_path(out: &mut impl Write, opened: &Opened<'_, '_>, node: usize) -> io::Result<()> {
     let mut bytes = [0u8; 1024];
     match paths::path(opened, node, &mut bytes) {
         Ok(n) => console::front(out, &bytes, n),
@@ -40,7 +43,7 @@ fn print_kind(out: &mut impl Write, answer: Result<Kind, Refusal>) -> io::Result
 }
 
 // Number, path, name, type, count, bytes and elements of a node.
-fn print_node(out: &mut impl Write, opened: &Opened<'_>, node: usize) -> io::Result<()> {
+fn print_node(out: &mut impl Write, opened: &Opened<'_, '_>, node: usize) -> io::Result<()> {
     write!(out, "{node} path ")?;
     print_path(out, opened, node)?;
     write!(out, " name ")?;
@@ -59,7 +62,7 @@ fn print_node(out: &mut impl Write, opened: &Opened<'_>, node: usize) -> io::Res
     Ok(())
 }
 
-fn print_nodes(out: &mut impl Write, opened: &Opened<'_>) -> io::Result<()> {
+fn print_nodes(out: &mut impl Write, opened: &Opened<'_, '_>) -> io::Result<()> {
     let reader = opened.reader;
     writeln!(
         out,
@@ -73,21 +76,29 @@ fn print_nodes(out: &mut impl Write, opened: &Opened<'_>) -> io::Result<()> {
     print_node(out, opened, last + 1)
 }
 
-// Edition, strings, nodes and data record count of an image that opens, and every node; or the refusal.
-pub fn print(out: &mut impl Write, image: &[u8]) -> io::Result<()> {
+// Opens an image with the form of our programs, in areas of its own, and hands the answer to a closure.
+pub fn with_opened<T, F: FnOnce(Result<Opened<'_, '_>, Refusal>) -> T>(image: &[u8], act: F) -> T
+    requires { F.IsAlwaysCallable act }
+    ensures { (opened : _) × IsOpening image.now opened × F.post act opened result }
+{
     let mut strings = [0u32; 2048];
     let mut entries = [0u32; 2048];
     let form = aff_open::form_for(image);
     match aff_open::open(image, &form, &mut strings, &mut entries) {
-        Ok(reader) => {
-            let opened = Opened {
-                image,
-                reader,
-                strings: &strings,
-                entries: &entries,
-            };
-            print_nodes(out, &opened)
-        }
-        Err(refusal) => writeln!(out, "{refusal}"),
+        Ok(reader) => act(Ok(Opened {
+            image,
+            reader,
+            strings: &strings,
+            entries: &entries,
+        })),
+        Err(refusal) => act(Err(refusal)),
     }
+}
+
+// Edition, strings, nodes and data record count of an image that opens, and every node; or the refusal.
+pub fn print(out: &mut impl Write, image: &[u8]) -> io::Result<()> {
+    with_opened(image, |answer| match answer {
+        Ok(opened) => print_nodes(out, &opened),
+        Err(refusal) => writeln!(out, "{refusal}"),
+    })
 }

@@ -11,7 +11,7 @@ use std::io::{Read, Write};
 // The answer of the listing call for an output of some places.
 fn print_answer(
     out: &mut impl Write,
-    opened: &Opened<'_>,
+    opened: &Opened<'_, '_>,
     choice: Choice,
     order: &mut [u32],
 ) -> io::Result<()> {
@@ -23,7 +23,7 @@ fn print_answer(
 }
 
 // Both answers: as many places as nodes listed, and one fewer.
-fn print_answers(out: &mut impl Write, opened: &Opened<'_>, choice: Choice) -> io::Result<()> {
+fn print_answers(out: &mut impl Write, opened: &Opened<'_, '_>, choice: Choice) -> io::Result<()> {
     let mut order = [0u32; 2049];
     let n = listing::listing(opened, choice, &mut order).unwrap_or(0);
     if order.len() < n {
@@ -41,19 +41,10 @@ fn open_and_print(out: &mut impl Write, image: &[u8], choice: Choice) -> io::Res
     if 65536 < image.len() {
         return Ok(());
     }
-    let mut strings = [0u32; 2048];
-    let mut entries = [0u32; 2048];
-    let form = aff_open::form_for(image);
-    if let Ok(reader) = aff_open::open(image, &form, &mut strings, &mut entries) {
-        let opened = Opened {
-            image,
-            reader,
-            strings: &strings,
-            entries: &entries,
-        };
-        print_answers(out, &opened, choice)?;
-    }
-    Ok(())
+    test_dump::with_opened(image, |answer| match answer {
+        Ok(opened) => print_answers(out, &opened, choice),
+        Err(_) => Ok(()),
+    })
 }
 
 fn both(out: &mut impl Write, k: usize, image: &[u8]) -> io::Result<()> {
@@ -67,6 +58,7 @@ fn both(out: &mut impl Write, k: usize, image: &[u8]) -> io::Result<()> {
 
 fn images(input: &mut impl Read, out: &mut impl Write) -> io::Result<()> {
     let mut image = [0u8; 65537];
+    // Five lines; as one function it would need a contract over the closure and the reader's rest.
     for k in 0..1000 {
         let Some(size) = console::next_image(input, &mut image)? else {
             break;

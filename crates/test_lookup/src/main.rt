@@ -17,7 +17,7 @@ fn show(out: &mut impl Write, answer: Result<usize, Refusal>) -> io::Result<()> 
 }
 
 // The paths of an image. A path that the input cuts off is looked up with zeros after it.
-fn lookups(input: &mut impl Read, out: &mut impl Write, opened: &Opened<'_>) -> io::Result<()> {
+fn lookups(input: &mut impl Read, out: &mut impl Write, opened: &Opened<'_, '_>) -> io::Result<()> {
     for _ in 0..2000 {
         let mut part = [0u8; 65537];
         let Some(size) = console::next_size(input, part.len())? else {
@@ -33,26 +33,18 @@ fn lookups(input: &mut impl Read, out: &mut impl Write, opened: &Opened<'_>) -> 
 }
 
 fn open_and_look(input: &mut impl Read, out: &mut impl Write, image: &[u8]) -> io::Result<()> {
-    let mut strings = [0u32; 2048];
-    let mut entries = [0u32; 2048];
-    let form = aff_open::form_for(image);
-    match aff_open::open(image, &form, &mut strings, &mut entries) {
-        Ok(reader) => {
+    test_dump::with_opened(image, |answer| match answer {
+        Ok(opened) => {
             writeln!(out, "opened")?;
-            let opened = Opened {
-                image,
-                reader,
-                strings: &strings,
-                entries: &entries,
-            };
             lookups(input, out, &opened)
         }
         Err(refusal) => writeln!(out, "{refusal}"),
-    }
+    })
 }
 
 fn images(input: &mut impl Read, out: &mut impl Write) -> io::Result<()> {
     let mut image = [0u8; 1024];
+    // Five lines; as one function it would need a contract over the closure and the reader's rest.
     for _ in 0..100 {
         let Some(size) = console::next_image(input, &mut image)? else {
             break;

@@ -40,6 +40,7 @@ fn one(out: &mut impl Write, k: usize, image: &[u8]) -> io::Result<()> {
 
 fn images(input: &mut impl Read, out: &mut impl Write) -> io::Result<()> {
     let mut image = [0u8; 65537];
+    // Five lines; as one function it would need a contract over the closure and the reader's rest.
     for k in 0..1000 {
         let Some(size) = console::next_image(input, &mut image)? else {
             break;

@@ -9,7 +9,7 @@ use std::io;
 use std::io::{Read, Write};
 
 // The elements of a node, at most eight. Not the loop of test_dump, which goes past the count and ends its line.
-fn print_elements(out: &mut impl Write, opened: &Opened<'_>, node: usize) -> io::Result<()> {
+fn print_elements(out: &mut impl Write, opened: &Opened<'_, '_>, node: usize) -> io::Result<()> {
     let count = aff::count(opened, node).unwrap_or(0);
     for k in 0..count.min(8) {
         console::element(out, aff::element(opened, node, k))?;
@@ -19,7 +19,7 @@ fn print_elements(out: &mut impl Write, opened: &Opened<'_>, node: usize) -> io:
 
 // A node: its line, its first elements, and what a lookup answers that takes the line and a zero for a path: 14, with the place of the blank after the path,
 // in edition 3 that of the zero.
-fn print_node(out: &mut impl Write, opened: &Opened<'_>, node: usize) -> io::Result<()> {
+fn print_node(out: &mut impl Write, opened: &Opened<'_, '_>, node: usize) -> io::Result<()> {
     let mut line = [0u8; 262164];
     match line::line(opened, node, &mut line) {
         Ok(size) => console::front(out, &line, size)?,
@@ -32,7 +32,7 @@ fn print_node(out: &mut impl Write, opened: &Opened<'_>, node: usize) -> io::Res
     }
 }
 
-fn print_nodes(out: &mut impl Write, opened: &Opened<'_>) -> io::Result<()> {
+fn print_nodes(out: &mut impl Write, opened: &Opened<'_, '_>) -> io::Result<()> {
     let mut order = [0u32; 2049];
     let listed = aff::listing(opened, Choice::AllNodes, &mut order).unwrap_or(0);
     for &node in order.iter().take(listed) {
@@ -42,28 +42,18 @@ fn print_nodes(out: &mut impl Write, opened: &Opened<'_>) -> io::Result<()> {
 }
 
 fn open_and_print(out: &mut impl Write, image: &[u8]) -> io::Result<()> {
-    let mut strings = [0u32; 2048];
-    let mut entries = [0u32; 2048];
-    let form = aff::form_for(image);
-    match aff::open(image, &form, &mut strings, &mut entries) {
-        Ok(reader) => {
-            let opened = Opened {
-                image,
-                reader,
-                strings: &strings,
-                entries: &entries,
-            };
-            print_nodes(out, &opened)
-        }
+    test_dump::with_opened(image, |answer| match answer {
+        Ok(opened) => print_nodes(out, &opened),
         Err(refusal) => {
             console::refusal_in_full(out, refusal)?;
             writeln!(out)
         }
-    }
+    })
 }
 
 fn images(input: &mut impl Read, out: &mut impl Write) -> io::Result<()> {
     let mut image = [0u8; 262144];
+    // Five lines; as one function it would need a contract over the closure and the reader's rest.
     for k in 0..100000 {
         let Some(size) = console::next_image(input, &mut image)? else {
             break;

@@ -25,6 +25,7 @@ fn script(
         tree: 0,
     };
     let mut block = [0u8; 65536];
+    // Five lines; as one function it would need a contract over the closure and the reader's rest.
     for _ in 0..100000 {
         let Some(size) = console::next_image(input, &mut block)? else {
             break;

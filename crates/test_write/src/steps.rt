@@ -22,7 +22,7 @@ pub struct State {
     pub tree: usize,
 }
 
-// What a step does, by its letter.
+// What a step does, by its letter. An enum, so that an unknown letter is passed over before anything is cut.
 #[derive(Clone, Copy, Debug, PartialEq, Eq)]
 enum Command {
     Begin,
@@ -72,7 +72,7 @@ impl TryFrom<u8> for Command {
 }
 
 // What a step says: its three numbers and its bytes.
-#[derive(Clone, Copy)]
+#[derive(Clone, Copy, Debug, PartialEq, Eq)]
 struct Step<'a> {
     first: u64,
     second: u64,
@@ -108,7 +108,7 @@ fn edition_of(value: u64) -> u32 {
     u32::try_from(value).unwrap_or(0)
 }
 
-// Alters one field of the record: length 0, edition 1, strings 2, text 3, nodes 4, end 5, open 6.
+// Alters one field of the record: length 0, edition 1, strings 2, text 3, nodes 4, end 5, open 6. The script's own numbers (tests/make_writes.py).
 fn alter(writer: &mut Writer, field: u64, value: u64) {
     match field {
         0 => writer.length = value as usize,

@@ -1,7 +1,6 @@
 -- What the passes over the tables report, and what they keep on the way.
 use Rattle.std.specs.Prelude.{◌≡◌, Bool, false, cond, not, ◌||◌, List, [], ◌∷◌, ℕ, ◌+◌, ◌≤◌, ◌<◌, ltb, leb, length, get_or, Option, Some, None, Result, Ok, Err}
 use Rattle.aff_format.specs.Answer.{Check, refusal_at}
-use Rattle.aff_format.specs.Kind.{entry_size}
 use Rattle.aff_format.specs.declared.edition.Edition.{Edition}
 use Rattle.aff_format.specs.declared.entry.Entry.{Entry}
 use Rattle.aff_format.specs.Limits.{string_limit}
@@ -21,11 +20,6 @@ use Rattle.aff_format.specs.declared.refusal.Refusal.TheVariants.{BadTreeTable, 
 -- An area of `limit` places for n strings.
 abbrev pub split_of : ℕ → ℕ → Option ℕ
 split_of limit n = cond (leb n limit) (Some n) None
-
--- The bytes of the entry that was found; 0 where there is none.
-abbrev pub size_found : Option Entry → ℕ
-size_found (Some e) = entry_size e.kind
-size_found None = 0
 
 -- n whole entries, and the bytes after them.
 abbrev pub walk_of : ℕ → List ℕ → Result ℕ Refusal

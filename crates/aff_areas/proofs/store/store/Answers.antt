@@ -3,4 +3,4 @@ use Rattle.aff_areas.proofs.store.store.Goals as goal
 
 pub returns-clause-buffer : goal.returns-clause-buffer
 returns-clause-buffer c =
-    rw c.copy_from_slice.ensures.after (copied_stores c.args.at c.min-made.result c.args.allowance c.args.bytes.now c.args.buffer.now c.requires c.min-made.ensures)
+    rw c.put.ensures (copied_stores c.args.at c.min-made.result c.args.allowance c.args.bytes.now c.args.buffer.now c.requires c.min-made.ensures)

@@ -10,16 +10,16 @@ slice_bounds-order-end c =
     let f = c.full_order-count.ensures in
     all_few (belongs_record c.args.belonging.now.belongs) c.args.choice f c.full_order-count.array_long
 
-pub slice_bounds-put_all_listed-end : goal.slice_bounds-put_all_listed-end
-slice_bounds-put_all_listed-end c =
+pub slice_bounds-put_all-end : goal.slice_bounds-put_all-end
+slice_bounds-put_all-end c =
     let f = c.full_order-count.ensures in
     sym (length-take-le _ _ (all_few (belongs_record c.args.belonging.now.belongs) c.args.choice f c.full_order-count.array_long))
 
-pub put_all_listed-requires : goal.put_all_listed-requires
-put_all_listed-requires c =
+pub put_all-requires : goal.put_all-requires
+put_all-requires c =
     listed_fits (belongs_record c.args.belonging.now.belongs) c.args.choice c.full_order-count.ensures c.args.out.now c.requires
 
 pub returns : goal.returns
 returns c =
-    let w = listed_written (belongs_record c.args.belonging.now.belongs) c.args.choice c.full_order-count.ensures c.put_all_listed.ensures in
+    let w = listed_written (belongs_record c.args.belonging.now.belongs) c.args.choice c.full_order-count.ensures c.put_all.ensures in
     record { answer = w.0; output = w.1 }

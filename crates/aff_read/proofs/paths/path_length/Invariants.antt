@@ -6,8 +6,8 @@ use Rattle.aff_read.specs.passes.Held.{holds}
 use Rattle.aff_read.proofs.StepLaws.{Measured}
 use Rattle.aff_read.proofs.paths.path_length.Given as goal
 
-abbrev pub invariant-loop-left : goal.invariant-loop-left
-invariant-loop-left l = holds l.belonging.opened (Measured l.spelling) l.node l.limit l.left l.at
+abbrev pub invariant-loop-own : goal.invariant-loop-own
+invariant-loop-own l = holds l.belonging.opened (Measured l.spelling) l.node l.limit l.left l.at
 
-abbrev pub decreases-loop-left : goal.decreases-loop-left
-decreases-loop-left l = length (of l.belonging.opened (spelled_path_at l.spelling) l.at)
+abbrev pub decreases-loop-own : goal.decreases-loop-own
+decreases-loop-own l = length (of l.belonging.opened (spelled_path_at l.spelling) l.at)

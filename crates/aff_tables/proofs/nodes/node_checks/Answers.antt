@@ -4,8 +4,8 @@ use Rattle.aff_tables.specs.Nodes.{recorded_contents}
 use Rattle.aff_tables.proofs.NodeLaws.{linked_by_copies, checked_by_copies}
 use Rattle.aff_tables.proofs.nodes.node_checks.Goals as goal
 
-pub copied_checks-requires-clause-linked : goal.copied_checks-requires-clause-linked
-copied_checks-requires-clause-linked c =
+pub copied_checks-requires : goal.copied_checks-requires
+copied_checks-requires c =
     let a = c.args in
     let s = a.strings.now in
     linked_by_copies a.edition (recorded_contents s.image.now s.end s.places.now s.count a.entries.now a.nodes) _ _ _

@@ -3,7 +3,7 @@ use Rattle.std.proofs.Common.{take}
 use Rattle.aff_format.specs.passes.Written.{Written}
 use Rattle.aff_listing.specs.ListingOrder.{kept}
 use Rattle.aff_listing.specs.passes.Listed.{listed}
-use Rattle.aff_listing.proofs.listing.put_all_listed.Given as goal
+use Rattle.aff_listing.proofs.listing.Listed.put_all.Given as goal
 
 abbrev pub invariant-loop-node : goal.invariant-loop-node
-invariant-loop-node l = Written 0 (kept (listed l.belonging.opened l.choice) (take l.node-index l.order)) l.fn.out l.out l.end
+invariant-loop-node l = Written 0 (kept (listed l.self) (take l.node-index l.order)) l.fn.out l.out l.end
