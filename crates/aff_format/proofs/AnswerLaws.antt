@@ -29,6 +29,22 @@ pub clear_accepts : {A : Type 0} (checks : List Check) (a : A) → Clear checks 
 clear_accepts [] a h = refl
 clear_accepts (check wrong r ∷ checks) a h = rw h.0 (clear_accepts checks a h.1)
 
+-- The first check that finds something wrong is the one that is reported.
+pub first_reported : {A : Type 0} (before : List Check) (r : RefusalCode) (checks : List Check) (a : A) → Clear before
+    → first_wrong (before ++ (check true r ∷ checks)) a ≡ refused r
+first_reported [] r checks a h = refl
+first_reported (check wrong q ∷ before) r checks a h = rw h.0 (first_reported before r checks a h.1)
+
+-- A refusal is that of a check that finds something wrong, and no check before it does.
+pub data FirstIs : List Check → RefusalCode → Type 0 where
+  here : {r : RefusalCode} {checks : List Check} → FirstIs (check true r ∷ checks) r
+  later : {q r : RefusalCode} {checks : List Check} → FirstIs checks r → FirstIs (check false q ∷ checks) r
+
+pub refused_by : {A : Type 0} (checks : List Check) (a : A) {r : RefusalCode} → first_wrong checks a ≡ refused r → FirstIs checks r
+refused_by [] a e = absurd cc
+refused_by (check true q ∷ checks) a {r} e = let p : q ≡ r = cc in rw p here
+refused_by (check false q ∷ checks) a e = later (refused_by checks a e)
+
 -- The checks do not look at the value.
 pub same_refusal : {A B : Type 0} (checks : List Check) (a : A) (b : B) {r : RefusalCode} → first_wrong checks a ≡ refused r → first_wrong checks b ≡ refused r
 same_refusal [] a b e = absurd cc

@@ -1,15 +1,15 @@
 -- Big-endian numbers: reading and writing undo each other, and a number is read byte by byte or part by part. Assumes nothing.
 use mathlib.Core.Path.{◌≡◌, refl, sym, ap, ◌∙◌, subst}
-use mathlib.Core.List.{List, [], ◌∷◌, ◌++◌}
+use mathlib.Core.List.{List, [], ◌∷◌, ◌++◌, append_assoc, append-nil}
 use Prim.Native.Nat.{ℕ, zero, suc, ◌+◌, ◌-◌, ◌*◌, ◌/◌, ◌%◌, ◌^◌, ◌≤◌, ◌<◌}
-use native.Mathlib.Nat.{div-add-mod', pow-suc, pow-zero}
+use native.Mathlib.Nat.{div-add-mod', pow-suc, pow-zero, mul_assoc}
 use native.Mathlib.Numerals.{sub-one}
 use native.Mathlib.Omega.{arith}
 use lib.ListN.{length, get_or, set, take, length-append}
 use lib.Seq.{take-suc, take-length}
 use Rattle.aff_format.specs.Bytes.{Octets, part, spliced}
 use Rattle.aff_format.specs.Number.{be_from, be_of, be_bytes}
-use Rattle.aff_format.proofs.BytesLaws.{length_part, octets_part, spliced_nil, spliced_set}
+use Rattle.aff_format.proofs.BytesLaws.{length_part, part_add, octets_part, spliced_nil, spliced_set}
 
 be_from_snoc : (acc : ℕ) (l : List ℕ) (x : ℕ) → be_from acc (l ++ (x ∷ [])) ≡ be_from acc l * 256 + x
 be_from_snoc acc [] x = refl
@@ -26,6 +26,26 @@ be_of_take l n h = ap be_of (take-suc l n 0 h) ∙ be_of_snoc (take n l) (get_or
 pub be_of_nil : be_of [] ≡ 0
 unfolding be_of
 be_of_nil = refl
+
+append_front : (s t : List ℕ) (n : ℕ) → n ≤ length t → be_of (s ++ take n t) ≡ be_of s * 256 ^ n + be_of (take n t)
+append_front s t zero h = rw append-nil (omega (arith, be_of_nil, pow-zero 256))
+append_front s t (suc n) h =
+    ap (λ (r : List ℕ). be_of (s ++ r)) (take-suc t n 0 h)
+    ∙ ap be_of (sym (append_assoc s (take n t) (get_or t n 0 ∷ [])))
+    ∙ be_of_snoc (s ++ take n t) (get_or t n 0)
+    ∙ rw (append_front s t n (omega arith), be_of_take t n h, pow-suc 256 n, ← mul_assoc (be_of s) (256 ^ n) 256) (omega arith)
+
+-- A number in two parts.
+pub be_of_append : (s t : List ℕ) → be_of (s ++ t) ≡ be_of s * 256 ^ length t + be_of t
+be_of_append s t =
+    subst (λ (r : List ℕ). be_of (s ++ r) ≡ be_of s * 256 ^ length t + be_of r) (take-length t) (append_front s t (length t) (omega arith))
+
+pub be_of_parts : (at m n : ℕ) (l : List ℕ) → at + m + n ≤ length l
+    → be_of (part at (m + n) l) ≡ be_of (part at m l) * 256 ^ n + be_of (part (at + m) n l)
+be_of_parts at m n l h =
+    ap be_of (part_add at m n l)
+    ∙ be_of_append (part at m l) (part (at + m) n l)
+    ∙ ap (λ (k : ℕ). be_of (part at m l) * 256 ^ k + be_of (part (at + m) n l)) (length_part (at + m) n l h)
 
 bound_front : (l : List ℕ) → Octets l → (n : ℕ) → n ≤ length l → be_of (take n l) < 256 ^ n
 bound_front l o zero h = omega (arith, be_of_nil, pow-zero 256)
