@@ -1,5 +1,5 @@
 -- A padded message: its length, its last bytes, and its whole blocks before them. Assumes nothing.
-use Rattle.std.proofs.Common.{◌≡◌, ℕ, ◌+◌, ◌-◌, ◌*◌, ◌/◌, ◌%◌, ◌^◌, ◌<◌, ◌≤◌, List, ◌∷◌, ◌++◌, length, take, drop, set, replicate, ap, ◌∙◌, append_assoc, arith, length-append, length-drop, take-append-drop, take_all, sym, suc, refl, zero-add}
+use Rattle.std.proofs.Common.{◌≡◌, ℕ, ◌+◌, ◌-◌, ◌*◌, ◌/◌, ◌%◌, ◌^◌, ◌<◌, ◌≤◌, List, [], ◌∷◌, ◌++◌, length, take, drop, set, replicate, ap, ◌∙◌, append_assoc, zero-add, add-one, arith, length-append, length-drop, take-append-drop, take_all, take-suc-set, sym, suc, refl}
 use lib.ListN.{length-replicate, replicate-append-replicate}
 use lib.Seq.{take_at, set_at}
 use Rattle.std.proofs.lemmas.List.{drop-replicate}
@@ -12,13 +12,26 @@ pad_length : (s : List ℕ) (bits : ℕ) → length (pad s bits) ≡ length s + 
 unfolding pad padding
 pad_length s bits = simp (length-append, length-replicate, le_length) (omega arith)
 
--- what the three writes of `last` leave
-pub padded : (s w : List ℕ) (bits e : ℕ) (b₁ b₂ : List ℕ) → length s < 64 → e ≡ length s + 1 + zeros (length s) + 8 → w ≡ le 8 bits
+-- A buffer b₁ of 128 bytes that begins with s, whatever follows there: with 128 stored after s, z zeros after that (b₃) and the length in bits
+-- after those (b₄), it begins with s padded.
+pub padded : (s : List ℕ) (bits z : ℕ) (b₁ b₃ b₄ : List ℕ) → length s < 64 → z ≡ (119 - length s) % 64 → length b₁ ≡ 128
+    → take (0 + length s) b₁ ≡ s → take (length s + 1 + z) b₃ ≡ take (length s + 1) (set b₁ (length s) 128) ++ replicate z 0
+    → take (length s + 1 + z + 8) b₄ ≡ take (length s + 1 + z) b₃ ++ le 8 bits
+    → take (length (pad s bits)) b₄ ≡ pad s bits
+unfolding pad padding
+padded s bits z b₁ b₃ b₄ h hz hl e₁ e₃ e₄ =
+    let w : zeros (length s) ≡ z = omega arith in
+    let i : length s < length b₁ = omega arith in
+    let f : take (length s + 1) (set b₁ (length s) 128) ≡ s ++ (128 ∷ []) = rw (add-one, take-suc-set, rw zero-add at e₁) in
+    rw (pad_length s bits, w, e₄, e₃, f) (simp append_assoc)
+
+-- what the three writes of `last` leave in a zeroed buffer
+pub padded_over_zeros : (s w : List ℕ) (bits e : ℕ) (b₁ b₂ : List ℕ) → length s < 64 → e ≡ length s + 1 + zeros (length s) + 8 → w ≡ le 8 bits
     → b₁ ≡ take 0 (replicate 128 0) ++ (s ++ drop (0 + length s) (replicate 128 0))
     → b₂ ≡ take (e - 8) (set b₁ (length s) 128) ++ (w ++ drop (e - 8 + length w) (set b₁ (length s) 128))
     → take (length (pad s bits)) b₂ ≡ pad s bits
 unfolding pad padding
-padded s w bits e b₁ b₂ h he hw e₁ e₂ =
+padded_over_zeros s w bits e b₁ b₂ h he hw e₁ e₂ =
     let n = length s in
     let a : List ℕ = replicate (zeros n) 0 in
     let c : List ℕ = replicate (127 - n - zeros n) 0 in
