@@ -1,6 +1,6 @@
 -- Make a child, in the terms of its code: whether a name is new, what 20 and 21 ask, what an accepted make leaves, and which marks report
 -- a child of that name. Assumes nothing.
-use mathlib.Core.Path.{◌≡◌, ap, subst, ◌∙◌}
+use mathlib.Core.Path.{◌≡◌, refl, sym, ap, subst, ◌∙◌}
 use mathlib.Core.Bool.{Bool, true, false, ◌&&◌}
 use mathlib.Core.List.{List, [], ◌∷◌, ◌++◌}
 use Prim.Native.Nat.{ℕ, ◌+◌, ◌≤◌, ◌<◌}
@@ -14,19 +14,21 @@ use Rattle.aff_format.specs.Limits.{string_limit, node_limit, text_area}
 use Rattle.aff_format.specs.Lowest.{lowest_from, is_at}
 use Rattle.aff_format.specs.Strings.{is_in, index_in}
 use Rattle.aff_format.specs.declared.kind.Kind.TheVariants.{Void}
+use Rattle.aff_format.proofs.AnswerLaws.{others_reported}
 use Rattle.aff_format.proofs.LowestLaws.{lowest_same}
 use Rattle.aff_format.proofs.StringsLaws.{is_in_index_in, index_in_within}
 use Rattle.aff_format.proofs.TestLaws.{or_false}
 use Rattle.aff_format.proofs.LaidLaws.{laid_at}
 use Rattle.aff_areas.specs.Areas.{names_in, slot_at, slot_entry}
-use Rattle.aff_format.specs.Answer.{accepted, refused, first_wrong}
+use Rattle.aff_format.specs.Answer.{Answer, accepted, refused, first_wrong}
 use Rattle.aff_format.specs.declared.refusal.RefusalCode.{RefusalCode}
 use Rattle.aff_areas.specs.Belongs.{WriterBelongs, writer_checks}
 use Rattle.aff_areas.proofs.BelongsLaws.{judge_refuses, judge_leaves}
+use Rattle.aff_areas.specs.Writer.{writer_after, area_after}
 use Rattle.aff_areas.specs.passes.Marks.{marks_of, is_marked}
 use Rattle.aff_areas.specs.declared.writer.Writer.{Writer}
 use Rattle.aff_areas.proofs.NameLaws.{mark_at, marks_many}
-use Rattle.aff_make.specs.Make.{added_strings, added_text, too_many, made_text, made_tree, is_child, child_exists, child_checks, make_answer}
+use Rattle.aff_make.specs.Make.{added_strings, added_text, too_many, made_writer, made_text, made_tree, is_child, child_exists, child_checks, make_answer}
 
 -- A name is new where no string is it.
 module _ (writer : Writer) (text name : List ℕ) (string : ℕ) (is : string ≡ index_in name (names_in writer text))
@@ -93,11 +95,31 @@ module _ {size : ℕ} {writer : Writer} {text tree : List ℕ} (b : WriterBelong
 
 -- What `judge` refuses (24, 22) is the call's refusal; else the call's other checks decide.
 module _ (size : ℕ) (writer : Writer) (text tree : List ℕ) (parent : ℕ) (name : List ℕ) {A : Type 0} (a : A) where
-  pub judge_stops : {t : RefusalCode} → refused t ≡ first_wrong (writer_checks size writer text tree) a → refused t ≡ make_answer size writer text tree parent name
+  -- Refused by 24 or 22: that is make's answer, and record, text and tree are as they were; the number is not 23, so the record is not stopped.
+  pub judge_stops : {t : RefusalCode} → refused t ≡ first_wrong (writer_checks size writer text tree) a
+      → (refused t ≡ make_answer size writer text tree parent name)
+      × ((writer ≡ writer_after (refused t) (made_writer writer text name) writer)
+      × ((text ≡ area_after (refused t) (made_text writer text name) text)
+      × (tree ≡ area_after (refused t) (made_tree writer text tree parent name) tree)))
   unfolding make_answer
-  judge_stops h = judge_refuses size writer text tree a h (child_checks writer text tree parent name) (writer.nodes + 1)
+  judge_stops h =
+      let o = others_reported 23 (writer_checks size writer text tree) refl a (sym h) in
+      (judge_refuses size writer text tree a h (child_checks writer text tree parent name) (writer.nodes + 1), (rw o, (refl, refl)))
 
-  pub judge_passes : {b : A} → accepted b ≡ first_wrong (writer_checks size writer text tree) a
+  -- Passed: make's answer is that of its other checks.
+  pub judge_decides : {b : A} → accepted b ≡ first_wrong (writer_checks size writer text tree) a
       → first_wrong (child_checks writer text tree parent name) (writer.nodes + 1) ≡ make_answer size writer text tree parent name
   unfolding make_answer
-  judge_passes h = judge_leaves size writer text tree a h (child_checks writer text tree parent name) (writer.nodes + 1)
+  judge_decides h = judge_leaves size writer text tree a h (child_checks writer text tree parent name) (writer.nodes + 1)
+
+  -- Passed: an answer that is that of the other checks is make's, and the record, text and tree that it leaves are those that make's answer leaves.
+  pub judge_passes : {b : A} {answer : Answer ℕ} {next : Writer} {text' tree' : List ℕ} → accepted b ≡ first_wrong (writer_checks size writer text tree) a
+      → (answer ≡ first_wrong (child_checks writer text tree parent name) (writer.nodes + 1))
+      × ((next ≡ writer_after answer (made_writer writer text name) writer)
+      × ((text' ≡ area_after answer (made_text writer text name) text)
+      × (tree' ≡ area_after answer (made_tree writer text tree parent name) tree)))
+      → (answer ≡ make_answer size writer text tree parent name)
+      × ((next ≡ writer_after answer (made_writer writer text name) writer)
+      × ((text' ≡ area_after answer (made_text writer text name) text)
+      × (tree' ≡ area_after answer (made_tree writer text tree parent name) tree)))
+  judge_passes h m = (m.0 ∙ judge_decides h, m.1)

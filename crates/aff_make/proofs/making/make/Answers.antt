@@ -7,7 +7,7 @@ use Rattle.aff_areas.specs.Belongs.{writer_checks}
 use Rattle.aff_areas.specs.declared.given.Given.{Given}
 use Rattle.aff_areas.proofs.BelongsLaws.{judge_belongs}
 use Rattle.aff_make.specs.Make.{child_checks}
-use Rattle.aff_make.proofs.MakeLaws.{belongs_own, judge_passes}
+use Rattle.aff_make.proofs.MakeLaws.{belongs_own, judge_decides}
 use Rattle.aff_make.proofs.making.make.Goals as goal
 
 pub add_child-requires-clause-belongs : goal.add_child-requires-clause-belongs
@@ -26,4 +26,4 @@ returns-in_err-string-clause-answer c =
     a
     ∙ sym (same_refusal (child_checks g.writer g.text.now g.tree.now c.args.parent n) _ (g.writer.nodes + 1) (sym c.in_err-string.ensures))
     ∙ sym (ap decides (passed_value (writer_checks (length c.args.buffer.now) w t r) _ (sym c.in_ok-held.ensures)))
-    ∙ judge_passes (length c.args.buffer.now) w t r c.args.parent n _ c.in_ok-held.ensures
+    ∙ judge_decides (length c.args.buffer.now) w t r c.args.parent n _ c.in_ok-held.ensures
