@@ -42,16 +42,14 @@ module _ (keep : ℕ → Bool) where
       omega (arith, kept_growing l i n (omega arith) (omega arith), more, length-append (kept keep (take n l)) (own keep (get_or l n 0))))
       (eq-or-lt_of_le h)
 
+  -- One number more fits where the first n do.
+  pub kept_fit : (l : List ℕ) (i n : ℕ) → i < n → n ≤ length l → length (kept keep (take i l)) + length (own keep (get_or l i 0)) ≤ length (kept keep (take n l))
+  kept_fit l i n h few =
+      omega (arith, kept_growing l (i + 1) n (omega arith) few, ap length (kept_next l i (omega arith)), length-append (kept keep (take i l)) (own keep (get_or l i 0)))
+
   -- One number more fits where all do.
-  pub kept_fit : (l : List ℕ) (i : ℕ) → i < length l → length (kept keep (take i l)) + length (own keep (get_or l i 0)) ≤ length (kept keep l)
-  kept_fit l i h =
-      omega (
-        arith,
-        kept_growing l (i + 1) (length l) (omega arith) (omega arith),
-        ap (λ (r : List ℕ). length (kept keep r)) (take-length l),
-        ap length (kept_next l i h),
-        length-append (kept keep (take i l)) (own keep (get_or l i 0)),
-      )
+  pub kept_fit_all : (l : List ℕ) (i : ℕ) → i < length l → length (kept keep (take i l)) + length (own keep (get_or l i 0)) ≤ length (kept keep l)
+  kept_fit_all l i h = omega (arith, kept_fit l i (length l) h (le_refl _), ap (λ (r : List ℕ). length (kept keep r)) (take-length l))
 
   -- ---- The order by `keep`.
 
