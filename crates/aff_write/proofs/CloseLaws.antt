@@ -1,6 +1,6 @@
 -- Closing: the parts of the header one after another are the header, and the stores are those of the strings, the entries and the header.
 -- Assumes nothing.
-use mathlib.Core.Path.{◌≡◌, sym, ap, ◌∙◌}
+use mathlib.Core.Path.{◌≡◌, refl, sym, ap, ◌∙◌}
 use mathlib.Core.List.{List, ◌++◌, map, append_assoc}
 use Prim.Native.Nat.{ℕ, ◌+◌, ◌-◌, ◌≤◌, ◌<◌}
 use native.Mathlib.Omega.{arith}
@@ -12,22 +12,23 @@ use Rattle.aff_format.specs.Limits.{node_limit, tree_area}
 use Rattle.aff_format.specs.declared.edition.Edition.{Edition}
 use Rattle.aff_format.specs.declared.section.Section.{Section}
 use Rattle.aff_format.specs.declared.section.Section.TheVariants.{Symbol, Tree, Data}
+use Rattle.aff_format.proofs.AnswerLaws.{others_reported}
 use Rattle.aff_format.proofs.BytesLaws.{spliced_next}
 use Rattle.aff_format.proofs.EditionLaws.{length_signature_text, section_header_sizes}
 use Rattle.aff_areas.specs.Areas.{used_text, entries_out, data_nodes, finished_size}
-use Rattle.aff_format.specs.Answer.{accepted, refused, first_wrong}
+use Rattle.aff_format.specs.Answer.{Answer, accepted, refused, first_wrong}
 use Rattle.aff_format.specs.declared.refusal.RefusalCode.{RefusalCode}
 use Rattle.aff_areas.specs.Belongs.{WriterBelongs, writer_checks}
 use Rattle.aff_areas.proofs.BelongsLaws.{judge_refuses, judge_leaves}
 use Rattle.aff_header.specs.Header.{header_front, with_sum}
-use Rattle.aff_areas.specs.Stores.{Store, apply_stores, stores_from}
-use Rattle.aff_areas.specs.Writer.{writer_edition, data_place}
+use Rattle.aff_areas.specs.Stores.{Store, apply_stores, stores_from, buffer_after}
+use Rattle.aff_areas.specs.Writer.{writer_edition, data_place, stopped, writer_after}
 use Rattle.aff_areas.specs.declared.writer.Writer.{Writer}
 use Rattle.aff_areas.proofs.AreaLaws.{entry_sizes_most, length_entries_out}
-use Rattle.aff_header.proofs.HeaderLaws.{length_section_header, three_headers, length_header_front, take_front}
+use Rattle.aff_header.proofs.HeaderLaws.{length_section_header, three_headers, length_header_front, length_with_sum, take_front}
 use Rattle.aff_areas.proofs.StoreLaws.{length_stores_from}
 use Rattle.aff_write.specs.Close.{symbols_place, tree_place, data_bytes, section_of, close_section, close_header, close_stores, store_checks, close_answer}
-use Rattle.aff_write.proofs.SpentLaws.{two_made, two_buffer}
+use Rattle.aff_write.proofs.SpentLaws.{two_made, two_buffer, stopped_after_lem}
 
 -- Each section header has the size of its edition.
 pub length_section_of : (writer : Writer) (full : ℕ) (symbols entries stored : List ℕ) (s : Section)
@@ -87,6 +88,12 @@ module _ (buffer : List ℕ) (writer : Writer) (text tree : List ℕ) where
       let e₂ : l₂ ≡ spliced signature_size (joined (map (close_section buffer writer text tree) (header_order d))) l₁ = h₂ ∙ rw (hn, hs, hf) in
       let e₃ : take (header_size d) l₃ ≡ with_sum (take (header_sum_at d) l₂) = rw he at h₃ in
       e₃ ∙ ap with_sum (front_over d writer.form (close_section buffer writer text tree) l₀ l₁ l₂ f n close_section_size e₁ e₂)
+
+  -- The header has as many bytes as come before the data, for any record with a form of 12 bytes, whether it belongs or not.
+  pub length_close_header : length writer.form ≡ 12 → length (close_header buffer writer text tree) ≡ data_place writer
+  unfolding close_header
+  length_close_header n =
+      length_with_sum (writer_edition writer) _ (length_header_front (writer_edition writer) writer.form (close_section buffer writer text tree) n close_section_size)
 
   -- The stores.
   pub stores_closed : (at : ℕ) (symbols entries header : List ℕ) → at ≡ symbols_place writer → symbols ≡ used_text writer text
@@ -163,13 +170,32 @@ module _ (at : ℕ) (symbols entries header : List ℕ) (allowance first second 
     two_buffer (body_stores at symbols entries) (head_stores header) allowance first second buffer₀ buffer₁ buffer₂ m₁ r₁ second_made second_buffer,
   )
 
--- What `judge` refuses (24, 22) is the call's refusal; else 23 decides.
+-- What `judge` refuses (24, 22) is the call's refusal; else the record is stopped, and the allowance decides (23).
 module _ (buffer : List ℕ) (writer : Writer) (text tree : List ℕ) (allowance : ℕ) {A : Type 0} (a : A) where
-  pub judge_stops : {t : RefusalCode} → refused t ≡ first_wrong (writer_checks (length buffer) writer text tree) a → refused t ≡ close_answer buffer writer text tree allowance
-  unfolding close_answer
-  judge_stops h = judge_refuses (length buffer) writer text tree a h (store_checks buffer writer text tree allowance) (length (close_stores buffer writer text tree))
+  -- Refused by 24 or 22: that is close's answer, and record and buffer are as they were; the number is not 23, so the record is not stopped.
+  pub judge_stops : {t : RefusalCode} → refused t ≡ first_wrong (writer_checks (length buffer) writer text tree) a
+      → (refused t ≡ close_answer buffer writer text tree allowance)
+      × ((writer ≡ writer_after (refused t) (stopped writer) writer)
+      × (buffer ≡ buffer_after (refused t) (close_stores buffer writer text tree) buffer))
+  unfolding close_answer apply_stores
+  judge_stops h =
+      let o = others_reported 23 (writer_checks (length buffer) writer text tree) refl a (sym h) in
+      (judge_refuses (length buffer) writer text tree a h (store_checks buffer writer text tree allowance) (length (close_stores buffer writer text tree)), (rw o, rw o))
 
-  pub judge_passes : {b : A} → accepted b ≡ first_wrong (writer_checks (length buffer) writer text tree) a
+  -- Passed: close's answer is that of the check of the allowance.
+  pub judge_decides : {b : A} → accepted b ≡ first_wrong (writer_checks (length buffer) writer text tree) a
       → first_wrong (store_checks buffer writer text tree allowance) (length (close_stores buffer writer text tree)) ≡ close_answer buffer writer text tree allowance
   unfolding close_answer
-  judge_passes h = judge_leaves (length buffer) writer text tree a h (store_checks buffer writer text tree allowance) (length (close_stores buffer writer text tree))
+  judge_decides h = judge_leaves (length buffer) writer text tree a h (store_checks buffer writer text tree allowance) (length (close_stores buffer writer text tree))
+
+  -- Passed: an answer that is that of the check of the allowance is close's; a stopped record is what that answer leaves, refused by 23 or not,
+  -- and the buffer that it leaves is the one that close's answer leaves.
+  pub judge_passes : {b : A} {answer : Answer ℕ} {next : Writer} {buffer' : List ℕ} → accepted b ≡ first_wrong (writer_checks (length buffer) writer text tree) a
+      → (answer ≡ first_wrong (store_checks buffer writer text tree allowance) (length (close_stores buffer writer text tree)))
+      × ((next ≡ stopped writer) × (buffer' ≡ buffer_after answer (close_stores buffer writer text tree) buffer))
+      → (answer ≡ close_answer buffer writer text tree allowance)
+      × ((next ≡ writer_after answer (stopped writer) writer) × (buffer' ≡ buffer_after answer (close_stores buffer writer text tree) buffer))
+  judge_passes {b} {answer} h m = (
+    m.0 ∙ judge_decides h,
+    (m.1.0 ∙ sym (stopped_after_lem (close_stores buffer writer text tree) allowance writer answer m.0), m.1.1),
+  )

@@ -16,17 +16,17 @@ use Rattle.aff_format.specs.declared.kind.Kind.TheVariants.{Void, Char, Int, Dou
 use Rattle.std.specs.Prelude.{Option, Some, None}
 use Rattle.aff_format.specs.Answer.{Answer, accepted, refused, refusal, refusal_at, first_wrong}
 use Rattle.aff_format.proofs.AlignLaws.{padding_few}
-use Rattle.aff_format.proofs.AnswerLaws.{passed, passed_value, refused_before}
+use Rattle.aff_format.proofs.AnswerLaws.{passed, passed_value, refused_before, others_reported}
 use Rattle.aff_areas.specs.Areas.{slot_at, finished_size}
 use Rattle.aff_areas.specs.Belongs.{writer_checks}
 use Rattle.aff_areas.proofs.BelongsLaws.{judge_refuses, judge_leaves}
 use borrow.Author.Tests.{lt-ltb, le-ltb, ltb-false}
-use Rattle.aff_areas.specs.Stores.{Store, apply_stores, stores_from}
+use Rattle.aff_areas.specs.Stores.{Store, apply_stores, stores_from, buffer_after}
 use Rattle.aff_areas.specs.declared.given.Given.{Given}
 use Rattle.aff_areas.specs.declared.writer.Writer.{Writer}
 use Rattle.aff_areas.proofs.StoreLaws.{length_stores_from, stores_from_append}
 use Rattle.aff_write.specs.Put.{takes_none, wrong_data, data_kind, put_place, put_stores, put_writer, store_check, buffer_checks, entry_checks, data_checks, put_entry, put_tree, put_answer}
-use Rattle.aff_areas.specs.Writer.{stopped}
+use Rattle.aff_areas.specs.Writer.{stopped, writer_after, area_after}
 use Rattle.aff_write.proofs.SpentLaws.{WritingPromise, reported_spent, reported_made}
 
 -- 18.
@@ -94,11 +94,18 @@ taken_given g h e node type bytes k t =
 
 -- What `judge` refuses (24, 22) is the call's refusal; else what is wrong with the node and its data is; else 23 decides.
 module _ (size : ℕ) (writer : Writer) (text tree : List ℕ) (node type : ℕ) (bytes : List ℕ) (allowance : ℕ) {A : Type 0} (a : A) where
-  pub judge_stops : {t : RefusalCode} → refused t ≡ first_wrong (writer_checks size writer text tree) a
-      → refused t ≡ put_answer size writer text tree node type bytes allowance
-  unfolding put_answer
-  judge_stops h = judge_refuses size writer text tree a h (data_checks writer tree node type bytes allowance) (length (put_stores writer bytes))
+  -- Refused by 24 or 22: that is put's answer, and record, buffer and tree are as they were; the number is not 23, so the record is not stopped.
+  pub judge_stops : {t : RefusalCode} (buffer : List ℕ) → refused t ≡ first_wrong (writer_checks size writer text tree) a
+      → (refused t ≡ put_answer size writer text tree node type bytes allowance)
+      × ((writer ≡ writer_after (refused t) (put_writer writer bytes) writer)
+      × ((buffer ≡ buffer_after (refused t) (put_stores writer bytes) buffer)
+      × (tree ≡ area_after (refused t) (put_tree writer tree node type bytes) tree)))
+  unfolding put_answer apply_stores
+  judge_stops buffer h =
+      let o = others_reported 23 (writer_checks size writer text tree) refl a (sym h) in
+      (judge_refuses size writer text tree a h (data_checks writer tree node type bytes allowance) (length (put_stores writer bytes)), (rw o, (rw o, refl)))
 
+  -- Passed: put's answer is that of its other checks.
   pub judge_passes : {b : A} → accepted b ≡ first_wrong (writer_checks size writer text tree) a
       → first_wrong (data_checks writer tree node type bytes allowance) (length (put_stores writer bytes)) ≡ put_answer size writer text tree node type bytes allowance
   unfolding put_answer
