@@ -1,4 +1,4 @@
--- The string that begins at a place: where it ends, byte by byte as a loop sees it, and its bytes as a part of the image. Assumes nothing.
+-- The string that begins at a place: where it ends, and its bytes as a part of the image. Assumes nothing.
 use mathlib.Core.Path.{◌≡◌, ap, ◌∙◌}
 use mathlib.Core.List.{List}
 use Prim.Native.Nat.{ℕ, ◌+◌, ◌-◌, ◌≤◌, ◌<◌}

@@ -1,4 +1,4 @@
--- A length that stops counting at a limit: what the passes that measure a path return.
+-- A length that stops counting at a limit. The passes that measure a path return an `Option` instead, by `within` (`aff_spelling`).
 use Rattle.std.specs.Prelude.{cond, ℕ, ◌+◌, leb}
 
 -- The length n, or one more than the limit where n is above it.
