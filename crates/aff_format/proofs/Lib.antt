@@ -7,6 +7,7 @@ pub mod LowestLaws
 pub mod RuleLaws
 pub mod EditionLaws
 pub mod BytesLaws
+pub mod CopyLaws
 pub mod WrittenLaws
 pub mod CappedLaws
 pub mod SameLaws

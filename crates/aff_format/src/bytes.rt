@@ -27,13 +27,16 @@ pub fn bytes_before(bytes: &[u8], byte: u8) -> usize
     find_byte(bytes, byte).unwrap_or(bytes.len())
 }
 
-// Stores a run from a place on.
-#[tactic(auto, using(crate::proofs::StdLaws::put_mid_spliced))]
+// Stores a run from a place on, byte by byte and ascending. Not by std's `copy_from_slice`: that is compiled to `memmove`, which the archive for C would then
+// need from outside.
+#[tactic(auto, using(crate::proofs::CopyLaws::copied_none, crate::proofs::CopyLaws::copied_all))]
 pub fn put(out: &mut [u8], at: usize, run: &[u8])
     requires { at + length run.now ≤ length out.old }
     ensures { out.new ≡ spliced at run.now out.old }
 {
-    out[at..at + run.len()].copy_from_slice(run);
+    for i in 0..run.len() {
+        out[at + i] = run[i];
+    }
 }
 
 // Stores a run from a place on, and returns where it ends. One pass over the run.

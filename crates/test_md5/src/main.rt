@@ -6,10 +6,13 @@
 use std::io;
 use std::io::Write;
 
-// Writes a digest, as 32 hexadecimal digits and the end of the line.
+// Writes a digest, as 32 hexadecimal digits and the end of the line: one write a line.
 fn show(out: &mut impl Write, digest: [u8; 16]) -> io::Result<()> {
     let sum = u128::from_be_bytes(digest);
-    writeln!(out, "{sum:032x}")
+    let mut line = [b'\n'; 33];
+    let mut digits = &mut line[..32];
+    write!(digits, "{sum:032x}")?;
+    out.write_all(&line)
 }
 
 // The messages of RFC 1321, section A.5.
