@@ -9,7 +9,7 @@ use native.Mathlib.Numerals.{add-one}
 use native.Mathlib.Omega.{arith}
 use lib.ListN.{length, get_or, set, take, length-set}
 use lib.Seq.{get_or-set_same, get_or-set_other, take-take, take-length, take-append_seam}
-use Rattle.std.proofs.lemmas.List.{get_or-take, get_or_push, length_push}
+use Rattle.std.proofs.lemmas.List.{get_or_default, get_or-take, get_or_push, length_push}
 use Rattle.std.specs.Prelude.{Option, None}
 use Rattle.aff_format.specs.Tree.{reaches_by}
 use Rattle.aff_format.specs.declared.entry.Entry.{Entry}
@@ -64,6 +64,9 @@ module _ {image : List ℕ} {reader : Reader} {strings entries : List ℕ} {fits
     (g : Chaining image reader strings entries fits node steps count at) where
   at_exists : at ≤ reader.nodes
   at_exists = rw (sym g.last) (g.made.exist count (omega arith))
+
+  pub unsettled_at : (d : Option (Option ℕ)) → length fits ≡ 2049 → get_or fits at d ≡ None → settled_at fits at ≡ None
+  unsettled_at d wide is = sym (get_or_default fits at d None (omega (arith, at_exists, g.few, wide))) ∙ is
 
   module _ (unsettled : settled_at fits at ≡ None) where
     at_other : 0 < at

@@ -18,7 +18,8 @@ use Rattle.aff_format.proofs.TreeLaws.{front_root, front_step}
 use Rattle.aff_reader.specs.Belongs.{ReaderBelongs}
 use Rattle.aff_reader.specs.declared.reader.Reader.{Reader}
 use Rattle.aff_read.specs.passes.Fit.{fit_from, fit_at, settled_at, FitsSettled}
-use Rattle.std.specs.Prelude.{Option, Some, None}
+use Rattle.aff_read.specs.passes.Settled.{settled_by}
+use Rattle.std.specs.Prelude.{Option, Some, None, IfSome}
 use Rattle.std.specs.Option.{option_eq}
 use Rattle.std.proofs.lemmas.Option.{none-some, same_Some}
 use Rattle.std.proofs.lemmas.List.{drop_more}
@@ -161,24 +162,44 @@ module _ (image : List ℕ) (reader : Reader) (strings entries path : List ℕ) 
       rw (is, path_other Raw image reader strings entries node n)
       (fits_whole (front_at Raw image reader strings entries node) path 0 (length path) (omega arith))
 
+  -- A fit lies in the path.
+  pub fit_inside : (node : ℕ) (fit : Option ℕ) → fit ≡ fit_at image reader strings entries path node → (m : ℕ) → length path < m → IfSome fit (λ n. n < m)
+  unfolding fit_at
+  fit_inside node None is m short = tt
+  fit_inside node (Some n) is m short = go (fit_of (front_at Raw image reader strings entries node) path 0)
+    where
+      go : Fit (front_at Raw image reader strings entries node) path 0 → n < m
+      go (other e _) = absurd (none-some _ (sym (is ∙ e)))
+      go (fits few e _) = let a = same_Some _ _ (is ∙ e) in omega arith
+
   -- At first the root alone is settled.
-  pub settled_first : (n : ℕ) → reader.nodes < n → FitsSettled image reader strings entries path (set (replicate n None) 0 (Some (Some 0)))
+  pub settled_first : (n : ℕ) → reader.nodes < n → (none first : Option (Option ℕ)) → none ≡ None → first ≡ Some (Some 0)
+      → FitsSettled image reader strings entries path (set (replicate n none) 0 first)
   unfolding fit_at fit_from
-  settled_first n h =
-      let unknown : List (Option (Option ℕ)) = replicate n None in
-      let long : length unknown ≡ n = length-replicate {A = Option (Option ℕ)} n None in
-      let first : settled_at (set unknown 0 (Some (Some 0))) 0 ≡ Some (Some 0) = get_or-set_same unknown 0 (Some (Some 0)) None (omega arith) in
+  settled_first n h none first none_is first_is =
+      let unknown : List (Option (Option ℕ)) = replicate n none in
+      let long : length unknown ≡ n = length-replicate {A = Option (Option ℕ)} n none in
+      let root : settled_at (set unknown 0 first) 0 ≡ Some (Some 0) = get_or-set_same unknown 0 first None (omega arith) ∙ first_is in
       record {
-        wide = omega (arith, length-set unknown 0 (Some (Some 0)));
-        root = λ q. none-some _ (sym q ∙ first);
+        wide = omega (arith, length-set unknown 0 first);
+        root = λ q. none-some _ (sym q ∙ root);
         reported = λ k f m e.
             ⊎_elim (λ (z : k ≡ 0). rw (z, front_root (parent_at image entries) (name_at image reader strings entries) reader.nodes)
-            (sym (same_Some _ _ (sym first ∙ ap (settled_at (set unknown 0 (Some (Some 0)))) (sym z) ∙ e))))
+            (sym (same_Some _ _ (sym root ∙ ap (settled_at (set unknown 0 first)) (sym z) ∙ e))))
             (λ (l : 0 < k).
-            absurd (none-some _ (sym (get_or-set_other unknown 0 k (Some (Some 0)) None (λ q. omega arith)
-            ∙ get_or-replicate {A = Option (Option ℕ)} n k None None (omega arith)) ∙ e)))
+            absurd (none-some _ (sym (get_or-set_other unknown 0 k first None (λ q. omega arith)
+            ∙ get_or-replicate {A = Option (Option ℕ)} n k none None (omega arith) ∙ none_is) ∙ e)))
             (eq-zero-or-pos k);
       }
+
+-- What a number in the table of a lookup stands for.
+pub settled_more : (n : ℕ) → settled_by (n + 2) ≡ Some (Some n)
+settled_more n = let e : n + 2 ≡ suc (suc n) = omega arith in rw e refl
+
+pub settled_past : (k : ℕ) → (k ≡ 0 → ⊥) → (k ≡ 1 → ⊥) → settled_by k ≡ Some (Some (k - 2))
+settled_past zero z o = absurd (z refl)
+settled_past (suc zero) z o = absurd (o refl)
+settled_past (suc (suc n)) z o = let e : suc (suc n) - 2 ≡ n = omega arith in rw e refl
 
 -- The climb from a node that is not settled goes on.
 pub climb_left : (parent : ℕ → ℕ) (left node p : ℕ) → 0 < node → p ≡ parent node → reaches_by parent left node ≡ true

@@ -10,7 +10,7 @@ ghost use Rattle.aff_read.specs.passes.Climb.{table_parent, table_name, table_fr
 ghost use Rattle.aff_read.specs.passes.Held.{holds, symbols_from};
 ghost use Rattle.aff_read.specs.passes.Fit.{fit_from, fit_at, above_at, FitsSettled, Chain};
 ghost use Rattle.aff_format.specs.Strings.{up_to_zero};
-ghost use Rattle.std.specs.Prelude.{Some, None};
+ghost use Rattle.std.specs.Prelude.{Some, None, IfSome};
 ghost use Rattle.aff_nodes.specs.Recall.{name_at, name_span, path_at};
 ghost use Rattle.aff_format.specs.passes.Written.{Written, text_answer};
 ghost use Rattle.aff_spelling.specs.Spelling.{spelled};
@@ -20,6 +20,7 @@ use aff_format::{Edition, Refusal, bytes, path as format_path, recorded};
 use aff_nodes::node;
 use aff_reader::{Belonging, Opened};
 use aff_spelling::{Spelling, spelling};
+use std::marker::Model;
 
 // The symbol section from a string on.
 fn symbols_from<'i>(belonging: &Belonging<'i, '_>, string: u32) -> &'i [u8]
@@ -218,6 +219,58 @@ fn fit_from(symbols: &[u8], path: &[u8], at: usize) -> Fit
     Some(n)
 }
 
+// A place for a fit in the table of a lookup: 0 where none is stored yet, 1 for `None`, n + 2 for `Some(n)`. Clauses see an `Option<Fit>`. The table has
+// a place for each node, stands on the stack and is cleared at each lookup: as a number a place takes eight bytes, and as an `Option<Fit>` it would take
+// 24, since each Option has a tag of its own. No `u32`: nodes may share one long name, so a path's length has no 32-bit bound.
+#[derive(Clone, Copy, Debug, PartialEq, Eq, Default)]
+struct Settled {
+    number: usize,
+}
+
+impl Model for Settled {
+    ghost use Rattle.std.specs.Prelude.{ℕ, Option};
+
+    ghost Value = { Option (Option ℕ) };
+
+    ghost use Rattle.aff_read.specs.passes.Settled.{settled_by, number_of, number_back};
+
+    ghost view = { λ s. settled_by s.number };
+
+    ghost inverse = { λ f. record { number = number_of f } };
+
+    ghost use Rattle.std.proofs.Common.{ap};
+
+    ghost inverse_ok = { λ s h. ap (λ (n : ℕ). record { number = n }) (number_back s.number) };
+}
+
+impl Settled {
+    // Stores a fit.
+    #[tactic(auto, using(crate::proofs::FitLaws::settled_more))]
+    fn new(fit: Fit) -> Self
+        requires { IfSome fit (λ n. n < 2 ^ 63) }
+        ensures { result ≡ Some fit }
+    {
+        Settled {
+            number: match fit {
+                None => 1,
+                Some(n) => n + 2,
+            },
+        }
+    }
+
+    // The fit that is stored, if one is.
+    #[tactic(auto, using(crate::proofs::FitLaws::settled_past))]
+    fn fit(self) -> Option<Fit>
+        ensures { result ≡ self }
+    {
+        match self.number {
+            0 => None,
+            1 => Some(None),
+            number => Some(Some(number - 2)),
+        }
+    }
+}
+
 // A node other than the root on the way up from another, and the number of its string.
 #[derive(Clone, Copy, Debug, PartialEq, Eq, Default)]
 struct Step {
@@ -244,7 +297,7 @@ fn fit_below(belonging: &Belonging<'_, '_>, path: &[u8], step: Step, above: Fit)
 fn climb(
     belonging: &Belonging<'_, '_>,
     node: usize,
-    fits: &[Option<Fit>; 2049],
+    fits: &[Settled; 2049],
     steps: &mut [Step; 2048],
 ) -> (usize, Fit)
     requires node_exists { node ≤ belonging.now.opened.reader.nodes }
@@ -257,7 +310,7 @@ fn climb(
     let mut at = node;
     // It follows parents up to a stored fit and counts its steps: how many there are is not known before, so no `for` fits.
     loop {
-        if let Some(fit) = fits[at] {
+        if let Some(fit) = fits[at].fit() {
             return (count, fit);
         }
         let entry = belonging.entry(at);
@@ -276,7 +329,7 @@ fn settle(
     path: &[u8],
     node: usize,
     steps: &mut [Step; 2048],
-    fits: &mut [Option<Fit>; 2049],
+    fits: &mut [Settled; 2049],
 ) -> Fit
     requires node_exists { node ≤ belonging.now.opened.reader.nodes }
     requires other { 0 < node }
@@ -287,7 +340,7 @@ fn settle(
     let (count, mut fit) = climb(belonging, node, fits, steps);
     for &step in steps[..count].iter().rev() {
         fit = fit_below(belonging, path, step, fit);
-        fits[step.node as usize] = Some(fit);
+        fits[step.node as usize] = Settled::new(fit);
     }
     fit
 }
@@ -299,7 +352,7 @@ fn has_path(
     path: &[u8],
     node: usize,
     steps: &mut [Step; 2048],
-    fits: &mut [Option<Fit>; 2049],
+    fits: &mut [Settled; 2049],
 ) -> bool
     requires node_exists { node ≤ belonging.now.opened.reader.nodes }
     requires fits_settled { holds belonging.now.opened FitsSettled path.now fits.old }
@@ -314,13 +367,13 @@ fn has_path(
 
 // The lowest node whose path is the given one. The fit of a node is computed once at most: its entry is read once, and its
 // name compared only where its parent fits, up to the first byte that differs and no further than the path goes. No recursion: the stack holds two
-// arrays, 65,560 bytes.
+// arrays, 32,776 bytes.
 pub fn lowest_match(belonging: &Belonging<'_, '_>, path: &[u8]) -> Option<usize>
     ensures { result ≡ of belonging.now.opened found path.now }
 {
     let mut steps = [Step::default(); 2048];
-    let mut fits: [Option<Fit>; 2049] = [None; 2049];
-    fits[0] = Some(Some(0));
+    let mut fits = [Settled::default(); 2049];
+    fits[0] = Settled::new(Some(0));
     for k in 0..=belonging.opened.reader.nodes {
         if has_path(belonging, path, k, &mut steps, &mut fits) {
             return Some(k);

@@ -4,8 +4,8 @@ use Rattle.aff_read.specs.passes.Held.{holds}
 use Rattle.aff_read.proofs.ChainLaws.{Chaining}
 use Rattle.aff_read.proofs.paths.climb.Given as goal
 
-abbrev pub invariant-loop-at : goal.invariant-loop-at
-invariant-loop-at l = holds l.belonging.opened Chaining l.fits l.node l.steps l.count l.at
+abbrev pub invariant-loop-fit : goal.invariant-loop-fit
+invariant-loop-fit l = holds l.belonging.opened Chaining l.fits l.node l.steps l.count l.at
 
-abbrev pub decreases-loop-at : goal.decreases-loop-at
-decreases-loop-at l = l.belonging.opened.reader.nodes - l.count
+abbrev pub decreases-loop-fit : goal.decreases-loop-fit
+decreases-loop-fit l = l.belonging.opened.reader.nodes - l.count

@@ -1,11 +1,12 @@
 -- At first the root alone is settled, and all nodes are left; then the node that the loop is at has the path, or the nodes after it are left.
-use Rattle.std.proofs.Common.{◌≡◌, true, false, ◌+◌, ◌-◌, ◌∙◌, sym, arith}
+use Rattle.std.proofs.Common.{◌≡◌, true, false, ◌+◌, ◌-◌, ◌∙◌, sym, ap, arith}
 use Rattle.aff_format.specs.Bytes.{same_bytes}
 use Rattle.aff_format.proofs.StdLaws.{lowest_met, lowest_past, lowest_none}
 use Rattle.aff_reader.specs.Opened.{of}
 use Rattle.aff_reader.proofs.BelongsLaws.{belongs_record}
 use Rattle.aff_nodes.specs.Recall.{path_at}
 use Rattle.aff_read.specs.Paths.{found}
+use Rattle.aff_read.specs.passes.Settled.{settled_by}
 use Rattle.aff_read.proofs.FitLaws.{settled_first}
 use Rattle.aff_read.proofs.paths.lowest_match.Goals as goal
 
@@ -14,7 +15,11 @@ unfolding found
 loop-k-init c =
     let o = c.args.belonging.now.opened in
     let b = belongs_record c.args.belonging.now.belongs in
-    (settled_first o.image.now o.reader o.strings.now o.entries.now c.args.path.now 2049 (omega (arith, b.few_nodes)), grind arith)
+    let none = c.default-fits.ensures in (
+      settled_first o.image.now o.reader o.strings.now o.entries.now c.args.path.now 2049 (omega (arith, b.few_nodes)) _ _
+          (sym none.1 ∙ ap settled_by none.2) c.new.ensures,
+      grind arith,
+    )
 
 pub returns-then-has_path : goal.returns-then-has_path
 returns-then-has_path c =

@@ -5,6 +5,7 @@ use Rattle.aff_nodes.specs.Recall.{parent_at}
 use Rattle.aff_reader.specs.Opened.{of}
 use Rattle.aff_reader.proofs.BelongsLaws.{belongs_record}
 use Rattle.aff_read.specs.passes.Fit.{fit_at, above_at}
+use Rattle.aff_read.proofs.FitLaws.{fit_inside}
 use Rattle.aff_read.proofs.ChainLaws.{chain_front, left_all, step_node, step_exists, step_other, step_string, step_parent, left_next, above_none}
 use Rattle.aff_read.proofs.paths.settle.Goals as goal
 
@@ -38,13 +39,18 @@ fit_below-fit-requires c =
       above_value = i.fit ∙ ap (of c.args.belonging.now.opened fit_at c.args.path.now) (step_parent i.chain i.left _ _ last);
     }
 
+pub new-requires : goal.new-requires
+new-requires c =
+    let o = c.args.belonging.now.opened in
+    fit_inside o.image.now o.reader o.strings.now o.entries.now c.args.path.now _ _ c.fit_below-fit.ensures _ (omega arith)
+
 pub loop-step-preserved : goal.loop-step-preserved
 loop-step-preserved c =
     let i = c.loop-step.invariant in
     let last = c.in-Some.ensures.steps in
     let fit = c.fit_below-fit.ensures in
     record {
-      settled = let there = step_exists i.chain i.left _ _ last in search rules;
+      settled = let there = step_exists i.chain i.left _ _ last in rw c.new.ensures (search rules);
       chain = i.chain;
       left = left_next i.chain i.left _ _ last;
       fit = fit ∙ ap (of c.args.belonging.now.opened fit_at c.args.path.now) (step_node i.chain i.left _ _ last);
