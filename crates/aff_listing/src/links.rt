@@ -25,13 +25,13 @@ fn link(belonging: &Belonging<'_, '_>, k: usize, links: &mut [Links; 2049])
     links[p].first = k as u32;
 }
 
-// Links all nodes, from the highest number down: two stores a node.
+// Fills the links of the nodes that there are, and of no others, then links all nodes, from the highest number down: two stores a node.
 #[tactic(auto, using(aff_reader::proofs::BelongsLaws::nodes_few))]
 pub fn link_all(belonging: &Belonging<'_, '_>, links: &mut [Links; 2049])
     ensures { ChildTables (parent_of belonging.now.opened) belonging.now.opened.reader.nodes 1 links.new }
 {
     let nodes = belonging.opened.reader.nodes;
-    links.fill(Links {
+    links[..=nodes].fill(Links {
         first: nodes as u32 + 1,
         next: 0,
     });
